@@ -1,0 +1,117 @@
+-- Laws of big-endian numbers, over any width.
+-- Assumes nothing.
+use mathlib.Core.Path.{_≡_, refl, sym, ap, ap₂, subst, _∙_}
+use mathlib.Core.List.{List, [], _∷_, _++_}
+use Prim.Native.Nat.{ℕ, zero, suc, _+_, _-_, _*_, _/_, _%_, _^_, _≤_, _<_}
+use native.Mathlib.Nat.{add-assoc, add-zero, mul-assoc, add-mul, mod-one, mod-eq-of-lt, mul-le-mul-right, mul-add-div-right}
+use native.Mathlib.Omega.{arith}
+use lib.ListN.{length, getD, length-append}
+use lib.Pow.{mod-pow-add, pow-add, pow-pos, high}
+use lib.Bits.{bitOr, or-shifted}
+use Rattle.octets.specs.Bytes.{Bytes, part, num, be}
+use Rattle.octets.proofs.Parts.{length-part, part-add, part-cons, part-nil}
+
+pub length-be : (n v : ℕ) → length (be n v) ≡ n
+unfolding be
+length-be zero v = refl
+length-be (suc n) v = ap suc (length-be n v)
+
+-- one byte more
+pow-step : (n : ℕ) → 2 ^ (8 * suc n) ≡ 256 * 2 ^ (8 * n)
+pow-step n = let e : 8 * suc n ≡ 8 + 8 * n = omega arith in ap (λ (k : ℕ). 2 ^ k) e ∙ pow-add 2 8 (8 * n)
+
+-- the bytes of two runs, one after the other
+pub num-append : (x y : List ℕ) → num (x ++ y) ≡ num x * 2 ^ (8 * length y) + num y
+unfolding num
+num-append [] y = omega arith
+num-append (b ∷ x) y =
+    let e : 8 * (length x + length y) ≡ 8 * length x + 8 * length y = omega arith in
+    ap₂ (λ (p q : ℕ). b * p + q) (ap (λ (k : ℕ). 2 ^ (8 * k)) (length-append x y) ∙ ap (λ (k : ℕ). 2 ^ k) e ∙ pow-add 2 (8 * length x) (8 * length y)) (num-append x y)
+    ∙ ap (λ (k : ℕ). k + (num x * 2 ^ (8 * length y) + num y)) (sym (mul-assoc b (2 ^ (8 * length x)) (2 ^ (8 * length y))))
+    ∙ sym (add-assoc (b * 2 ^ (8 * length x) * 2 ^ (8 * length y)) (num x * 2 ^ (8 * length y)) (num y))
+    ∙ ap (λ (k : ℕ). k + num y) (sym (add-mul (b * 2 ^ (8 * length x)) (num x) (2 ^ (8 * length y))))
+
+-- the low bytes of a number spell what they say of it
+pub num-be-mod : (n v : ℕ) → num (be n v) ≡ v % 2 ^ (8 * n)
+unfolding num be
+num-be-mod zero v = sym (mod-one v)
+num-be-mod (suc n) v =
+    let e : 8 + 8 * n ≡ 8 * suc n = omega arith in
+    ap₂ (λ (k m : ℕ). v / 2 ^ (8 * n) % 256 * 2 ^ (8 * k) + m) (length-be n v) (num-be-mod n v)
+    ∙ sym (mod-pow-add v 8 (8 * n)) ∙ ap (λ (k : ℕ). v % 2 ^ k) e
+
+-- a number that fits is read back
+pub num-be : (n v : ℕ) → v < 2 ^ (8 * n) → num (be n v) ≡ v
+num-be n v h = num-be-mod n v ∙ mod-eq-of-lt h
+
+tail-bytes : (x : ℕ) (xs : List ℕ) → Bytes (x ∷ xs) → Bytes xs
+unfolding Bytes
+tail-bytes x xs h i = h (suc i)
+
+pub num-lt : (xs : List ℕ) → Bytes xs → num xs < 2 ^ (8 * length xs)
+unfolding num Bytes
+num-lt [] h = omega arith
+num-lt (x ∷ xs) h =
+    let m : ℕ = 2 ^ (8 * length xs) in
+    let b : x < 256 = h 0 in
+    omega (arith, num-lt xs (tail-bytes x xs h), pow-step (length xs), add-mul x 1 m, mul-le-mul-right {m = x + 1} {n = 256} m (omega arith))
+
+-- the low bytes do not see what stands above them
+be-add : (n k v : ℕ) → be n (k * 2 ^ (8 * n) + v) ≡ be n v
+unfolding be
+be-add zero k v = refl
+be-add (suc n) k v =
+    let m : ℕ = 2 ^ (8 * n) in
+    let e : k * 2 ^ (8 * suc n) ≡ k * 256 * m = ap (λ (p : ℕ). k * p) (pow-step n) ∙ sym (mul-assoc k 256 m) in
+    let d : (k * 256 * m + v) / m ≡ k * 256 + v / m = mul-add-div-right (pow-pos (8 * n)) (k * 256) v in
+    let b : (k * 256 * m + v) / m % 256 ≡ v / m % 256 = omega arith in
+    ap (λ (p : ℕ). (p + v) / m % 256 ∷ be n (p + v)) e ∙ ap₂ (λ (p : ℕ) (l : List ℕ). p ∷ l) b (be-add n (k * 256) v)
+
+-- bytes are written back as they were read
+pub be-num : (xs : List ℕ) → Bytes xs → be (length xs) (num xs) ≡ xs
+unfolding num be Bytes
+be-num [] h = refl
+be-num (x ∷ xs) h =
+    let l : num xs < 2 ^ (8 * length xs) = num-lt xs (tail-bytes x xs h) in
+    ap₂ (λ (p : ℕ) (r : List ℕ). p ∷ r) (ap (λ (p : ℕ). p % 256) (high x (8 * length xs) l) ∙ mod-eq-of-lt (h 0))
+    (be-add (length xs) x (num xs) ∙ be-num xs (tail-bytes x xs h))
+
+-- ---- numbers as they are loaded, byte by byte
+
+num-more : (a : List ℕ) (at k n : ℕ) → at + k + suc n ≤ length a
+    → num (part a (at + k) (suc n)) ≡ getD a (at + k) 0 * 2 ^ (8 * n) + num (part a (at + suc k) n)
+unfolding num
+num-more a at k n h =
+    let e : at + k + 1 ≡ at + suc k = omega arith in
+    let l : length (part a (at + suc k) n) ≡ n = length-part a (at + suc k) n (omega arith) in
+    ap num (part-cons a (at + k) n (omega arith) ∙ ap (λ (i : ℕ). getD a (at + k) 0 ∷ part a i n) e)
+    ∙ ap (λ (m : ℕ). getD a (at + k) 0 * 2 ^ (8 * m) + num (part a (at + suc k) n)) l
+
+num-first : (a : List ℕ) (at n : ℕ) → at + suc n ≤ length a
+    → num (part a at (suc n)) ≡ getD a at 0 * 2 ^ (8 * n) + num (part a (at + 1) n)
+num-first a at n h =
+    subst (λ (i : ℕ). num (part a i (suc n)) ≡ getD a i 0 * 2 ^ (8 * n) + num (part a (at + 1) n)) (add-zero at)
+    (num-more a at 0 n (omega arith))
+
+num-none : (a : List ℕ) (at : ℕ) → num (part a at 0) ≡ 0
+unfolding num
+num-none a at = ap num (part-nil a at)
+
+pub num-2 : (a : List ℕ) (at : ℕ) → at + 2 ≤ length a → num (part a at 2) ≡ getD a at 0 * 2 ^ 8 + getD a (at + 1) 0
+num-2 a at h = omega (arith, num-first a at 1 h, num-more a at 1 0 (omega arith), num-none a (at + 2))
+
+pub num-4 : (a : List ℕ) (at : ℕ) → at + 4 ≤ length a
+    → num (part a at 4) ≡ getD a at 0 * 2 ^ 24 + getD a (at + 1) 0 * 2 ^ 16 + getD a (at + 2) 0 * 2 ^ 8 + getD a (at + 3) 0
+num-4 a at h =
+    omega (arith, num-first a at 3 h, num-more a at 1 2 (omega arith), num-more a at 2 1 (omega arith), num-more a at 3 0 (omega arith), num-none a (at + 4))
+
+pub num-8 : (a : List ℕ) (at : ℕ) → at + 8 ≤ length a
+    → num (part a at 8) ≡ num (part a at 4) * 2 ^ 32 + num (part a (at + 4) 4)
+num-8 a at h =
+    ap num (part-add a at 4 4) ∙ num-append (part a at 4) (part a (at + 4) 4)
+    ∙ ap (λ (k : ℕ). num (part a at 4) * 2 ^ (8 * k) + num (part a (at + 4) 4)) (length-part a (at + 4) 4 (omega arith))
+
+-- two halves joined by `|`
+pub or-halves : (a : List ℕ) (at : ℕ) {x y : ℕ} → at + 8 ≤ length a → x ≡ num (part a at 4) → y ≡ num (part a (at + 4) 4) → y < 2 ^ 32
+    → bitOr (x * 2 ^ 32) y ≡ num (part a at 8)
+or-halves a at {x} {y} h p q l = or-shifted x 32 y l ∙ ap₂ (λ (m n : ℕ). m * 2 ^ 32 + n) p q ∙ sym (num-8 a at h)

@@ -1,0 +1,71 @@
+-- `octets::same_run`: the differences gathered so far are 0 just where the bytes so far are the same. Assumes nothing.
+use mathlib.Core.Path.{_≡_, refl, sym, ap, ap₂, _∙_}
+use Prim.Native.Nat.{ℕ, _+_, _≤_, _<_, _-_}
+use mathlib.Core.List.{List, []}
+use native.Mathlib.Omega.{arith}
+use lib.Dec.{eqb}
+use lib.ListN.{length, getD, drop}
+use mathlib.Core.Bool.{_&&_}
+use Rattle.octets.specs.Bytes.{part, sameBytes}
+use Rattle.octets.proofs.Parts.{length-part, getD-part}
+use Rattle.octets.proofs.Compare.{gather-more, gather-end}
+use Rattle.octets.proofs.same_run.Statement.{statement}
+use Rattle.octets.proofs.same_run.Tie as tie
+
+abbrev Inv-loop : tie.InvT-loop
+Inv-loop a at b bt n acc₀ k₀ acc k =
+    (k ≤ n) × (sameBytes (part a at n) (part b bt n) ≡ (eqb acc 0 && sameBytes (drop k (part a at n)) (drop k (part b bt n))))
+
+abbrev μ-loop : tie.MeasureT-loop
+μ-loop a at b bt n acc₀ k₀ acc k = n - k
+
+loop-holds : tie.Need-loop-holds Inv-loop μ-loop
+loop-holds c = (omega arith, refl)
+
+add-acc : tie.Need-add-acc Inv-loop μ-loop
+add-acc c = omega arith
+
+shared-slice-read-acc : tie.Need-shared-slice-read-acc Inv-loop μ-loop
+shared-slice-read-acc c = omega arith
+
+add-acc-2 : tie.Need-add-acc-2 Inv-loop μ-loop
+add-acc-2 c = omega arith
+
+shared-slice-read-acc-2 : tie.Need-shared-slice-read-acc-2 Inv-loop μ-loop
+shared-slice-read-acc-2 c = omega arith
+
+add-k : tie.Need-add-k Inv-loop μ-loop
+add-k c = omega arith
+
+loop-less : tie.Need-loop-less Inv-loop μ-loop
+loop-less c = omega arith
+
+loop-again : tie.Need-loop-again Inv-loop μ-loop
+loop-again c =
+    let l = c .before .before .before .loop in
+    let s = c .before .before .before .before in
+    let a = s .args .a .now in
+    let b = s .args .b .now in
+    let n = s .args .n in (
+      omega arith,
+      gather-more (part a (s .args .at) n) (part b (s .args .bt) n) (l .k) (l .acc) _ _ _ (omega (arith, length-part a (s .args .at) n (s .pre .0))) (omega (arith, length-part b (s .args .bt) n (s .pre .1)))
+          (sym (getD-part a (s .args .at) n (l .k) (omega arith)))
+          (sym (getD-part b (s .args .bt) n (l .k) (omega arith)))
+          (l .inv .1),
+    )
+
+returns : tie.Need-returns Inv-loop μ-loop
+returns c =
+    let l = c .before .loop in
+    let s = c .before .before in
+    let x = part (s .args .a .now) (s .args .at) (s .args .n) in
+    let y = part (s .args .b .now) (s .args .bt) (s .args .n) in
+    let hx : length x ≤ l .k = omega (arith, length-part (s .args .a .now) (s .args .at) (s .args .n) (s .pre .0)) in
+    let hy : length y ≤ l .k = omega (arith, length-part (s .args .b .now) (s .args .bt) (s .args .n) (s .pre .1)) in
+    gather-end x y (l .k) (l .acc) _ hx hy (l .inv .1)
+
+pub same-run-spec : {M : Type 1} → statement M
+same-run-spec =
+    tie.close
+    (tie.spec
+    Inv-loop μ-loop loop-holds add-acc shared-slice-read-acc add-acc-2 shared-slice-read-acc-2 add-k loop-less loop-again returns)
