@@ -3,10 +3,10 @@
 use mathlib.Core.Path.{_≡_, refl, sym, ap, ap₂, _∙_}
 use mathlib.Core.List.{List, [], _∷_, _++_, append-assoc, append-nil}
 use Prim.Native.Nat.{ℕ, zero, suc, _+_, _-_, _≤_, _<_}
-use native.Mathlib.Nat.{add-assoc, add-zero}
+use native.Mathlib.Nat.{add-assoc, add-zero, zero-add}
 use native.Mathlib.Numerals.{add-one}
 use native.Mathlib.Omega.{arith}
-use lib.ListN.{length, take, drop, getD, set, length-append, length-take, length-drop, take-append-drop, drop-of-length-le}
+use lib.ListN.{length, take, drop, getD, set, replicate, length-append, length-take, length-drop, take-append-drop, drop-of-length-le}
 use lib.Seq.{take-suc, append-snoc, set-at, take-all, paste, take-length, take-take, take-add, drop-drop, drop-cons, length-take-le, take-at, drop-at, getD-take, getD-drop}
 use Rattle.octets.specs.Bytes.{splice, part}
 
@@ -81,6 +81,16 @@ pub splice-all : (a v : List ℕ) → length v ≡ length a → splice a 0 v ≡
 unfolding splice
 splice-all a v e = ap (λ (l : List ℕ). v ++ l) (drop-of-length-le a {i = 0 + length v} (omega arith)) ∙ append-nil v
 
+-- a run written at the front of zeros
+drop-replicate : (k n : ℕ) → _≡_ {A = List ℕ} (drop k (replicate n 0)) (replicate (n - k) 0)
+drop-replicate zero n = let e : n ≡ n - 0 = omega arith in ap (λ (m : ℕ). replicate m 0) e
+drop-replicate (suc k) zero = let e : zero ≡ zero - suc k = omega arith in ap (λ (m : ℕ). replicate m 0) e
+drop-replicate (suc k) (suc n) = let e : n - k ≡ suc n - suc k = omega arith in drop-replicate k n ∙ ap (λ (m : ℕ). replicate m 0) e
+
+pub splice-zeros : (n : ℕ) (v : List ℕ) → splice (replicate n 0) 0 v ≡ v ++ replicate (n - length v) 0
+unfolding splice
+splice-zeros n v = ap (λ (l : List ℕ). v ++ l) (ap (λ (k : ℕ). drop k (replicate n 0)) (zero-add (length v)) ∙ drop-replicate (length v) n)
+
 -- a copy, byte by byte, of all of v is the splice
 pub paste-splice : (a : List ℕ) (at : ℕ) (v : List ℕ) → paste a at v (length v) ≡ splice a at v
 unfolding splice
@@ -101,6 +111,11 @@ unfolding splice
 take-splice a at v h =
     ap (take at) (append-assoc (take at a) v (drop (at + length v) a))
     ∙ take-at (take at a) (v ++ drop (at + length v) a) at (length-take-le at a (omega arith))
+
+-- up to its end, what is written stands behind what stood before it
+pub take-written : (a : List ℕ) (at : ℕ) (v : List ℕ) → at + length v ≤ length a → take (at + length v) (splice a at v) ≡ take at a ++ v
+unfolding splice
+take-written a at v h = take-at (take at a ++ v) (drop (at + length v) a) (at + length v) (length-head a at v h)
 
 pub drop-splice : (a : List ℕ) (at : ℕ) (v : List ℕ) → at + length v ≤ length a → drop (at + length v) (splice a at v) ≡ drop (at + length v) a
 unfolding splice

@@ -20,24 +20,6 @@ abbrev μ-loop : tie.MeasureT-loop
 loop-holds : tie.Need-loop-holds Inv-loop μ-loop
 loop-holds c = (omega arith, (paste-zero (c .args .area .now) (c .args .to) (part (c .args .area .now) (c .args .from) (c .args .n)), refl))
 
-add-x : tie.Need-add-x Inv-loop μ-loop
-add-x c = omega arith
-
-slice-read-x : tie.Need-slice-read-x Inv-loop μ-loop
-slice-read-x c = omega arith
-
-add-area : tie.Need-add-area Inv-loop μ-loop
-add-area c = omega arith
-
-slice-write-area : tie.Need-slice-write-area Inv-loop μ-loop
-slice-write-area c = omega arith
-
-add-k : tie.Need-add-k Inv-loop μ-loop
-add-k c = omega arith
-
-loop-less : tie.Need-loop-less Inv-loop μ-loop
-loop-less c = omega arith
-
 loop-again : tie.Need-loop-again Inv-loop μ-loop
 loop-again c =
     let l = c .before .before .loop in
@@ -76,4 +58,5 @@ pub move-down-spec : {M : Type 1} → statement M
 move-down-spec =
     tie.close
     (tie.spec
-    Inv-loop μ-loop loop-holds add-x slice-read-x add-area slice-write-area add-k loop-less loop-again same-length returns)
+    Inv-loop μ-loop loop-holds (λ c. omega arith) (λ c. omega arith) (λ c. omega arith) (λ c. omega arith) (λ c. omega arith)
+    (λ c. omega arith) loop-again same-length returns)

@@ -22,24 +22,6 @@ loop-holds c =
     let a = c .args .area .now in
     (omega arith, (sym (ap (splice a (c .args .to + c .args .n)) (part-of-none a (c .args .from + c .args .n) (c .args .n)) ∙ splice-nil a (c .args .to + c .args .n)), refl))
 
-sub-k : tie.Need-sub-k Inv-loop μ-loop
-sub-k c = omega arith
-
-add-x : tie.Need-add-x Inv-loop μ-loop
-add-x c = omega arith
-
-slice-read-x : tie.Need-slice-read-x Inv-loop μ-loop
-slice-read-x c = omega arith
-
-add-area : tie.Need-add-area Inv-loop μ-loop
-add-area c = omega arith
-
-slice-write-area : tie.Need-slice-write-area Inv-loop μ-loop
-slice-write-area c = omega arith
-
-loop-less : tie.Need-loop-less Inv-loop μ-loop
-loop-less c = omega arith
-
 loop-again : tie.Need-loop-again Inv-loop μ-loop
 loop-again c =
     let l = c .before .before .loop in
@@ -60,4 +42,5 @@ pub move-up-spec : {M : Type 1} → statement M
 move-up-spec =
     tie.close
     (tie.spec
-    Inv-loop μ-loop loop-holds sub-k add-x slice-read-x add-area slice-write-area loop-less loop-again same-length returns)
+    Inv-loop μ-loop loop-holds (λ c. omega arith) (λ c. omega arith) (λ c. omega arith) (λ c. omega arith) (λ c. omega arith)
+    (λ c. omega arith) loop-again same-length returns)

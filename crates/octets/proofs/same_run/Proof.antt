@@ -22,24 +22,6 @@ abbrev μ-loop : tie.MeasureT-loop
 loop-holds : tie.Need-loop-holds Inv-loop μ-loop
 loop-holds c = (omega arith, refl)
 
-add-acc : tie.Need-add-acc Inv-loop μ-loop
-add-acc c = omega arith
-
-shared-slice-read-acc : tie.Need-shared-slice-read-acc Inv-loop μ-loop
-shared-slice-read-acc c = omega arith
-
-add-acc-2 : tie.Need-add-acc-2 Inv-loop μ-loop
-add-acc-2 c = omega arith
-
-shared-slice-read-acc-2 : tie.Need-shared-slice-read-acc-2 Inv-loop μ-loop
-shared-slice-read-acc-2 c = omega arith
-
-add-k : tie.Need-add-k Inv-loop μ-loop
-add-k c = omega arith
-
-loop-less : tie.Need-loop-less Inv-loop μ-loop
-loop-less c = omega arith
-
 loop-again : tie.Need-loop-again Inv-loop μ-loop
 loop-again c =
     let l = c .before .before .before .loop in
@@ -68,4 +50,5 @@ pub same-run-spec : {M : Type 1} → statement M
 same-run-spec =
     tie.close
     (tie.spec
-    Inv-loop μ-loop loop-holds add-acc shared-slice-read-acc add-acc-2 shared-slice-read-acc-2 add-k loop-less loop-again returns)
+    Inv-loop μ-loop loop-holds (λ c. omega arith) (λ c. omega arith) (λ c. omega arith) (λ c. omega arith) (λ c. omega arith)
+    (λ c. omega arith) loop-again returns)

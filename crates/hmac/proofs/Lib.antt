@@ -1,0 +1,2 @@
+pub mod HmacLaws
+pub mod HkdfLaws

@@ -1,0 +1,29 @@
+use mathlib.Core.Path.{_≡_, ap, _∙_}
+use Prim.Native.Nat.{ℕ}
+use mathlib.Core.Bool.{true}
+use mathlib.Core.List.{List}
+use native.Mathlib.Omega.{arith}
+use Rattle.kdf.specs.Kdf.{digestAs}
+use Rattle.kdf.specs.declared.Digest.{Digest}
+use Rattle.kdf.proofs.KdfLaws.{label-fits, label-too-long, hash-bytes}
+use borrow.Author.Needs.{needs}
+use Rattle.kdf.proofs.hash.Statement.{statement}
+use Rattle.kdf.proofs.hash.Tie as tie
+
+abbrev made : List ℕ → Digest
+made b = record { fits = true; bytes = b }
+
+returns : tie.Need-returns
+unfolding digestAs
+returns c = label-too-long (c .before .before .before .args .label .now) _ _ (omega arith)
+
+returns-2 : tie.Need-returns-2
+unfolding digestAs
+returns-2 c = ap made (hash-bytes (c .before .before .before .before .before .before .before .before .before .before .before .args .label .now) (c .before .before .before .before .before .before .before .before .before .before .before .args .x .now) (c .finish .ensures _ (c .before .before .update .ensures .0 _ (c .before .before .before .before .take-label .ensures .0 _ (c .before .before .before .before .before .before .start .ensures))))) ∙ label-fits (c .before .before .before .before .before .before .before .before .before .before .before .args .label .now) _ _ (omega arith)
+
+pub hash-spec : {M : Type 1} → statement M
+hash-spec =
+    tie.close
+    (tie.spec
+    returns (λ c κs. search needs) (λ c κs. search needs) (λ c κs. search needs) (λ c κs. search needs) (λ c κs. search needs)
+    returns-2)

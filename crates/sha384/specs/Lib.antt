@@ -1,0 +1,3 @@
+pub mod Padding
+pub mod Sha384
+pub mod Example
