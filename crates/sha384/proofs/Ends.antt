@@ -5,14 +5,14 @@ use mathlib.Core.List.{List, [], _∷_, _++_, append-assoc, append-nil}
 use Prim.Native.Nat.{ℕ, zero, suc, _+_, _-_, _*_, _/_, _%_, _^_, _≤_, _<_}
 use native.Mathlib.Numerals.{add-one}
 use native.Mathlib.Omega.{arith}
-use lib.ListN.{length, take, drop, set, getD, replicate, length-append, length-drop, length-replicate, replicate-append-replicate, length-set}
-use lib.Seq.{take-at, drop-at, set-at, take-suc, take-all, length-take-le}
+use lib.ListN.{length, take, drop, set, getD, replicate, length-append, length-drop, length-replicate, replicate-append-replicate}
+use lib.Seq.{take-at, set-at, take-suc, take-all, length-take-le}
 use lib.Pow.{shr-shr, field, mod-mod-pow}
 use Rattle.octets.specs.Bytes.{splice, be}
 use Rattle.octets.proofs.Parts.{splice-zeros, splice-then}
 use Rattle.octets.proofs.Numbers.{length-be}
 use Rattle.sha384.specs.Padding.{zeroBits, padding}
-use Rattle.sha384.specs.Sha384.{bytes, digest}
+use Rattle.sha384.specs.Sha384.{bytes}
 
 -- up to its end, what is written stands behind what stood before it
 take-written : (x : List ℕ) (at : ℕ) (v : List ℕ) → at ≤ length x → take (at + length v) (splice x at v) ≡ take at x ++ v
@@ -21,7 +21,7 @@ take-written x at v h =
     take-at (take at x ++ v) (drop (at + length v) x) (at + length v)
     (length-append (take at x) v ∙ ap (λ (k : ℕ). k + length v) (length-take-le at x h))
 
--- ---- the length of the message
+-- ---- the length of the message in bits
 
 -- a number of j + k bytes: the high j, then the low k
 be-add : (j k v : ℕ) → be (j + k) v ≡ be j (v / 2 ^ (8 * k)) ++ be k v
@@ -31,7 +31,8 @@ be-add (suc j) k v =
     let e : suc j + k ≡ suc (j + k) = omega arith in
     let d : 8 * (j + k) ≡ 8 * k + 8 * j = omega arith in
     ap (λ (i : ℕ). be i v) e
-    ∙ ap₂ (λ (b : ℕ) (l : List ℕ). b ∷ l) (ap (λ (i : ℕ). v / 2 ^ i % 256) d ∙ ap (λ (q : ℕ). q % 256) (sym (shr-shr v (8 * k) (8 * j)))) (be-add j k v)
+    ∙ ap₂ (λ (b : ℕ) (l : List ℕ). b ∷ l)
+    (ap (λ (i : ℕ). v / 2 ^ i % 256) d ∙ ap (λ (q : ℕ). q % 256) (sym (shr-shr v (8 * k) (8 * j)))) (be-add j k v)
 
 -- the low bytes do not see what stands above them
 be-mod : (k j v : ℕ) → be k (v % 2 ^ (j + 8 * k)) ≡ be k v
@@ -40,13 +41,16 @@ be-mod zero j v = refl
 be-mod (suc k) j v =
     let e : j + 8 * suc k ≡ j + 8 + 8 * k = omega arith in
     ap (λ (i : ℕ). be (suc k) (v % 2 ^ i)) e
-    ∙ ap₂ (λ (b : ℕ) (l : List ℕ). b ∷ l) (ap (λ (q : ℕ). q % 256) (field v (j + 8) (8 * k)) ∙ mod-mod-pow (v / 2 ^ (8 * k)) j 8) (be-mod k (j + 8) v)
+    ∙ ap₂ (λ (b : ℕ) (l : List ℕ). b ∷ l)
+    (ap (λ (q : ℕ). q % 256) (field v (j + 8) (8 * k)) ∙ mod-mod-pow (v / 2 ^ (8 * k)) j 8) (be-mod k (j + 8) v)
 
+-- its two words
 bits : (n : ℕ) → be 8 (n / 2 ^ 61) ++ be 8 (n * 2 ^ 3 % 2 ^ 64) ≡ be 16 (8 * n)
 bits n =
     let hi : n / 2 ^ 61 ≡ 8 * n / 2 ^ 64 = omega arith in
     let lo : n * 2 ^ 3 ≡ 8 * n = omega arith in
-    ap₂ (λ (p q : ℕ). be 8 p ++ be 8 (q % 2 ^ 64)) hi lo ∙ ap (λ (l : List ℕ). be 8 (8 * n / 2 ^ 64) ++ l) (be-mod 8 0 (8 * n)) ∙ sym (be-add 8 8 (8 * n))
+    ap₂ (λ (p q : ℕ). be 8 p ++ be 8 (q % 2 ^ 64)) hi lo
+    ∙ ap (λ (l : List ℕ). be 8 (8 * n / 2 ^ 64) ++ l) (be-mod 8 0 (8 * n)) ∙ sym (be-add 8 8 (8 * n))
 
 -- ---- the padded end
 
@@ -59,7 +63,8 @@ built v hi lo r z e {x} {y} {w} lv ee h lh ll ex ey ew =
     let front : List ℕ = v ++ (0x80 ∷ replicate z 0) in
     let room : 256 - length v ≡ suc (z + k) = omega arith in
     let copied : x ≡ v ++ (0 ∷ replicate z 0 ++ replicate k 0) =
-    ex ∙ splice-zeros 256 v ∙ ap (λ (j : ℕ). v ++ replicate j 0) room ∙ ap (λ (l : List ℕ). v ++ (0 ∷ l)) (sym (replicate-append-replicate z k 0)) in
+    ex ∙ splice-zeros 256 v ∙ ap (λ (j : ℕ). v ++ replicate j 0) room
+    ∙ ap (λ (l : List ℕ). v ++ (0 ∷ l)) (sym (replicate-append-replicate z k 0)) in
     let marked : set x r 0x80 ≡ front ++ replicate k 0 =
     ap (λ (l : List ℕ). set l r 0x80) copied ∙ set-at v 0 (replicate z 0 ++ replicate k 0) 0x80 r lv
     ∙ sym (append-assoc v (0x80 ∷ replicate z 0) (replicate k 0)) in
@@ -74,8 +79,8 @@ built v hi lo r z e {x} {y} {w} lv ee h lh ll ex ey ew =
     ∙ append-assoc v (0x80 ∷ replicate z 0) (hi ++ lo)
 
 pub padded-end : (m : List ℕ) (n e : ℕ) {x y w : List ℕ} → length m % 128 ≡ n % 128 → e ≡ n % 128 + 17 + zeroBits (8 * n) / 8
-    → x ≡ splice (replicate 256 0) 0 (take (length m - 128 * (length m / 128)) (drop (128 * (length m / 128)) m)) → y ≡ splice (set x (n % 128) 0x80) (e - 16) (be 8 (n / 2 ^ 61))
-    → w ≡ splice y (e - 8) (be 8 (n * 2 ^ 3 % 2 ^ 64)) → take e w ≡ drop (128 * (length m / 128)) m ++ padding n
+    → x ≡ splice (replicate 256 0) 0 (take (length m - 128 * (length m / 128)) (drop (128 * (length m / 128)) m))
+    → y ≡ splice (set x (n % 128) 0x80) (e - 16) (be 8 (n / 2 ^ 61)) → w ≡ splice y (e - 8) (be 8 (n * 2 ^ 3 % 2 ^ 64)) → take e w ≡ drop (128 * (length m / 128)) m ++ padding n
 unfolding padding
 padded-end m n e lm ee ex ey ew =
     let v : List ℕ = drop (128 * (length m / 128)) m in

@@ -1,13 +1,13 @@
 -- A message, block by block.
 -- Assumes nothing.
-use mathlib.Core.Path.{_≡_, refl, sym, ap, ap₂, _∙_}
-use mathlib.Core.List.{List, [], _∷_, _++_, append-assoc}
-use Prim.Native.Nat.{ℕ, zero, suc, _+_, _-_, _*_, _/_, _%_, _≤_, _<_}
+use mathlib.Core.Path.{_≡_, sym, ap, ap₂, _∙_}
+use mathlib.Core.List.{List, [], _++_, append-assoc}
+use Prim.Native.Nat.{ℕ, _+_, _-_, _*_, _/_, _≤_, _<_}
 use native.Mathlib.Omega.{arith}
 use lib.ListN.{length, take, drop, length-append, length-drop, take-append-drop, drop-of-length-le}
 use lib.Seq.{length-take-le}
 use Rattle.octets.specs.Bytes.{part}
-use Rattle.octets.proofs.Parts.{part-left, part-right, part-take, part-whole}
+use Rattle.octets.proofs.Parts.{part-left, part-right, part-take}
 use Rattle.sha_block.specs.Loop.{turns}
 use Rattle.sha_block.specs.Block.{compress}
 use Rattle.sha_block.proofs.Loop.{turns-add, turns-same}

@@ -50,4 +50,4 @@ eight p q r s t u v w = cc
 pub steps : (h b v : List ℕ) {w s r : List ℕ} → schedule b ≡ turns (longer b) 64 16 (take 16 v)
     → ((a : List ℕ) → w ≡ turns (longer a) 64 16 (take 16 v)) → s ≡ turns (round w) 80 0 h → r ≡ summed s h → r ≡ compress h b
 unfolding compress
-steps h b v ev ew es er = let e : schedule b ≡ _ = ev in cc (ew b)
+steps h b v ev ew es er = cc (ew b)

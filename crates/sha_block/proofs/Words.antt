@@ -1,13 +1,12 @@
 -- The schedule, one word more.
 -- Assumes nothing.
-use mathlib.Core.Path.{_≡_, ap, sym, _∙_}
-use mathlib.Core.List.{List, [], _∷_, _++_}
-use Prim.Native.Nat.{ℕ, suc, _+_, _-_, _*_, _≤_, _<_}
+use mathlib.Core.Path.{_≡_}
+use mathlib.Core.List.{List}
+use Prim.Native.Nat.{ℕ, _+_, _-_, _*_, _≤_, _<_}
 use native.Mathlib.Numerals.{add-one}
 use native.Mathlib.Omega.{arith}
 use lib.ListN.{length, take, set, getD}
 use lib.Seq.{take-suc-set, getD-take}
-use lib.Dec.{ltb}
 use borrow.Author.Tests.{lt-ltb, le-ltb}
 use Rattle.octets.specs.Bytes.{part, num}
 use Rattle.octets.proofs.Parts.{part-part}
@@ -32,5 +31,8 @@ pub extended : (b w : List ℕ) (t v : ℕ) → 16 ≤ t → t < length w
 unfolding W
 extended b w t v h l e =
     let before : (j : ℕ) → 0 < j → j ≤ 16 → getD (take t w) (t - j) 0 ≡ getD w (t - j) 0 = λ j p q. getD-take t w (t - j) 0 (omega arith) in
-    stored b w t v l
-    (rw (le-ltb t 16 h, before 2 (omega arith) (omega arith), before 7 (omega arith) (omega arith), before 15 (omega arith) (omega arith), before 16 (omega arith) (omega arith)) e)
+    let w2 : getD (take t w) (t - 2) 0 ≡ getD w (t - 2) 0 = before 2 (omega arith) (omega arith) in
+    let w7 : getD (take t w) (t - 7) 0 ≡ getD w (t - 7) 0 = before 7 (omega arith) (omega arith) in
+    let w15 : getD (take t w) (t - 15) 0 ≡ getD w (t - 15) 0 = before 15 (omega arith) (omega arith) in
+    let w16 : getD (take t w) (t - 16) 0 ≡ getD w (t - 16) 0 = before 16 (omega arith) (omega arith) in
+    stored b w t v l (rw (le-ltb t 16 h, w2, w7, w15, w16) e)

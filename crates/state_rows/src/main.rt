@@ -1,4 +1,5 @@
 // Boundary values of courier and state, one short line for each.
+use chain::Dir;
 use core::ContactId;
 use courier::Custody;
 use courier::CustodyRead;
@@ -26,6 +27,62 @@ fn end() {
 
 fn yes(b: bool) {
     if b { text(b" yes\n") } else { text(b" no\n") }
+}
+
+// ---- courier: tags and commitments
+
+fn hex(a: [u8; 16]) {
+    text(b" ");
+    io::print_hex(STDOUT_FILENO, octets::get_u64(&a, 0), 16);
+    io::print_hex(STDOUT_FILENO, octets::get_u64(&a, 8), 16);
+    end();
+}
+
+fn key() -> [u8; 32] {
+    let mut k = [0x5Au8; 32];
+    k[0] = 1;
+    k[31] = 2;
+    k
+}
+
+fn show_tag(dir: Dir, generation: u8, idx: u32) {
+    text(b"tag");
+    number(generation as u64);
+    number(idx as u64);
+    hex(courier::route_tag(key(), dir, generation, idx));
+}
+
+// An index has one to five bytes.
+fn tags() {
+    show_tag(Dir::I, 0, 0);
+    show_tag(Dir::R, 0, 0);
+    show_tag(Dir::I, 255, 127);
+    show_tag(Dir::I, 1, 128);
+    show_tag(Dir::R, 1, 16384);
+    show_tag(Dir::I, 1, 2097152);
+    show_tag(Dir::R, 255, 4294967295);
+}
+
+fn secrets() {
+    let s = courier::delivered(key());
+    text(b"delivered");
+    hex(s);
+    let c = courier::commitment(s);
+    text(b"commitment");
+    hex(c);
+    text(b"matches");
+    yes(courier::tombstone_matches(c, s));
+    text(b"matches");
+    yes(courier::tombstone_matches(s, s));
+}
+
+// A commitment of which one byte is another does not match.
+fn near_miss() {
+    let s = courier::delivered(key());
+    let mut c = courier::commitment(s);
+    c[15] = c[15] ^ 1;
+    text(b"matches");
+    yes(courier::tombstone_matches(c, s));
 }
 
 // ---- courier: valid, codes
@@ -337,6 +394,9 @@ fn kinds() {
 }
 
 fn main() {
+    tags();
+    secrets();
+    near_miss();
     buckets();
     copies_and_expiry();
     codes();

@@ -1,6 +1,6 @@
 -- What is left of the rounds: those from t on.
 use mathlib.Core.Path.{_≡_, refl, sym}
-use Prim.Native.Nat.{_≤_, _*_, _-_, _%_}
+use Prim.Native.Nat.{_≤_, _-_, _%_}
 use native.Mathlib.Omega.{arith}
 use borrow.Author.Needs.{needs}
 use Rattle.sha_block.specs.Block.{round}
