@@ -31,7 +31,7 @@ same-eq (x ∷ xs) (y ∷ ys) e = go (eqb x y) refl e (same-eq xs ys)
     go false p q rest = let z : _≡_ {A = ℕ} 0 1 = cc in absurd (omega arith)
 
 -- one more difference: none so far and none here
-gathered : (acc x y : ℕ) → eqb (bitOr acc (bitXor x y)) 0 ≡ (eqb acc 0 && eqb x y)
+pub gathered : (acc x y : ℕ) → eqb (bitOr acc (bitXor x y)) 0 ≡ (eqb acc 0 && eqb x y)
 gathered acc x y = go (eqb acc 0) refl (eqb x y) refl
   where
     none : bitOr acc (bitXor x y) ≡ 0 → (acc ≡ 0) × (x ≡ y)

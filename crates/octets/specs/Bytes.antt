@@ -28,6 +28,11 @@ unfoldable pub be : ℕ → ℕ → List ℕ
 be zero v = []
 be (suc n) v = v / 2 ^ (8 * n) % 256 ∷ be n v
 
+-- the number that bytes spell, the lowest first
+unfoldable pub lowFirst : List ℕ → ℕ
+lowFirst [] = 0
+lowFirst (x ∷ xs) = x + 256 * lowFirst xs
+
 -- are two byte strings equal, in length too
 unfoldable pub sameBytes : List ℕ → List ℕ → Bool
 sameBytes [] [] = true

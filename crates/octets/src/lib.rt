@@ -2,7 +2,7 @@
 ghost use mathlib.Core.Path.{_≡_};
 ghost use Prim.Native.Nat.{ℕ, _+_, _*_, _^_, _≤_, _<_};
 ghost use lib.ListN.{length};
-ghost use Rattle.octets.specs.Bytes.{splice, part, num, be, sameBytes};
+ghost use Rattle.octets.specs.Bytes.{Bytes, splice, part, num, be, lowFirst, sameBytes};
 
 // Copies src into dst, from index at on.
 pub fn copy_in(dst: &mut [u8], at: usize, src: &[u8])
@@ -42,6 +42,43 @@ pub fn move_up(area: &mut [u8], to: usize, from: usize, n: usize)
     }
 }
 
+fn wide(x: u8) -> u64
+    ensures { λ r. ⌜ (r ≡ x) × (r < 256) ⌝ }
+{
+    x as u64
+}
+
+// Four bytes as a number, the first the lowest.
+fn low_four(a: &[u8], at: usize) -> u64
+    requires { ⌜ at + 4 ≤ length (now a) ⌝ }
+    ensures { λ r. ⌜ (r ≡ lowFirst (part (now (a .entry)) at 4)) × (r < 2 ^ 32) × Bytes (now (a .entry)) ⌝ }
+{
+    wide(a[at + 3]) * 0x100_0000
+        + wide(a[at + 2]) * 0x1_0000
+        + wide(a[at + 1]) * 0x100
+        + wide(a[at])
+}
+
+// Eight bytes as a number, the first the lowest: the compiler makes one load of it, with nothing to swap.
+fn low_first(a: &[u8], at: usize) -> u64
+    requires { ⌜ at + 8 ≤ length (now a) ⌝ }
+    ensures { λ r. ⌜ (r ≡ lowFirst (part (now (a .entry)) at 8)) × Bytes (now (a .entry)) ⌝ }
+{
+    let low = low_four(a, at);
+    let high = low_four(a, at + 4);
+    high * 0x1_0000_0000 | low
+}
+
+// Are the sixteen bytes of a from at on those of b from bt on? Every difference is gathered, whatever the bytes are.
+fn same_16(a: &[u8], at: usize, b: &[u8], bt: usize) -> bool
+    requires { ⌜ (at + 16 ≤ length (now a)) × (bt + 16 ≤ length (now b)) ⌝ }
+    ensures { λ r. ⌜ r ≡ sameBytes (part (now (a .entry)) at 16) (part (now (b .entry)) bt 16) ⌝ }
+{
+    let first = low_first(a, at) ^ low_first(b, bt);
+    let second = low_first(a, at + 8) ^ low_first(b, bt + 8);
+    (first | second) == 0
+}
+
 // Are the n bytes of a from at on those of b from bt on? It reads all of them, whatever they are.
 fn same_run(a: &[u8], at: usize, b: &[u8], bt: usize, n: usize) -> bool
     requires { ⌜ (at + n ≤ length (now a)) × (bt + n ≤ length (now b)) ⌝ }
@@ -56,24 +93,18 @@ fn same_run(a: &[u8], at: usize, b: &[u8], bt: usize, n: usize) -> bool
     acc == 0
 }
 
-// The same. Tags have 16 bytes and prefixes 8: with the number known, the compiler makes one comparison of vectors of the run.
+// Are the n bytes of a from at on those of b from bt on? Tags have 16 bytes and prefixes 8: those take one or two loads and no loop.
 pub fn same(a: &[u8], at: usize, b: &[u8], bt: usize, n: usize) -> bool
     requires { ⌜ (at + n ≤ length (now a)) × (bt + n ≤ length (now b)) ⌝ }
     ensures { λ r. ⌜ r ≡ sameBytes (part (now (a .entry)) at n) (part (now (b .entry)) bt n) ⌝ }
 {
     if n == 16 {
-        return same_run(a, at, b, bt, 16);
+        return same_16(a, at, b, bt);
     }
     if n == 8 {
-        return same_run(a, at, b, bt, 8);
+        return low_first(a, at) == low_first(b, bt);
     }
     same_run(a, at, b, bt, n)
-}
-
-fn wide(x: u8) -> u64
-    ensures { λ r. ⌜ (r ≡ x) × (r < 256) ⌝ }
-{
-    x as u64
 }
 
 pub fn get_u16(area: &[u8], at: usize) -> u16

@@ -1,0 +1,5 @@
+pub mod Octets
+pub mod TagLaws
+pub mod HeaderLaws
+pub mod Laws
+pub mod Corners

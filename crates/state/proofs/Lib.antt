@@ -1,0 +1,5 @@
+pub mod ConfigLaws
+pub mod ReaderLaws
+pub mod RowLaws
+pub mod HeldLaws
+pub mod Corners

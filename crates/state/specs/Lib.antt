@@ -1,0 +1,3 @@
+pub mod Config
+pub mod Reader
+pub mod Held
