@@ -1,5 +1,6 @@
 //! Times the proved functions beside plain Rust and OpenSSL's libcrypto: see README.md.
 
+#[path = "../oracle/hashes/src/sha384.rs"]
 mod sha384;
 
 use std::ffi::{c_char, c_int, c_void};

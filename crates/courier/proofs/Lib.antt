@@ -2,4 +2,3 @@ pub mod Octets
 pub mod TagLaws
 pub mod HeaderLaws
 pub mod Laws
-pub mod Corners

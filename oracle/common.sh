@@ -1,0 +1,30 @@
+# Sourced by the oracle's commands: finds the Rust source, builds the program and names it.
+set -euo pipefail
+
+oracle=$(cd "$(dirname "${BASH_SOURCE[0]}")" && pwd)
+program="$oracle/target/release/oracle"
+export CAIRN_SRC="${CAIRN_SRC:-$oracle/../../shared/docs/src}"
+export CARGO_NET_OFFLINE=true
+
+# $1: "pass over" where a run without the source is passed over, unless it is the gate's.
+find_source() {
+  if [ -d "$CAIRN_SRC/core/cairn-proto/src" ]; then
+    CAIRN_SRC=$(cd "$CAIRN_SRC" && pwd)
+    return
+  fi
+  local missing="oracle: no Rust source at $CAIRN_SRC; it is repository trancee/cairn, commit 045324b408: check it out and name its folder in CAIRN_SRC"
+  if [ "${CI:-}" = true ] || [ "$1" != "pass over" ]; then
+    echo "$missing" >&2
+    exit 1
+  fi
+  echo "$missing; the comparison was passed over"
+  exit 0
+}
+
+build() {
+  if ! command -v cargo >/dev/null; then
+    echo "oracle: cargo is missing; Rust 1.95 builds the oracle" >&2
+    exit 1
+  fi
+  cargo build --release --offline --locked --quiet --manifest-path "$oracle/Cargo.toml" --target-dir "$oracle/target"
+}

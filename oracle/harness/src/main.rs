@@ -1,0 +1,87 @@
+//! The oracle's one program: comparison, drill, logs and checks.
+
+mod checks;
+mod compare;
+mod drill;
+mod generate;
+mod tally;
+mod variants;
+mod vectors;
+
+use std::io::{Read, Write};
+use std::process::ExitCode;
+
+const USAGE: &str =
+    "usage: oracle compare --seeds FROM..TO --calls N [--profile P] [--against rules | wrong:NAME] [--tally] [--reach]
+       oracle drill                 a drill log on standard input
+       oracle log SEED RECORDS      a random drill log
+       oracle corners               document 01's corners, put to the source one by one
+       oracle vectors               hashes of many inputs, for an independent implementation
+       oracle variants [LISTS]      the wrong variants of the second statement";
+
+pub fn status(well: bool) -> ExitCode {
+    if well { ExitCode::SUCCESS } else { ExitCode::FAILURE }
+}
+
+fn drill_from_input() -> ExitCode {
+    let mut log = Vec::new();
+    if let Err(error) = std::io::stdin().read_to_end(&mut log) {
+        eprintln!("drill: {error}");
+        return ExitCode::FAILURE;
+    }
+    let (lines, _) = drill::run(reference::Reference::new(post::Sizes::DRILL), &log);
+    print!("{lines}");
+    ExitCode::SUCCESS
+}
+
+fn print_log(arguments: &[String]) -> ExitCode {
+    let numbers: Option<Vec<u64>> = arguments.iter().map(|text| text.parse().ok()).collect();
+    let Some([seed, records]) = numbers.as_deref() else {
+        eprintln!("{USAGE}");
+        return ExitCode::FAILURE;
+    };
+    let log = generate::logs::log(*seed, *records as usize);
+    status(std::io::stdout().write_all(&log).is_ok())
+}
+
+fn print_variants(arguments: &[String]) -> ExitCode {
+    compare::pair::quiet();
+    let lists = arguments.first().and_then(|text| text.parse().ok()).unwrap_or(300);
+    let variants = match variants::all(lists) {
+        Ok(variants) => variants,
+        Err(what) => {
+            println!("{what}");
+            return ExitCode::FAILURE;
+        }
+    };
+    variants::print(&variants);
+    let (told, all) = variants::count(&variants);
+    println!("{told} of {all} wrong variants told apart");
+    status(told == all)
+}
+
+fn run_corners() -> ExitCode {
+    compare::pair::quiet();
+    let (passed, failed) = checks::run();
+    println!("{passed} named checks passed, {failed} failed");
+    status(failed == 0)
+}
+
+fn main() -> ExitCode {
+    let arguments: Vec<String> = std::env::args().skip(1).collect();
+    match arguments.split_first() {
+        Some((command, rest)) if command == "compare" => compare::main(rest),
+        Some((command, [])) if command == "drill" => drill_from_input(),
+        Some((command, rest)) if command == "log" => print_log(rest),
+        Some((command, rest)) if command == "variants" => print_variants(rest),
+        Some((command, [])) if command == "corners" => run_corners(),
+        Some((command, [])) if command == "vectors" => {
+            vectors::print();
+            ExitCode::SUCCESS
+        }
+        _ => {
+            eprintln!("{USAGE}");
+            ExitCode::FAILURE
+        }
+    }
+}
