@@ -2,9 +2,9 @@
 -- Assumes nothing.
 use mathlib.Core.Path.{_≡_, refl, sym, ap, ap₂, subst, _∙_}
 use mathlib.Core.Bool.{Bool, true, false, _||_, true≢false}
-use mathlib.Core.List.{List, [], _∷_, _++_, append-assoc, append-nil, map, flatMap, reverse, reverse-cons}
+use mathlib.Core.List.{List, [], _∷_, _++_, append-nil, map, map-append, flatMap, reverse, reverse-cons}
 use Prim.Native.Nat.{ℕ, zero, suc, _+_, _-_, _*_, _/_, _%_, _^_, _≤_, _<_, min}
-use native.Mathlib.Nat.{add-zero, suc-add, suc-mul}
+use native.Mathlib.Nat.{add-zero, suc-add}
 use native.Mathlib.Omega.{arith}
 use lib.ListN.{length, getD, take, length-append, length-map}
 use lib.Seq.{take-nil, take-all, take-length}
@@ -13,9 +13,11 @@ use borrow.Author.Tests.{ltb-false}
 use Rattle.octets.specs.Bytes.{part, splice, num, be}
 use Rattle.octets.proofs.Parts.{length-part, getD-part, part-part, splice-nil, splice-then}
 use Rattle.octets.proofs.Numbers.{length-be}
-use Rattle.chain.specs.Rows.{allRows, join, ragged, some}
+use Rattle.table.specs.Lists.{any}
+use Rattle.table.specs.Rows.{allRows, join, ragged}
+use Rattle.table.proofs.ListLaws.{take-append, flatMap-append, all-each, all-map, map-take}
+use Rattle.table.proofs.RowLaws.{Wide, length-allRows, length-join, join-rows, join-append, join-snoc}
 use Rattle.chain.specs.Chain.{dirOf, noDir, wrongDir, nextAbove, count, next, keyRow, chainKeys, window, wrongTable, wrongRows, listedKeys, chainsKeys, ChainsListed, lastIndex}
-use Rattle.chain.proofs.Rows.{length-all, join-rows, join-append}
 
 -- ---- what a test reads of a row
 
@@ -49,32 +51,6 @@ take-count k (suc n) (suc m) =
     let e : suc (min m n) ≡ min (suc m) (suc n) = omega arith in
     ap (λ (l : List ℕ). k ∷ l) (take-count (suc k) n m) ∙ ap (count k) e
 
--- ---- lists
-
-take-map : (f : ℕ → List ℕ) (n : ℕ) (l : List ℕ) → take n (map f l) ≡ map f (take n l)
-take-map f zero l = refl
-take-map f (suc n) [] = refl
-take-map f (suc n) (x ∷ l) = ap (λ (r : List (List ℕ)). f x ∷ r) (take-map f n l)
-
-map-snoc : (f : ℕ → List ℕ) (l : List ℕ) (x : ℕ) → join (map f (l ++ (x ∷ []))) ≡ join (map f l) ++ f x
-unfolding join
-map-snoc f [] x = append-nil (f x)
-map-snoc f (y ∷ l) x = ap (λ (r : List ℕ). f y ++ r) (map-snoc f l x) ∙ sym (append-assoc (f y) (join (map f l)) (f x))
-
--- of two lists, what is taken of the second is what the first leaves
-pub take-append : (n : ℕ) (x y : List (List ℕ)) → take n (x ++ y) ≡ take n x ++ take (n - length (take n x)) y
-take-append zero x y = refl
-take-append (suc n) [] y = let e : suc n ≡ suc n - 0 = omega arith in ap (λ (k : ℕ). take k y) e
-take-append (suc n) (r ∷ x) y =
-    let e : n - length (take n x) ≡ suc n - suc (length (take n x)) = omega arith in
-    ap (λ (l : List (List ℕ)). r ∷ l) (take-append n x y ∙ ap (λ (k : ℕ). take n x ++ take k y) e)
-
-pub flatMap-append : (f : List ℕ → List (List ℕ)) (x y : List (List ℕ)) → flatMap f (x ++ y) ≡ flatMap f x ++ flatMap f y
-unfolding flatMap
-flatMap-append f [] y = refl
-flatMap-append f (r ∷ x) y =
-    ap (λ (l : List (List ℕ)). f r ++ l) (flatMap-append f x y) ∙ sym (append-assoc (f r) (flatMap f x) (flatMap f y))
-
 -- ---- the keys of one chain
 
 module _ (chain : List ℕ) (h : 2 ≤ length chain) where
@@ -83,24 +59,23 @@ module _ (chain : List ℕ) (h : 2 ≤ length chain) where
   length-key idx =
       omega (arith, length-append (part chain 0 2) (be 4 idx), length-part chain 0 2 h, length-be 4 idx)
 
-  length-keys : (l : List ℕ) → length (join (map (keyRow chain) l)) ≡ length l * 6
-  unfolding join
-  length-keys [] = refl
-  length-keys (x ∷ l) =
-      omega (arith, length-append (keyRow chain x) (join (map (keyRow chain) l)), length-key x, length-keys l, suc-mul (length l) 6)
+  wide-keys : (l : List ℕ) → Wide 6 (map (keyRow chain) l)
+  wide-keys l = all-map (keyRow chain) l (all-each length-key l)
 
   pub length-counted : (k n : ℕ) → length (join (map (keyRow chain) (count k n))) ≡ n * 6
-  length-counted k n = length-keys (count k n) ∙ ap (λ (m : ℕ). m * 6) (length-count k n)
+  length-counted k n =
+      length-join (map (keyRow chain) (count k n)) (wide-keys (count k n))
+      ∙ ap (λ (m : ℕ). m * 6) (length-map (count k n) (keyRow chain) ∙ length-count k n)
 
   -- one key more
   pub keys-more : (k n : ℕ) → join (map (keyRow chain) (count k (n + 1))) ≡ join (map (keyRow chain) (count k n)) ++ keyRow chain (k + n)
-  keys-more k n = ap (λ (l : List ℕ). join (map (keyRow chain) l)) (count-snoc k n) ∙ map-snoc (keyRow chain) (count k n) (k + n)
+  keys-more k n =
+      ap (λ (l : List ℕ). join (map (keyRow chain) l)) (count-snoc k n) ∙ ap join (map-append (keyRow chain) (count k n) ((k + n) ∷ []))
+      ∙ join-snoc (map (keyRow chain) (count k n)) (keyRow chain (k + n))
 
   pub length-listed : (n : ℕ) → length (join (listedKeys n chain)) ≡ length (listedKeys n chain) * 6
   unfolding listedKeys
-  length-listed n =
-      length-keys (count (next chain) (min (500 - n) (2 ^ 32 - next chain)))
-      ∙ ap (λ (m : ℕ). m * 6) (sym (length-map (count (next chain) (min (500 - n) (2 ^ 32 - next chain))) (keyRow chain)))
+  length-listed n = length-join (listedKeys n chain) (wide-keys (count (next chain) (min (500 - n) (2 ^ 32 - next chain))))
 
 pub count-listed : (n : ℕ) (chain : List ℕ) → length (listedKeys n chain) ≡ min (500 - n) (2 ^ 32 - next chain)
 unfolding listedKeys
@@ -116,7 +91,7 @@ taken : (reach n : ℕ) (chain : List ℕ) → 500 - n ≤ reach → take (500 -
 unfolding chainKeys listedKeys
 taken reach n chain h =
     let k : ℕ = min (next chain + reach) lastIndex + 1 - next chain in
-    take-map (keyRow chain) (500 - n) (count (next chain) k)
+    sym (map-take (keyRow chain) (500 - n) (count (next chain) k))
     ∙ ap (map (keyRow chain)) (take-count (next chain) k (500 - n) ∙ ap (count (next chain)) (reached reach (500 - n) (next chain) h))
 
 -- ---- the keys of all chains
@@ -199,8 +174,8 @@ pub right-rows : (s c : List ℕ) → wrongRows s c ≡ false → (length s / 6 
 unfolding wrongRows wrongTable ragged
 right-rows s c e =
     let many : Bool = ltb 500 (length s / 6) in
-    let k = or-false (wrongTable 6 s || wrongTable 10 c) many (or-false (wrongTable 6 s || wrongTable 10 c || many) (some nextAbove (allRows 10 c)) e .0) in
-    let whole = or-false (ragged 6 s) (some wrongDir (allRows 6 s)) (or-false (wrongTable 6 s) (wrongTable 10 c) (k .0) .0) .0 in
+    let k = or-false (wrongTable 6 s || wrongTable 10 c) many (or-false (wrongTable 6 s || wrongTable 10 c || many) (any nextAbove (allRows 10 c)) e .0) in
+    let whole = or-false (ragged 6 s) (any wrongDir (allRows 6 s)) (or-false (wrongTable 6 s) (wrongTable 10 c) (k .0) .0) .0 in
     (omega (arith, ltb-false 0 (length s % 6) whole), ltb-false 500 (length s / 6) (k .1))
 
 -- the skipped keys, and the chains' after them
@@ -208,7 +183,7 @@ pub window-parts : (s c : List ℕ) → length s / 6 ≤ 500 → window s c ≡ 
 unfolding window chainsKeys
 window-parts s c h =
     let keys : List (List ℕ) = allRows 6 s in
-    let l : length keys ≡ length s / 6 = length-all 6 s in
+    let l : length keys ≡ length s / 6 = length-allRows 6 s in
     let rest : ℕ → List (List ℕ) = λ m. flatMap (chainKeys m) (reverse (allRows 10 c)) in
     let t : take 500 keys ≡ keys = take-all 500 keys (omega arith) in
     take-append 500 keys (rest (500 - length keys))
@@ -228,7 +203,7 @@ window-put s c a x y r right room ex done =
     let j : join (window s c) ≡ s ++ join more =
     ap join w ∙ join-append (allRows 6 s) more
     ∙ ap (λ (l : List ℕ). l ++ join more) (join-rows 6 n s ∙ ap (λ (k : ℕ). take k s) whole ∙ take-length s) in (
-      omega (arith, ap length w, length-append (allRows 6 s) more, length-all 6 s, done .total),
+      omega (arith, ap length w, length-append (allRows 6 s) more, length-allRows 6 s, done .total),
       splice-then a x y 0 (n * 6) s (join more) ex (done .area) (omega arith) (omega (arith, done .room, done .total, done .width))
           ∙ ap (splice a 0) (sym j),
     )

@@ -1,6 +1,6 @@
 -- The byte of a direction and back.
 -- Assumes nothing.
-use mathlib.Core.Path.{_≡_, refl, sym, _∙_}
+use mathlib.Core.Path.{_≡_, refl}
 use mathlib.Core.Bool.{Bool, true, false, cond}
 use Prim.Native.Nat.{ℕ}
 use native.Mathlib.Omega.{arith}
@@ -9,7 +9,6 @@ use borrow.Author.Tests.{eqb-true}
 use Rattle.chain.specs.Chain.{dirLabel, dirOf}
 use Rattle.chain.specs.declared.Dir.{Dir}
 use Rattle.chain.specs.declared.Dir.the-variants.{I, R}
-use Rattle.chain.specs.declared.DirRead.{DirRead}
 use Rattle.chain.specs.declared.DirRead.the-variants.{Is, Neither}
 
 pub label-read : (d : Dir) → dirOf (dirLabel d) ≡ Is d

@@ -1,4 +1,2 @@
-pub mod Rows
 pub mod Keys
 pub mod Labels
-pub mod Corners

@@ -7,10 +7,11 @@ use mathlib.Core.List.{List, [], _∷_, _++_, map, flatMap, reverse}
 use lib.ListN.{length, take, getD}
 use lib.Dec.{eqb, ltb}
 use Rattle.octets.specs.Bytes.{part, splice, num, be}
-use Rattle.core.specs.Core.{refusalNumber}
+use Rattle.core.specs.Core.{refusalNumber, firstOf}
 use Rattle.core.specs.declared.Refusal.{Refusal}
 use Rattle.core.specs.declared.Refusal.the-variants as refusal
-use Rattle.chain.specs.Rows.{allRows, join, ragged, some}
+use Rattle.table.specs.Lists.{any}
+use Rattle.table.specs.Rows.{allRows, join, ragged}
 use Rattle.chain.specs.declared.Dir.{Dir}
 use Rattle.chain.specs.declared.Dir.the-variants.{I, R}
 use Rattle.chain.specs.declared.DirRead.{DirRead}
@@ -88,21 +89,16 @@ abbrev pub nextAbove : List ℕ → Bool
 nextAbove chain = ltb (2 ^ 32) (next chain)
 
 unfoldable pub wrongTable : ℕ → List ℕ → Bool
-wrongTable w a = ragged w a || some wrongDir (allRows w a)
+wrongTable w a = ragged w a || any wrongDir (allRows w a)
 
 unfoldable pub wrongRows : List ℕ → List ℕ → Bool
 wrongRows skipped chains =
-    wrongTable 6 skipped || wrongTable 10 chains || ltb maxSkipped (length skipped / 6) || some nextAbove (allRows 10 chains)
+    wrongTable 6 skipped || wrongTable 10 chains || ltb maxSkipped (length skipped / 6) || any nextAbove (allRows 10 chains)
 
 -- the refusals of the window call, in document 01's order
 unfoldable pub windowTests : List ℕ → List ℕ → List ℕ → List (Bool × Refusal)
 windowTests answer skipped chains =
     (ltb (length answer) answerSize, refusal.ShortArea) ∷ (wrongRows skipped chains, refusal.WindowRows) ∷ []
-
--- what the first test that holds says, and a where none holds
-abbrev pub firstOf {ℓ} : {A : Type ℓ} → List (Bool × Refusal) → (Refusal → A) → A → A
-firstOf [] refused a = a
-firstOf (t ∷ ts) refused a = cond (t .0) (refused (t .1)) (firstOf ts refused a)
 
 -- an answer in document 01's terms: the number of its refusal (0 for none), and how many rows it lists
 abbrev pub windowValues : Windowed → ℕ × ℕ

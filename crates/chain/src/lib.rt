@@ -4,7 +4,8 @@ ghost use mathlib.Core.Path.{_≡_};
 ghost use Prim.Native.Nat.{ℕ, _+_, _-_, _*_, _^_, _≤_, _<_, min};
 ghost use lib.ListN.{length};
 ghost use Rattle.octets.specs.Bytes.{splice};
-ghost use Rattle.chain.specs.Rows.{join, allRows, some};
+ghost use Rattle.table.specs.Lists.{any};
+ghost use Rattle.table.specs.Rows.{join, allRows};
 ghost use Rattle.chain.specs.Chain.{dirLabel, dirOf, noDir, isBucket, keyRow, listedKeys, chainsKeys, ChainsListed, nextAbove, wrongTable, wrongRows, windowSays, windowValues, windowAnswer, windowArea};
 use core::Refusal;
 
@@ -95,7 +96,7 @@ fn wrong_table(area: &[u8], width: usize) -> bool
 
 // Has a chain row a next above 2^32?
 fn nexts_above(chains: &[u8]) -> bool
-    ensures { λ r. ⌜ r ≡ some nextAbove (allRows 10 (now (chains .entry))) ⌝ }
+    ensures { λ r. ⌜ r ≡ any nextAbove (allRows 10 (now (chains .entry))) ⌝ }
 {
     let n = chains.len() / 10;
     let mut i = 0;

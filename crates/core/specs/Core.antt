@@ -1,6 +1,8 @@
 -- Document 01's numbers of the refusals ("Refused calls") and bytes of a verification ("Drill program", PT).
 -- Assumes nothing.
 use Prim.Native.Nat.{ℕ}
+use mathlib.Core.Bool.{Bool, cond}
+use mathlib.Core.List.{List, [], _∷_}
 use Rattle.core.specs.declared.Refusal.{Refusal}
 use Rattle.core.specs.declared.Refusal.the-variants as refusal
 use Rattle.core.specs.declared.Verification.{Verification}
@@ -25,3 +27,8 @@ abbrev pub verificationByte : Verification → ℕ
 verificationByte verification.Unverified = 0
 verificationByte verification.Verified = 1
 verificationByte verification.Compromised = 2
+
+-- A call's refusals are one list of (condition, refusal) in document 01's order: what the first that holds says, and `otherwise` where none holds.
+abbrev pub firstOf {ℓ} : {A : Type ℓ} → List (Bool × Refusal) → (Refusal → A) → A → A
+firstOf [] refused otherwise = otherwise
+firstOf (t ∷ ts) refused otherwise = cond (t .0) (refused (t .1)) (firstOf ts refused otherwise)

@@ -7,7 +7,7 @@ use mathlib.Core.Option.{none, some}
 use Prim.Native.Nat.{ℕ, _+_, _*_, _^_, _≤_, _<_}
 use lib.ListN.{length, take}
 use Rattle.octets.specs.Bytes.{be}
-use Rattle.chain.specs.Rows.{allRows}
+use Rattle.table.specs.Rows.{allRows}
 use Rattle.chain.specs.Chain.{isBucket, window}
 use Rattle.courier.specs.Courier.{carriedLength, envelopeValid}
 use Rattle.courier.proofs.Laws.{not-valid}

@@ -6,10 +6,11 @@ use Prim.Native.Nat.{ℕ, _+_, _-_, _*_, _/_, _^_, min}
 use native.Mathlib.Omega.{arith}
 use lib.ListN.{length, take, length-append}
 use Rattle.octets.specs.Bytes.{part, num, be}
-use Rattle.chain.specs.Rows.{rows, allRows}
+use Rattle.table.specs.Rows.{rows, allRows}
+use Rattle.table.proofs.ListLaws.{flatMap-append}
+use Rattle.table.proofs.RowLaws.{length-allRows, allRows-append}
 use Rattle.chain.specs.Chain.{count, next, keyRow, chainKeys, chainsKeys, window, lastIndex}
-use Rattle.chain.proofs.Rows.{length-all, all-append}
-use Rattle.chain.proofs.Keys.{flatMap-append, window-parts}
+use Rattle.chain.proofs.Keys.{window-parts}
 
 -- a chain row of direction d and generation g
 abbrev pub chainRow : ℕ → ℕ → ℕ → List ℕ
@@ -52,7 +53,7 @@ hidden f x y c e =
 
 one-row : (y : List ℕ) (d g : ℕ) → allRows 10 (chainRow d g (2 ^ 32) ++ y) ≡ chainRow d g (2 ^ 32) ∷ allRows 10 y
 unfolding allRows rows be
-one-row y d g = all-append 10 1 (chainRow d g (2 ^ 32)) y (omega arith) refl
+one-row y d g = allRows-append 10 1 (chainRow d g (2 ^ 32)) y (omega arith) refl
 
 pub at-the-end : (s x y : List ℕ) (d g k : ℕ) → length x ≡ k * 10 → window s (x ++ (chainRow d g (2 ^ 32) ++ y)) ≡ window s (x ++ y)
 unfolding window
@@ -61,9 +62,9 @@ at-the-end s x y d g k h =
     let reach : ℕ = 500 - length keys in
     let c : List ℕ = chainRow d g (2 ^ 32) in
     let listed : List (List ℕ) → List (List ℕ) = λ l. take 500 (keys ++ flatMap (chainKeys reach) (reverse l)) in
-    ap listed (all-append 10 k x (c ++ y) (omega arith) h ∙ ap (λ (l : List (List ℕ)). allRows 10 x ++ l) (one-row y d g))
+    ap listed (allRows-append 10 k x (c ++ y) (omega arith) h ∙ ap (λ (l : List (List ℕ)). allRows 10 x ++ l) (one-row y d g))
     ∙ ap (λ (l : List (List ℕ)). take 500 (keys ++ l)) (hidden (chainKeys reach) (allRows 10 x) (allRows 10 y) c (no-key reach d g))
-    ∙ ap listed (sym (all-append 10 k x y (omega arith) h))
+    ∙ ap listed (sym (allRows-append 10 k x y (omega arith) h))
 
 pub count-seven : (s : List ℕ) (d g : ℕ) → length s ≡ 499 * 6 → length (window s (chainRow d g 7)) ≡ 500
-count-seven s d g h = omega (arith, ap length (last-seven s d g h), length-append (allRows 6 s) ((d ∷ g ∷ be 4 7) ∷ []), length-all 6 s)
+count-seven s d g h = omega (arith, ap length (last-seven s d g h), length-append (allRows 6 s) ((d ∷ g ∷ be 4 7) ∷ []), length-allRows 6 s)

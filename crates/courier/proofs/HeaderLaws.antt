@@ -12,7 +12,8 @@ use borrow.Author.Tests.{le-leb, lt-leb, leb-true, leb-false}
 use Rattle.octets.specs.Bytes.{Bytes, splice, part, num, be}
 use Rattle.octets.proofs.Parts.{part-left, part-part, part-add, part-whole, part-right, splice-then, splice-all, length-splice}
 use Rattle.octets.proofs.Numbers.{length-be, num-be}
-use Rattle.courier.proofs.Octets.{set-splice, part-hit, part-one, num-one, be-part}
+use Rattle.octets.proofs.Parts.{set-splice, part-hit, part-one}
+use Rattle.octets.proofs.Numbers.{num-one, be-num-part}
 use Rattle.courier.specs.declared.Header.{Header}
 use Rattle.courier.specs.declared.HeaderRead.{HeaderRead}
 use Rattle.courier.specs.Courier.{headerBytes, headerOf, noHeader, envelopeDecode}
@@ -80,7 +81,7 @@ module _ (h : Header) (p : Proper h) where
 pub bytes-of-header : (b : List ℕ) → Bytes b → length b ≡ 37 → headerBytes (headerOf b) ≡ b
 unfolding headerOf headerBytes
 bytes-of-header b by l =
-    ap₂ (λ (e n : List ℕ). part b 0 16 ++ part b 16 16 ++ e ++ n) (be-part b 32 4 by (omega arith))
+    ap₂ (λ (e n : List ℕ). part b 0 16 ++ part b 16 16 ++ e ++ n) (be-num-part b 32 4 (omega arith) by)
     (ap (λ (k : ℕ). k ∷ []) (num-one b 36 (omega arith)) ∙ sym (part-one b 36 (omega arith)))
     ∙ ap (λ (x : List ℕ). x ++ part b 32 4 ++ part b 36 1) (sym (part-add b 0 16 16))
     ∙ ap (λ (x : List ℕ). x ++ part b 36 1) (sym (part-add b 0 32 4))

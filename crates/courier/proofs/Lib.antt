@@ -1,4 +1,3 @@
-pub mod Octets
 pub mod TagLaws
 pub mod HeaderLaws
 pub mod Laws

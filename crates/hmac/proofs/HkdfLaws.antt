@@ -73,6 +73,7 @@ module _ (prk info out t : List ℕ) (L have i : ℕ) (s : Expanding prk info ou
     where
       sum : (L i : ℕ) → length (upTo prk info i) ≡ 48 * i → 48 * i < L → L ≡ length (upTo prk info i) + (L - 48 * i)
       sum L i e h = omega arith
+
       -- either there is room for all of a block, or the area ends
       reach : (x : List ℕ) (L i n : ℕ) → length x ≡ L → n ≡ min (L - 48 * i) 48 → take (48 * (i + 1)) x ≡ take (48 * i + n) x
       reach x L i n lx en =

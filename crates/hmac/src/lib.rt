@@ -100,7 +100,15 @@ fn least(a: usize, b: usize) -> usize
 }
 
 // T(i + 1), from T(i), which is the first `have` bytes of t; it is written at 48 i of out, as far as there is room.
-fn expand_more(k: &[u64; 80], k0: [u8; 128], t: [u8; 48], have: usize, info: &[u8], out: &mut [u8], i: usize) -> [u8; 48]
+fn expand_more(
+    k: &[u64; 80],
+    k0: [u8; 128],
+    t: [u8; 48],
+    have: usize,
+    info: &[u8],
+    out: &mut [u8],
+    i: usize,
+) -> [u8; 48]
     requires { ⌜ now k ≡ K ⌝ }
     requires { ⌜ (have ≤ 48) × (i < 255) × (48 * i < length (now out)) ⌝ }
     ensures { λ r. ⌜ r ≡ keyed k0 (take have t ++ now (info .entry) ++ ((i + 1) ∷ [])) ⌝ }

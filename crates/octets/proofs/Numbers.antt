@@ -1,15 +1,36 @@
--- Laws of big-endian numbers, over any width.
+-- Laws of bytes and of big-endian numbers, over any width.
 -- Assumes nothing.
 use mathlib.Core.Path.{_≡_, refl, sym, ap, ap₂, subst, _∙_}
 use mathlib.Core.List.{List, [], _∷_, _++_}
 use Prim.Native.Nat.{ℕ, zero, suc, _+_, _-_, _*_, _/_, _%_, _^_, _≤_, _<_}
 use native.Mathlib.Nat.{add-assoc, add-zero, mul-assoc, add-mul, mod-one, mod-eq-of-lt, mul-le-mul-right, mul-add-div-right}
 use native.Mathlib.Omega.{arith}
-use lib.ListN.{length, getD, length-append}
+use lib.ListN.{length, take, drop, getD, length-append}
+use lib.Seq.{getD-drop}
 use lib.Pow.{mod-pow-add, pow-add, pow-pos, high}
 use lib.Bits.{bitOr, or-shifted}
 use Rattle.octets.specs.Bytes.{Bytes, part, num, be}
-use Rattle.octets.proofs.Parts.{length-part, part-add, part-cons, part-nil}
+use Rattle.octets.proofs.Parts.{length-part, part-add, part-cons, part-nil, part-one}
+
+-- ---- bytes
+
+-- what is taken of bytes is bytes
+pub bytes-take : (n : ℕ) (a : List ℕ) → Bytes a → Bytes (take n a)
+unfolding Bytes
+bytes-take zero a h i = omega arith
+bytes-take (suc n) [] h i = h i
+bytes-take (suc n) (x ∷ xs) h zero = h 0
+bytes-take (suc n) (x ∷ xs) h (suc i) = bytes-take n xs (λ j. h (suc j)) i
+
+pub bytes-drop : (n : ℕ) (a : List ℕ) → Bytes a → Bytes (drop n a)
+unfolding Bytes
+bytes-drop n a h i = rw getD-drop (h (n + i))
+
+pub bytes-part : (a : List ℕ) (at n : ℕ) → Bytes a → Bytes (part a at n)
+unfolding part
+bytes-part a at n h = bytes-take n (drop at a) (bytes-drop at a h)
+
+-- ---- numbers and their bytes
 
 pub length-be : (n v : ℕ) → length (be n v) ≡ n
 unfolding be
@@ -44,17 +65,13 @@ num-be-mod (suc n) v =
 pub num-be : (n v : ℕ) → v < 2 ^ (8 * n) → num (be n v) ≡ v
 num-be n v h = num-be-mod n v ∙ mod-eq-of-lt h
 
-tail-bytes : (x : ℕ) (xs : List ℕ) → Bytes (x ∷ xs) → Bytes xs
-unfolding Bytes
-tail-bytes x xs h i = h (suc i)
-
 pub num-lt : (xs : List ℕ) → Bytes xs → num xs < 2 ^ (8 * length xs)
 unfolding num Bytes
 num-lt [] h = omega arith
 num-lt (x ∷ xs) h =
     let m : ℕ = 2 ^ (8 * length xs) in
     let b : x < 256 = h 0 in
-    omega (arith, num-lt xs (tail-bytes x xs h), pow-step (length xs), add-mul x 1 m, mul-le-mul-right {m = x + 1} {n = 256} m (omega arith))
+    omega (arith, num-lt xs (bytes-drop 1 (x ∷ xs) h), pow-step (length xs), add-mul x 1 m, mul-le-mul-right {m = x + 1} {n = 256} m (omega arith))
 
 -- the low bytes do not see what stands above them
 be-add : (n k v : ℕ) → be n (k * 2 ^ (8 * n) + v) ≡ be n v
@@ -72,9 +89,18 @@ pub be-num : (xs : List ℕ) → Bytes xs → be (length xs) (num xs) ≡ xs
 unfolding num be Bytes
 be-num [] h = refl
 be-num (x ∷ xs) h =
-    let l : num xs < 2 ^ (8 * length xs) = num-lt xs (tail-bytes x xs h) in
+    let l : num xs < 2 ^ (8 * length xs) = num-lt xs (bytes-drop 1 (x ∷ xs) h) in
     ap₂ (λ (p : ℕ) (r : List ℕ). p ∷ r) (ap (λ (p : ℕ). p % 256) (high x (8 * length xs) l) ∙ mod-eq-of-lt (h 0))
-    (be-add (length xs) x (num xs) ∙ be-num xs (tail-bytes x xs h))
+    (be-add (length xs) x (num xs) ∙ be-num xs (bytes-drop 1 (x ∷ xs) h))
+
+-- a number read of bytes fits their number, and is written back as it was read
+pub num-part-lt : (a : List ℕ) (at n : ℕ) → at + n ≤ length a → Bytes a → num (part a at n) < 2 ^ (8 * n)
+num-part-lt a at n h b =
+    subst (λ (k : ℕ). num (part a at n) < 2 ^ (8 * k)) (length-part a at n h) (num-lt (part a at n) (bytes-part a at n b))
+
+pub be-num-part : (a : List ℕ) (at n : ℕ) → at + n ≤ length a → Bytes a → be n (num (part a at n)) ≡ part a at n
+be-num-part a at n h b =
+    ap (λ (k : ℕ). be k (num (part a at n))) (sym (length-part a at n h)) ∙ be-num (part a at n) (bytes-part a at n b)
 
 -- ---- numbers as they are loaded, byte by byte
 
@@ -96,6 +122,10 @@ num-first a at n h =
 num-none : (a : List ℕ) (at : ℕ) → num (part a at 0) ≡ 0
 unfolding num
 num-none a at = ap num (part-nil a at)
+
+pub num-one : (a : List ℕ) (at : ℕ) → at < length a → num (part a at 1) ≡ getD a at 0
+unfolding num
+num-one a at h = ap num (part-one a at h) ∙ omega arith
 
 pub num-2 : (a : List ℕ) (at : ℕ) → at + 2 ≤ length a → num (part a at 2) ≡ getD a at 0 * 2 ^ 8 + getD a (at + 1) 0
 num-2 a at h = omega (arith, num-first a at 1 h, num-more a at 1 0 (omega arith), num-none a (at + 2))

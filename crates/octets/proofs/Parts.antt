@@ -7,7 +7,7 @@ use native.Mathlib.Nat.{add-assoc, add-zero, zero-add}
 use native.Mathlib.Numerals.{add-one}
 use native.Mathlib.Omega.{arith}
 use lib.ListN.{length, take, drop, getD, set, replicate, length-append, length-take, length-drop, take-append-drop, drop-of-length-le}
-use lib.Seq.{take-suc, append-snoc, set-at, take-all, paste, take-length, take-take, take-add, drop-drop, drop-cons, length-take-le, take-at, drop-at, getD-take, getD-drop}
+use lib.Seq.{take-suc, append-snoc, set-at, take-all, paste, take-length, take-take, take-add, drop-drop, drop-cons, length-take-le, take-at, drop-at, getD-take, getD-drop, set-split}
 use Rattle.octets.specs.Bytes.{splice, part}
 
 -- ---- parts
@@ -60,6 +60,14 @@ pub part-right : (x y : List ℕ) (k o n : ℕ) → length x ≡ k → part (x +
 unfolding part
 part-right x y k o n e = ap (take n) (sym (drop-drop o k (x ++ y)) ∙ ap (drop o) (drop-at x y k e))
 
+-- a run that stands behind k bytes
+pub part-hit : (x v : List ℕ) (k n : ℕ) → length x ≡ k → length v ≡ n → part (x ++ v) k n ≡ v
+part-hit x v k n e f = ap (λ (i : ℕ). part (x ++ v) i n) (sym (add-zero k)) ∙ part-right x v k 0 n e ∙ part-whole v n f
+
+-- a part of one byte
+pub part-one : (a : List ℕ) (at : ℕ) → at < length a → part a at 1 ≡ getD a at 0 ∷ []
+part-one a at h = part-cons a at 0 h ∙ ap (λ (l : List ℕ). getD a at 0 ∷ l) (part-nil a (at + 1))
+
 -- a part that ends where the list ends
 pub part-end : (a : List ℕ) (at n : ℕ) → at + n ≡ length a → part a at n ≡ drop at a
 unfolding part
@@ -91,6 +99,12 @@ pub splice-zeros : (n : ℕ) (v : List ℕ) → splice (replicate n 0) 0 v ≡ v
 unfolding splice
 splice-zeros n v = ap (λ (l : List ℕ). v ++ l) (ap (λ (k : ℕ). drop k (replicate n 0)) (zero-add (length v)) ∙ drop-replicate (length v) n)
 
+-- one byte stored is a run of one byte written
+pub set-splice : (a : List ℕ) (at x : ℕ) → at < length a → set a at x ≡ splice a at (x ∷ [])
+unfolding splice
+set-splice a at x h =
+    set-split a at x h ∙ sym (append-snoc (take at a) x (drop (suc at) a)) ∙ ap (λ (k : ℕ). take at a ++ (x ∷ []) ++ drop k a) (sym (add-one at))
+
 -- a copy, byte by byte, of all of v is the splice
 pub paste-splice : (a : List ℕ) (at : ℕ) (v : List ℕ) → paste a at v (length v) ≡ splice a at v
 unfolding splice
@@ -111,6 +125,13 @@ unfolding splice
 take-splice a at v h =
     ap (take at) (append-assoc (take at a) v (drop (at + length v) a))
     ∙ take-at (take at a) (v ++ drop (at + length v) a) at (length-take-le at a (omega arith))
+
+-- what stands from a written run on
+pub drop-splice-at : (a : List ℕ) (at : ℕ) (v : List ℕ) → at ≤ length a → drop at (splice a at v) ≡ v ++ drop (at + length v) a
+unfolding splice
+drop-splice-at a at v h =
+    ap (drop at) (append-assoc (take at a) v (drop (at + length v) a))
+    ∙ drop-at (take at a) (v ++ drop (at + length v) a) at (length-take-le at a h)
 
 -- up to its end, what is written stands behind what stood before it
 pub take-written : (a : List ℕ) (at : ℕ) (v : List ℕ) → at + length v ≤ length a → take (at + length v) (splice a at v) ≡ take at a ++ v
@@ -141,13 +162,37 @@ pub splice-then : (a x y : List ℕ) (at to : ℕ) (v w : List ℕ) → x ≡ sp
     → to + length w ≤ length a → y ≡ splice a at (v ++ w)
 splice-then a x y at to v w ex ey et h = ey ∙ (λ i. splice (ex i) (et i) w) ∙ splice-next a at v w (omega arith)
 
+-- a run written right before one that was written
+pub splice-under : (a u v : List ℕ) (at to : ℕ) → to ≡ at + length u → to + length v ≤ length a
+    → splice (splice a to v) at u ≡ splice a at (u ++ v)
+unfolding splice
+splice-under a u v at to e h =
+    let s : List ℕ = splice a to v in
+    let t : take at s ≡ take at a =
+    sym (take-take at to s (omega arith)) ∙ ap (take at) (take-splice a to v h) ∙ take-take at to a (omega arith) in
+    let d : drop (at + length u) s ≡ v ++ drop (to + length v) a = ap (λ (k : ℕ). drop k s) (sym e) ∙ drop-splice-at a to v (omega arith) in
+    let k : to + length v ≡ at + length (u ++ v) = omega (arith, length-append u v) in
+    ap₂ (λ (p q : List ℕ). p ++ u ++ q) t d
+    ∙ sym (append-assoc (take at a ++ u) v (drop (to + length v) a))
+    ∙ ap₂ (λ (p : List ℕ) (m : ℕ). p ++ drop m a) (append-assoc (take at a) u v) k
+
+-- a written run, with what stands behind it said too
+pub splice-grow : (a u : List ℕ) (at n to : ℕ) → to ≡ at + length u → to + n ≤ length a → splice a at u ≡ splice a at (u ++ part a to n)
+unfolding splice part
+splice-grow a u at n to e h =
+    let v : List ℕ = take n (drop to a) in
+    let k : to + n ≡ at + length (u ++ v) = omega (arith, length-append u v, length-part a to n h) in
+    let d : drop (at + length u) a ≡ v ++ drop (at + length (u ++ v)) a =
+    ap (λ (m : ℕ). drop m a) (sym e) ∙ sym (take-append-drop n (drop to a))
+    ∙ ap (λ (l : List ℕ). v ++ l) (drop-drop n to a ∙ ap (λ (m : ℕ). drop m a) k) in
+    ap (λ (l : List ℕ). take at a ++ u ++ l) d
+    ∙ sym (append-assoc (take at a ++ u) v (drop (at + length (u ++ v)) a))
+    ∙ ap (λ (l : List ℕ). l ++ drop (at + length (u ++ v)) a) (append-assoc (take at a) u v)
+
 -- what is read where it was written, before it, and past it
 pub read-same : (a : List ℕ) (at : ℕ) (v : List ℕ) → at + length v ≤ length a → part (splice a at v) at (length v) ≡ v
-unfolding part splice
-read-same a at v h =
-    ap (λ (l : List ℕ). take (length v) (drop at l)) (append-assoc (take at a) v (drop (at + length v) a))
-    ∙ ap (take (length v)) (drop-at (take at a) (v ++ drop (at + length v) a) at (length-take-le at a (omega arith)))
-    ∙ take-at v (drop (at + length v) a) (length v) refl
+unfolding part
+read-same a at v h = ap (take (length v)) (drop-splice-at a at v (omega arith)) ∙ take-at v (drop (at + length v) a) (length v) refl
 
 pub read-before : (a : List ℕ) (at : ℕ) (v : List ℕ) (i n : ℕ) → at + length v ≤ length a → i + n ≤ at → part (splice a at v) i n ≡ part a i n
 read-before a at v i n h k =

@@ -12,7 +12,8 @@ use lib.Pow.{pow-add}
 use lib.Bits.{bitOr, bitXor, or-shifted, or-zero-l}
 use borrow.Author.Tests.{eq-eqb, ne-eqb, eqb-true, eqb-false}
 use Rattle.octets.specs.Bytes.{Bytes, part, lowFirst, sameBytes}
-use Rattle.octets.proofs.Parts.{length-part, getD-part, part-add, part-cons, part-nil}
+use Rattle.octets.proofs.Parts.{length-part, part-add, part-cons, part-nil}
+use Rattle.octets.proofs.Numbers.{bytes-drop, bytes-part}
 use Rattle.octets.proofs.Compare.{gathered}
 
 -- ---- a load
@@ -62,15 +63,14 @@ step x y p q hx hy = go (eqb x y) refl (eqb p q) refl
     go true e false f = ne-eqb (x + 256 * p) (y + 256 * q) (λ z. eqb-false p q f (omega arith))
     go false e d f = ne-eqb (x + 256 * p) (y + 256 * q) (λ z. eqb-false x y e (omega arith))
 
-low-same : (x y : List ℕ) → ((i : ℕ) → i < length x → getD x i 0 < 256) → ((i : ℕ) → i < length y → getD y i 0 < 256) → length x ≡ length y
-    → eqb (lowFirst x) (lowFirst y) ≡ sameBytes x y
-unfolding lowFirst sameBytes
+low-same : (x y : List ℕ) → Bytes x → Bytes y → length x ≡ length y → eqb (lowFirst x) (lowFirst y) ≡ sameBytes x y
+unfolding lowFirst sameBytes Bytes
 low-same [] [] hx hy e = refl
 low-same [] (y ∷ ys) hx hy e = absurd (omega arith)
 low-same (x ∷ xs) [] hx hy e = absurd (omega arith)
 low-same (x ∷ xs) (y ∷ ys) hx hy e =
-    step x y (lowFirst xs) (lowFirst ys) (hx 0 (omega arith)) (hy 0 (omega arith))
-    ∙ ap (λ (b : Bool). eqb x y && b) (low-same xs ys (λ i l. hx (suc i) (omega arith)) (λ i l. hy (suc i) (omega arith)) (omega arith))
+    step x y (lowFirst xs) (lowFirst ys) (hx 0) (hy 0)
+    ∙ ap (λ (b : Bool). eqb x y && b) (low-same xs ys (bytes-drop 1 (x ∷ xs) hx) (bytes-drop 1 (y ∷ ys) hy) (omega arith))
 
 same-append : (x u y v : List ℕ) → length x ≡ length u → sameBytes (x ++ y) (u ++ v) ≡ (sameBytes x u && sameBytes y v)
 unfolding sameBytes
@@ -83,13 +83,11 @@ same-append (a ∷ x) (b ∷ u) y v e =
 module _ (a b : List ℕ) (ha : Bytes a) (hb : Bytes b) where
   pub same-8 : (at bt : ℕ) {x y : ℕ} → at + 8 ≤ length a → bt + 8 ≤ length b → x ≡ lowFirst (part a at 8) → y ≡ lowFirst (part b bt 8)
       → eqb x y ≡ sameBytes (part a at 8) (part b bt 8)
-  unfolding Bytes
   same-8 at bt la lb ex ey =
       let na : length (part a at 8) ≡ 8 = length-part a at 8 la in
       let nb : length (part b bt 8) ≡ 8 = length-part b bt 8 lb in
       ap₂ eqb ex ey
-      ∙ low-same (part a at 8) (part b bt 8) (λ i l. rw (getD-part a at 8 i (omega arith)) (ha (at + i)))
-      (λ i l. rw (getD-part b bt 8 i (omega arith)) (hb (bt + i))) (na ∙ sym nb)
+      ∙ low-same (part a at 8) (part b bt 8) (bytes-part a at 8 ha) (bytes-part b bt 8 hb) (na ∙ sym nb)
 
   pub same-16 : (at bt : ℕ) {x y z w : ℕ} → at + 16 ≤ length a → bt + 16 ≤ length b → x ≡ lowFirst (part a at 8) → y ≡ lowFirst (part b bt 8)
       → z ≡ lowFirst (part a (at + 8) 8) → w ≡ lowFirst (part b (bt + 8) 8)

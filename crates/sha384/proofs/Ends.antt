@@ -6,20 +6,13 @@ use Prim.Native.Nat.{ℕ, zero, suc, _+_, _-_, _*_, _/_, _%_, _^_, _≤_, _<_}
 use native.Mathlib.Numerals.{add-one}
 use native.Mathlib.Omega.{arith}
 use lib.ListN.{length, take, drop, set, getD, replicate, length-append, length-drop, length-replicate, replicate-append-replicate}
-use lib.Seq.{take-at, set-at, take-suc, take-all, length-take-le}
+use lib.Seq.{take-at, set-at, take-suc, take-all}
 use lib.Pow.{shr-shr, field, mod-mod-pow}
 use Rattle.octets.specs.Bytes.{splice, be}
-use Rattle.octets.proofs.Parts.{splice-zeros, splice-then}
+use Rattle.octets.proofs.Parts.{splice-zeros, splice-then, take-written}
 use Rattle.octets.proofs.Numbers.{length-be}
 use Rattle.sha384.specs.Padding.{zeroBits, padding}
 use Rattle.sha384.specs.Sha384.{bytes}
-
--- up to its end, what is written stands behind what stood before it
-take-written : (x : List ℕ) (at : ℕ) (v : List ℕ) → at ≤ length x → take (at + length v) (splice x at v) ≡ take at x ++ v
-unfolding splice
-take-written x at v h =
-    take-at (take at x ++ v) (drop (at + length v) x) (at + length v)
-    (length-append (take at x) v ∙ ap (λ (k : ℕ). k + length v) (length-take-le at x h))
 
 -- ---- the length of the message in bits
 
@@ -98,10 +91,10 @@ bytes-snoc [] w = append-nil (be 8 w)
 bytes-snoc (x ∷ ws) w = ap (λ (l : List ℕ). be 8 x ++ l) (bytes-snoc ws w) ∙ sym (append-assoc (be 8 x) (bytes ws) (be 8 w))
 
 -- one word more
-pub digested : (h d : List ℕ) (i : ℕ) {e : List ℕ} → i < length h → 8 * i ≤ length d → take (8 * i) d ≡ bytes (take i h)
+pub digested : (h d : List ℕ) (i : ℕ) {e : List ℕ} → i < length h → 8 * i + 8 ≤ length d → take (8 * i) d ≡ bytes (take i h)
     → e ≡ splice d (8 * i) (be 8 (getD h i 0)) → take (8 * (i + 1)) e ≡ bytes (take (i + 1) h)
 digested h d i li ld et ee =
     let v : List ℕ = be 8 (getD h i 0) in
     let end : 8 * (i + 1) ≡ 8 * i + length v = omega (arith, length-be 8 (getD h i 0)) in
-    ap₂ take end ee ∙ take-written d (8 * i) v ld ∙ ap (λ (l : List ℕ). l ++ v) et ∙ sym (bytes-snoc (take i h) (getD h i 0))
+    ap₂ take end ee ∙ take-written d (8 * i) v (omega arith) ∙ ap (λ (l : List ℕ). l ++ v) et ∙ sym (bytes-snoc (take i h) (getD h i 0))
     ∙ ap bytes (sym (take-suc h i 0 li)) ∙ ap (λ (k : ℕ). bytes (take k h)) (sym (add-one i))

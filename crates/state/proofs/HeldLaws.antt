@@ -15,7 +15,8 @@ use Rattle.octets.proofs.Parts.{part-left, part-whole, part-add, length-part}
 use Rattle.octets.proofs.Numbers.{length-be, num-be}
 use Rattle.courier.specs.declared.Header.{Header}
 use Rattle.courier.specs.Courier.{headerBytes, headerOf, carriedLength, envelopeValid}
-use Rattle.courier.proofs.Octets.{part-hit, part-one, num-one, bytes-part, be-part}
+use Rattle.octets.proofs.Parts.{part-hit, part-one}
+use Rattle.octets.proofs.Numbers.{num-one, bytes-part, be-num-part}
 use Rattle.courier.proofs.HeaderLaws.{Proper, length-header, header-of-bytes, bytes-of-header}
 use Rattle.courier.proofs.Laws.{both, carried-fits, valid-parts, valid-if}
 use Rattle.state.specs.declared.Carried.{Carried}
@@ -222,7 +223,7 @@ module _ (b : List ℕ) (by : Bytes b) where
   again-carried k h v =
       let f = carried-fits (length b - 46) (valid-parts (length b - 46) (carriedOf b .header .copies) (carriedOf b .header .«expiry_min») 0 v .0) in
       let hd : (0 ∷ []) ++ be 8 (num (part b 1 8)) ++ headerBytes (headerOf (part b 9 37)) ≡ part b 0 46 =
-      (λ i. first 0 k (omega arith) i ++ be-part b 1 8 by (omega arith) i
+      (λ i. first 0 k (omega arith) i ++ be-num-part b 1 8 (omega arith) by i
       ++ bytes-of-header (part b 9 37) (bytes-part b 9 37 by) (length-part b 9 37 (omega arith)) i)
       ∙ ap (λ (x : List ℕ). x ++ part b 9 37) (sym (part-add b 0 1 8)) ∙ sym (part-add b 0 9 37) in
       ap₂ (λ (x y : List ℕ). x ++ y) hd (take-all 2064 (drop 46 b) (omega (arith, length-drop 46 b))) ∙ take-append-drop 46 b
@@ -230,7 +231,7 @@ module _ (b : List ℕ) (by : Bytes b) where
   again-tombstone : getD b 0 0 ≡ 1 → length b ≡ 37 → heldRow (tombstone (tombstoneOf b)) ≡ b
   unfolding heldRow tombstoneOf
   again-tombstone k h =
-      ap₂ (λ (x y : List ℕ). x ++ part b 1 16 ++ part b 17 16 ++ y) (first 1 k (omega arith)) (be-part b 33 4 by (omega arith))
+      ap₂ (λ (x y : List ℕ). x ++ part b 1 16 ++ part b 17 16 ++ y) (first 1 k (omega arith)) (be-num-part b 33 4 (omega arith) by)
       ∙ ap (λ (x : List ℕ). x ++ part b 17 16 ++ part b 33 4) (sym (part-add b 0 1 16))
       ∙ ap (λ (x : List ℕ). x ++ part b 33 4) (sym (part-add b 0 17 16)) ∙ sym (part-add b 0 33 4) ∙ part-whole b 37 h
 

@@ -1,17 +1,16 @@
 -- Each change of a table as the write that makes it: a row behind the last, put in, taken out, put in another's place.
 -- Assumes nothing.
 use mathlib.Core.Path.{_≡_, ap, ap₂, _∙_}
-use mathlib.Core.List.{List, [], _∷_, _++_, append-nil}
+use mathlib.Core.List.{List, [], _∷_, _++_}
 use Prim.Native.Nat.{ℕ, _+_, _-_, _*_, _≤_, _<_}
 use native.Mathlib.Omega.{arith}
 use lib.ListN.{length, take, drop, length-append}
 use Rattle.octets.specs.Bytes.{Bytes, splice, part}
-use Rattle.octets.proofs.Parts.{length-part}
+use Rattle.octets.proofs.Parts.{length-part, splice-grow, splice-under}
 use Rattle.table.specs.Lists.{insertAt, removeAt, replaceAt}
 use Rattle.table.specs.Rows.{rows, join, RowsNow}
-use Rattle.table.proofs.Octets.{splice-grow, splice-under}
 use Rattle.table.proofs.ListLaws.{length-insertAt, length-removeAt, length-replaceAt, all-push, all-insertAt, all-removeAt, all-replaceAt}
-use Rattle.table.proofs.RowLaws.{mul-le, row-in, next-row, length-rows, join-rows, join-take, join-drop, join-append, Wide, wide-rows, splice-written, rows-now}
+use Rattle.table.proofs.RowLaws.{mul-le, row-in, next-row, length-rows, join-rows, join-take, join-drop, join-append, join-snoc, Wide, wide-rows, splice-written, rows-now}
 
 module _ (w n : ℕ) (a : List ℕ) (bytes : Bytes a) (fits : n * w ≤ length a) where
   abbrev R : List (List ℕ)
@@ -29,10 +28,8 @@ module _ (w n : ℕ) (a : List ℕ) (bytes : Bytes a) (fits : n * w ≤ length a
 
   pub pushed : (x r : List ℕ) (m : ℕ) → n * w + w ≤ length a → length r ≡ w → m ≡ n + 1 → x ≡ splice a (n * w) r
       → RowsNow w a (R ++ (r ∷ [])) m x
-  unfolding join
   pushed x r m k lr em ex =
-      let e : join (R ++ (r ∷ [])) ≡ take (n * w) a ++ r =
-      join-append R (r ∷ []) ∙ ap₂ (λ (p q : List ℕ). p ++ q) (join-rows w n a) (append-nil r) in
+      let e : join (R ++ (r ∷ [])) ≡ take (n * w) a ++ r = join-snoc R r ∙ ap (λ (l : List ℕ). l ++ r) (join-rows w n a) in
       rows-now a x (R ++ (r ∷ [])) m bytes (all-push R r wide lr) (omega (arith, ap (λ (j : ℕ). j * w) em, next-row n w))
       (omega (arith, length-append R (r ∷ []), size)) (ex ∙ splice-written a r (n * w) (R ++ (r ∷ [])) (omega arith) e)
 

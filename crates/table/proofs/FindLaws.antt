@@ -3,7 +3,7 @@
 use mathlib.Core.Path.{_≡_, refl, sym, ap, ap₂, _∙_}
 use mathlib.Core.Bool.{Bool, true, false, cond, _||_}
 use mathlib.Core.List.{List, [], _∷_, map}
-use Prim.Native.Nat.{ℕ, suc, _+_, _-_, _*_, _≤_, _<_}
+use Prim.Native.Nat.{ℕ, suc, _+_, _-_, _*_, _/_, _≤_, _<_}
 use native.Mathlib.Numerals.{add-one}
 use native.Mathlib.Omega.{arith}
 use lib.ListN.{length, take, drop, getD, drop-of-length-le}
@@ -12,8 +12,8 @@ use Rattle.octets.proofs.Parts.{part-part, part-whole}
 use Rattle.table.specs.declared.Found.{Found}
 use Rattle.table.specs.declared.Found.the-variants.{At, Nothing}
 use Rattle.table.specs.Lists.{All, none, more, countBy, any, positionFrom, position, isAt, unwrapOr}
-use Rattle.table.specs.Rows.{rows, hasKey}
-use Rattle.table.proofs.RowLaws.{rows-next, length-rows}
+use Rattle.table.specs.Rows.{rows, allRows, hasKey}
+use Rattle.table.proofs.RowLaws.{rows-next, length-rows, allRows-next, length-allRows}
 
 module _ {A : Type 0} (p : A → Bool) (xs : List A) where
   -- one more element, of which the test says b
@@ -110,6 +110,18 @@ any-none p (r ∷ x) e = go (p r) refl e (any-none p x)
     go : (b : Bool) → p r ≡ b → (b || any p x) ≡ false → (any p x ≡ false → All (λ (s : _). p s ≡ false) x) → All (λ (s : _). p s ≡ false) (r ∷ x)
     go true t f rest = let z : _≡_ {A = ℕ} 0 1 = cc in absurd (omega arith)
     go false t f rest = more t (rest f)
+
+-- ---- a test of the rows that fit an area: those from i on decide what all of them do
+
+module _ (w : ℕ) (a : List ℕ) (p : List ℕ → Bool) (i : ℕ) (left : any p (allRows w a) ≡ any p (drop i (allRows w a))) where
+  pub row-found : i < length a / w → p (part a (i * w) w) ≡ true → true ≡ any p (allRows w a)
+  row-found h t = sym (left ∙ any-next p (allRows w a) i (part a (i * w) w) true (allRows-next w a i h) t)
+
+  pub row-passed : i < length a / w → p (part a (i * w) w) ≡ false → any p (allRows w a) ≡ any p (drop (i + 1) (allRows w a))
+  row-passed h t = left ∙ any-next p (allRows w a) i (part a (i * w) w) false (allRows-next w a i h) t
+
+  pub rows-passed : length a / w ≤ i → false ≡ any p (allRows w a)
+  rows-passed h = sym (left ∙ any-end p (allRows w a) i (omega (arith, length-allRows w a)))
 
 -- ---- a key at an offset of the rows of an area
 

@@ -1,4 +1,3 @@
-pub mod Octets
 pub mod ListLaws
 pub mod RowLaws
 pub mod FindLaws

@@ -2,7 +2,7 @@
 -- Assumes nothing.
 use mathlib.Core.Path.{_≡_, refl, sym, ap, ap₂, _∙_}
 use mathlib.Core.Bool.{Bool, true, false, cond, _||_, or-assoc}
-use mathlib.Core.List.{List, [], _∷_, _++_, map, map-append}
+use mathlib.Core.List.{List, [], _∷_, _++_, append-assoc, map, map-append, flatMap}
 use Prim.Native.Nat.{ℕ, zero, suc, _+_, _-_, _≤_, _<_}
 use native.Mathlib.Numerals.{add-one}
 use native.Mathlib.Omega.{arith}
@@ -13,6 +13,19 @@ use Rattle.table.specs.Lists.{All, none, more, insertAt, removeAt, repla
 -- the element at an index, and those after it
 pub drop-next : {A : Type 0} (xs : List A) (i : ℕ) (d : A) → i < length xs → drop i xs ≡ getD xs i d ∷ drop (i + 1) xs
 drop-next xs i d h = rw (add-one, drop-cons xs i d)
+
+-- of two lists, what is taken of the second is what the first leaves
+pub take-append : {A : Type 0} (n : ℕ) (x y : List A) → take n (x ++ y) ≡ take n x ++ take (n - length (take n x)) y
+take-append zero x y = refl
+take-append (suc n) [] y = let e : suc n ≡ suc n - 0 = omega arith in ap (λ (k : ℕ). take k y) e
+take-append (suc n) (r ∷ x) y =
+    let e : n - length (take n x) ≡ suc n - suc (length (take n x)) = omega arith in
+    ap (λ (l : List _). r ∷ l) (take-append n x y ∙ ap (λ (k : ℕ). take n x ++ take k y) e)
+
+pub flatMap-append : {A B : Type 0} (f : A → List B) (x y : List A) → flatMap f (x ++ y) ≡ flatMap f x ++ flatMap f y
+unfolding flatMap
+flatMap-append f [] y = refl
+flatMap-append f (r ∷ x) y = ap (λ (l : List _). f r ++ l) (flatMap-append f x y) ∙ sym (append-assoc (f r) (flatMap f x) (flatMap f y))
 
 -- ---- how many there are after a change
 
@@ -45,6 +58,10 @@ filter-holds q (r ∷ x) = go (q r) refl (filter-holds q x)
     go false e a = a
 
 module _ {A : Type 0} {P : A → Type 0} where
+  pub all-each : ((r : A) → P r) → (x : List A) → All P x
+  all-each f [] = none
+  all-each f (r ∷ x) = more (f r) (all-each f x)
+
   pub all-append : (x y : List A) → All P x → All P y → All P (x ++ y)
   all-append [] y a b = b
   all-append (r ∷ x) y (more p a) b = more p (all-append x y a b)

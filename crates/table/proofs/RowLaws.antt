@@ -1,17 +1,17 @@
 -- Laws of the rows of an area and of an area with rows written at its front, over any width.
 -- Assumes nothing.
 use mathlib.Core.Path.{_≡_, refl, sym, ap, ap₂, _∙_, subst}
-use mathlib.Core.List.{List, [], _∷_, _++_, append-assoc}
+use mathlib.Core.List.{List, [], _∷_, _++_, append-assoc, append-nil}
 use Prim.Native.Nat.{ℕ, zero, suc, _+_, _-_, _*_, _/_, _≤_, _<_, min}
-use native.Mathlib.Nat.{add-zero, zero-add, zero-mul, suc-add, suc-mul, add-mul, one-mul, mul-comm, mul-sub, mul-le-mul-right, div-mul-le-self, le-div-iff-mul-le, min-eq-left, min-eq-right, min-le-left, min-le-right}
+use native.Mathlib.Nat.{add-zero, zero-add, zero-mul, suc-add, suc-mul, add-mul, one-mul, mul-comm, mul-sub, mul-le-mul-right, div-mul-le-self, mul-add-div-right, mul-div-cancel, le-div-iff-mul-le, min-eq-left, min-eq-right, min-le-left, min-le-right}
 use native.Mathlib.Omega.{arith}
-use lib.ListN.{length, take, drop, getD, length-append, length-drop}
-use lib.Seq.{take-add, drop-drop, take-at, drop-at, getD-drop, length-take-le, drop-append-add}
+use lib.ListN.{length, take, drop, getD, length-append, length-drop, drop-of-length-le}
+use lib.Seq.{take-add, drop-drop, take-at, drop-at, take-append-le, drop-append-le, getD-drop, length-take-le, drop-append-add}
 use Rattle.octets.specs.Bytes.{Bytes, splice, part}
 use Rattle.octets.proofs.Parts.{part-part}
+use Rattle.octets.proofs.Numbers.{bytes-take, bytes-drop}
 use Rattle.table.specs.Lists.{All, none, more}
-use Rattle.table.specs.Rows.{held, rows, join, written, Fits, RowsNow}
-use Rattle.table.proofs.Octets.{bytes-take, bytes-drop}
+use Rattle.table.specs.Rows.{held, rows, allRows, join, written, Fits, RowsNow}
 
 -- ---- products: `omega` takes i * w as an unknown, so these say what is known of it
 
@@ -21,6 +21,10 @@ mul-le w h = mul-le-mul-right w h
 -- row i lies within n rows
 pub row-in : (i n w : ℕ) → i < n → i * w + w ≤ n * w
 row-in i n w h = omega (arith, suc-mul i w, mul-le {i = suc i} {n = n} w h)
+
+-- and row i of those that fit within their area
+pub row-of : (i w len : ℕ) → i < len / w → i * w + w ≤ len
+row-of i w len h = omega (arith, row-in i (len / w) w h, div-mul-le-self len w)
 
 pub next-row : (i w : ℕ) → (i + 1) * w ≡ i * w + w
 next-row i w = add-mul i 1 w ∙ ap (λ (k : ℕ). i * w + k) (one-mul w)
@@ -124,6 +128,49 @@ pub join-append : (x y : List (List ℕ)) → join (x ++ y) ≡ join x ++ join y
 unfolding join
 join-append [] y = refl
 join-append (r ∷ x) y = ap (λ (l : List ℕ). r ++ l) (join-append x y) ∙ sym (append-assoc r (join x) (join y))
+
+pub join-snoc : (x : List (List ℕ)) (r : List ℕ) → join (x ++ (r ∷ [])) ≡ join x ++ r
+unfolding join
+join-snoc x r = join-append x (r ∷ []) ∙ ap (λ (l : List ℕ). join x ++ l) (append-nil r)
+
+-- the rows of a front do not see what comes after it
+pub rows-front : (w k : ℕ) (x y : List ℕ) → k * w ≤ length x → rows w k (x ++ y) ≡ rows w k x
+unfolding rows
+rows-front w zero x y h = refl
+rows-front w (suc k) x y h =
+    let l : w ≤ length x = omega (arith, suc-mul k w) in
+    ap₂ (λ (r : List ℕ) (rs : List (List ℕ)). r ∷ rs) (take-append-le w x y l)
+    (ap (rows w k) (drop-append-le w x y l) ∙ rows-front w k (drop w x) y (omega (arith, suc-mul k w, length-drop w x)))
+
+-- ---- all rows that fit an area
+
+module _ (w : ℕ) (a : List ℕ) where
+  pub length-allRows : length (allRows w a) ≡ length a / w
+  unfolding allRows
+  length-allRows = length-rows w (length a / w) a
+
+  pub allRows-next : (i : ℕ) → i < length a / w → drop i (allRows w a) ≡ part a (i * w) w ∷ drop (i + 1) (allRows w a)
+  unfolding allRows
+  allRows-next i h = rows-next w i (length a / w) a h
+
+  -- row i as it is lent, by its start and end, and those from j on
+  pub allRows-lent : (i j m : ℕ) → i < length a / w → j ≡ i + 1 → m ≡ w → drop i (allRows w a) ≡ take m (drop (i * w) a) ∷ drop j (allRows w a)
+  unfolding part
+  allRows-lent i j m h ej em = allRows-next i h ∙ ap₂ (λ (k l : ℕ). take l (drop (i * w) a) ∷ drop k (allRows w a)) (sym ej) (sym em)
+
+  pub allRows-end : (i : ℕ) → length a / w ≤ i → drop i (allRows w a) ≡ []
+  allRows-end i h = drop-of-length-le (allRows w a) {i = i} (omega (arith, length-allRows))
+
+-- k rows, and what comes after them
+pub allRows-append : (w k : ℕ) (x y : List ℕ) → 0 < w → length x ≡ k * w → allRows w (x ++ y) ≡ allRows w x ++ allRows w y
+unfolding allRows
+allRows-append w k x y hw h =
+    let n : length (x ++ y) / w ≡ k + length y / w =
+    ap (λ (m : ℕ). m / w) (length-append x y ∙ ap (λ (m : ℕ). m + length y) h) ∙ mul-add-div-right hw k (length y) in
+    let m : k ≡ length x / w = sym (ap (λ (l : ℕ). l / w) h ∙ mul-div-cancel k hw) in
+    ap (λ (l : ℕ). rows w l (x ++ y)) n ∙ rows-add w k (length y / w) (x ++ y)
+    ∙ ap₂ (λ (r : List (List ℕ)) (l : List ℕ). r ++ rows w (length y / w) l)
+    (rows-front w k x y (omega arith) ∙ ap (λ (l : ℕ). rows w l x) m) (drop-at x y (k * w) h)
 
 -- ---- rows that are all of one width
 

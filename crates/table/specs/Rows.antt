@@ -1,10 +1,11 @@
 -- A table of rows of w bytes each in an area of bytes. A row is its bytes, and the table is the list of its rows.
 -- Assumes nothing.
-use Prim.Native.Nat.{ℕ, zero, suc, _*_, _/_, _≤_, min}
+use Prim.Native.Nat.{ℕ, zero, suc, _*_, _/_, _%_, _≤_, min}
 use mathlib.Core.Path.{_≡_}
 use mathlib.Core.Bool.{Bool}
 use mathlib.Core.List.{List, [], _∷_, _++_}
 use lib.ListN.{length, take, drop}
+use lib.Dec.{ltb}
 use Rattle.octets.specs.Bytes.{Bytes, part, sameBytes}
 use Rattle.table.specs.Lists.{filter}
 
@@ -16,6 +17,13 @@ held len w count = min count (len / w)
 unfoldable pub rows : ℕ → ℕ → List ℕ → List (List ℕ)
 rows w zero a = []
 rows w (suc n) a = take w a ∷ rows w n (drop w a)
+
+-- the rows that fit an area; is the area not whole rows
+unfoldable pub allRows : ℕ → List ℕ → List (List ℕ)
+allRows w a = rows w (length a / w) a
+
+unfoldable pub ragged : ℕ → List ℕ → Bool
+ragged w a = ltb 0 (length a % w)
 
 -- the bytes of rows, one after the other
 unfoldable pub join : List (List ℕ) → List ℕ

@@ -1,7 +1,7 @@
 -- `chain::is_bucket` meets its contract: what a `match` on numbers knows is what `contains` computes. Assumes nothing.
 use mathlib.Core.Path.{_≡_, refl, sym, ap, _∙_}
 use mathlib.Core.Logic.{inl, inr}
-use mathlib.Core.Bool.{Bool, true, false, _||_}
+use mathlib.Core.Bool.{Bool, true, false, _||_, or-true}
 use mathlib.Core.List.{List, [], _∷_}
 use Prim.Native.Nat.{ℕ}
 use borrow.Author.Tests.{eq-eqb, ne-eqb}
@@ -10,10 +10,6 @@ use types.Run.{OneOf}
 use Rattle.chain.specs.Chain.{innerBuckets, contains}
 use Rattle.chain.proofs.is_bucket.Statement.{statement}
 use Rattle.chain.proofs.is_bucket.Tie as tie
-
-or-true : (b : Bool) → (b || true) ≡ true
-or-true true = refl
-or-true false = refl
 
 hit : (ks : List ℕ) (x : ℕ) → OneOf ks x → contains ks x ≡ true
 hit [] x e = absurd e

@@ -7,7 +7,7 @@ use native.Mathlib.Omega.{arith}
 use lib.ListN.{length}
 use Rattle.octets.specs.Bytes.{splice}
 use Rattle.octets.proofs.Parts.{splice-nil}
-use Rattle.chain.specs.Rows.{join}
+use Rattle.table.specs.Rows.{join}
 use Rattle.chain.specs.Chain.{count, keyRow}
 use Rattle.chain.proofs.Keys.{keys-put, listed-all}
 use borrow.Author.Needs.{needs}

@@ -3,9 +3,9 @@ use mathlib.Core.Path.{_≡_, refl, subst}
 use Prim.Native.Nat.{ℕ, _+_, _-_, _*_, _/_, _≤_}
 use native.Mathlib.Omega.{arith}
 use lib.ListN.{length, drop, length-take, length-drop}
-use Rattle.chain.specs.Rows.{allRows}
+use Rattle.table.specs.Rows.{allRows}
+use Rattle.table.proofs.RowLaws.{allRows-lent, allRows-end}
 use Rattle.chain.specs.Chain.{chainsKeys, ChainsListed}
-use Rattle.chain.proofs.Rows.{all-lent, all-end}
 use Rattle.chain.proofs.Keys.{chains-none, chains-put}
 use borrow.Author.Needs.{needs}
 use Rattle.chain.proofs.list_chains.Statement.{statement}
@@ -23,7 +23,7 @@ loop-holds : tie.Need-loop-holds Inv-loop μ-loop
 loop-holds c =
     let s = c .before .before in
     let a = s .args in
-    let end = all-end 10 (a .chains .now) (length (a .chains .now) / 10) (omega arith) in
+    let end = allRows-end 10 (a .chains .now) (length (a .chains .now) / 10) (omega arith) in
     (omega arith, (chains-none (a .skipped) (a .answer .now) _ (s .pre .0) end, refl))
 
 loop-again : tie.Need-loop-again Inv-loop μ-loop
@@ -32,7 +32,7 @@ loop-again c =
     let a = c .before .before .before .before .before .before .before .before .before .args in
     let listed = c .before .before .list-chain in
     let i : ℕ = l .i - 1 in
-    let rows = all-lent 10 (a .chains .now) i (l .i) (i * 10 + 10 - i * 10) (omega arith) (omega arith) (omega arith) in (
+    let rows = allRows-lent 10 (a .chains .now) i (l .i) (i * 10 + 10 - i * 10) (omega arith) (omega arith) (omega arith) in (
       omega arith,
       (
         chains-put (a .skipped) (l .n) (listed .result) (a .answer .now) (l .answer) (listed .last .0) _

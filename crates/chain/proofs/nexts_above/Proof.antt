@@ -5,16 +5,17 @@ use native.Mathlib.Omega.{arith}
 use lib.Dec.{ltb}
 use lib.ListN.{drop}
 use borrow.Author.Tests.{lt-ltb, le-ltb}
-use Rattle.chain.specs.Rows.{some, allRows}
+use Rattle.table.specs.Lists.{any}
+use Rattle.table.specs.Rows.{allRows}
+use Rattle.table.proofs.FindLaws.{row-found, row-passed, rows-passed}
 use Rattle.chain.specs.Chain.{nextAbove}
-use Rattle.chain.proofs.Rows.{found, passed, none}
 use Rattle.chain.proofs.Keys.{above-at}
 use borrow.Author.Needs.{needs}
 use Rattle.chain.proofs.nexts_above.Statement.{statement}
 use Rattle.chain.proofs.nexts_above.Tie as tie
 
 abbrev Inv-loop : tie.InvT-loop
-Inv-loop chains n i₀ i = (i ≤ n) × (some nextAbove (allRows 10 chains) ≡ some nextAbove (drop i (allRows 10 chains)))
+Inv-loop chains n i₀ i = (i ≤ n) × (any nextAbove (allRows 10 chains) ≡ any nextAbove (drop i (allRows 10 chains)))
 
 abbrev μ-loop : tie.MeasureT-loop
 μ-loop chains n i₀ i = n - i
@@ -26,7 +27,7 @@ returns : tie.Need-returns Inv-loop μ-loop
 returns c =
     let l = c .before .before .before .loop in
     let a = c .before .before .before .before .before .args .chains .now in
-    found 10 a nextAbove (l .i) (l .inv .1) (c .before .before .loop-test .taken)
+    row-found 10 a nextAbove (l .i) (l .inv .1) (c .before .before .loop-test .taken)
     (above-at a (l .i) ∙ ap (ltb (2 ^ 32)) (sym (c .before .get-u64 .ensures)) ∙ lt-ltb _ _ (c .if1 .taken))
 
 loop-again : tie.Need-loop-again Inv-loop μ-loop
@@ -34,12 +35,12 @@ loop-again c =
     let l = c .before .before .before .loop in
     let a = c .before .before .before .before .before .args .chains .now in (
       omega arith,
-      passed 10 a nextAbove (l .i) (l .inv .1) (c .before .before .loop-test .taken)
+      row-passed 10 a nextAbove (l .i) (l .inv .1) (c .before .before .loop-test .taken)
           (above-at a (l .i) ∙ ap (ltb (2 ^ 32)) (sym (c .before .get-u64 .ensures)) ∙ le-ltb _ _ (c .if1 .left)),
     )
 
 returns-2 : tie.Need-returns-2 Inv-loop μ-loop
-returns-2 c = none 10 (c .before .before .before .args .chains .now) nextAbove (c .before .loop .i) (c .before .loop .inv .1) (c .loop-test .left)
+returns-2 c = rows-passed 10 (c .before .before .before .args .chains .now) nextAbove (c .before .loop .i) (c .before .loop .inv .1) (c .loop-test .left)
 
 pub nexts-above-spec : {M : Type 1} → statement M
 nexts-above-spec =

@@ -5,16 +5,18 @@ use native.Mathlib.Nat.{div-le-self}
 use native.Mathlib.Omega.{arith}
 use lib.ListN.{length, drop}
 use borrow.Author.Tests.{lt-ltb, le-ltb}
-use Rattle.chain.specs.Rows.{ragged, some, allRows}
+use Rattle.table.specs.Lists.{any}
+use Rattle.table.specs.Rows.{allRows, ragged}
+use Rattle.table.proofs.RowLaws.{row-of}
+use Rattle.table.proofs.FindLaws.{row-found, row-passed, rows-passed}
 use Rattle.chain.specs.Chain.{wrongDir, wrongTable}
-use Rattle.chain.proofs.Rows.{row-of, found, passed, none}
 use Rattle.chain.proofs.Keys.{dir-at}
 use borrow.Author.Needs.{needs}
 use Rattle.chain.proofs.wrong_table.Statement.{statement}
 use Rattle.chain.proofs.wrong_table.Tie as tie
 
 abbrev Inv-loop : tie.InvT-loop
-Inv-loop area width n i₀ i = (i ≤ n) × (some wrongDir (allRows width area) ≡ some wrongDir (drop i (allRows width area)))
+Inv-loop area width n i₀ i = (i ≤ n) × (any wrongDir (allRows width area) ≡ any wrongDir (drop i (allRows width area)))
 
 abbrev μ-loop : tie.MeasureT-loop
 μ-loop area width n i₀ i = n - i
@@ -42,7 +44,7 @@ returns-2 c =
     let l = c .before .before .before .before .loop in
     let s = c .before .before .before .before .before .before .before in
     simp (le-ltb _ _ (c .before .before .before .before .before .if1 .left))
-    (found (s .args .width) (s .args .area .now) wrongDir (l .i) (l .inv .1) (c .before .before .before .loop-test .taken)
+    (row-found (s .args .width) (s .args .area .now) wrongDir (l .i) (l .inv .1) (c .before .before .before .loop-test .taken)
     (dir-at (s .args .area .now) (l .i) (s .args .width) (s .pre) ∙ sym (c .before .no-dir .ensures) ∙ c .if2 .taken))
 
 add-i : tie.Need-add-i Inv-loop μ-loop
@@ -55,7 +57,7 @@ loop-again c =
     let l = c .before .before .before .before .loop in
     let s = c .before .before .before .before .before .before .before in (
       omega arith,
-      passed (s .args .width) (s .args .area .now) wrongDir (l .i) (l .inv .1) (c .before .before .before .loop-test .taken)
+      row-passed (s .args .width) (s .args .area .now) wrongDir (l .i) (l .inv .1) (c .before .before .before .loop-test .taken)
           (dir-at (s .args .area .now) (l .i) (s .args .width) (s .pre) ∙ sym (c .before .no-dir .ensures) ∙ c .if2 .left),
     )
 
@@ -64,7 +66,7 @@ unfolding wrongTable ragged
 returns-3 c =
     let l = c .before .loop in
     let a = c .before .before .before .before .args in
-    simp (le-ltb _ _ (c .before .before .if1 .left)) (none (a .width) (a .area .now) wrongDir (l .i) (l .inv .1) (c .loop-test .left))
+    simp (le-ltb _ _ (c .before .before .if1 .left)) (rows-passed (a .width) (a .area .now) wrongDir (l .i) (l .inv .1) (c .loop-test .left))
 
 pub wrong-table-spec : {M : Type 1} → statement M
 wrong-table-spec =

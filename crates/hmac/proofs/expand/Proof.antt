@@ -26,7 +26,7 @@ loop-holds : tie.Need-loop-holds Inv-loop μ-loop
 loop-holds c = (c .before .before .constants .ensures, omega arith, omega arith, refl, λ prk e. expand-start prk (c .before .before .before .before .before .args .info .now) (c .before .before .before .before .before .args .out .now) _)
 
 loop-again : tie.Need-loop-again Inv-loop μ-loop
-loop-again c = 
+loop-again c =
     let l = c .before .before .before .before .before .before .loop in
     let s = c .before .before .before .before .before .before .before .before .before .before .before .before in
     let r = c .before .before .expand-more .result in (
@@ -35,9 +35,9 @@ loop-again c =
       omega arith,
       search needs,
       λ prk e.
-      expand-step prk (s .args .info .now) (l .out) (l .t) (length (s .args .out .now)) (l .have) (l .i) (l .inv .4 prk e) _ r (omega arith) (search needs)
-      (c .before .before .expand-more .ensures .0 ∙ ap (λ (k : List ℕ). keyed k (take (l .have) (l .t) ++ s .args .info .now ++ ((l .i + 1) ∷ []))) e)
-      (c .before .before .expand-more .ensures .1 ∙ ap (λ (n : ℕ). splice (l .out) (48 * l .i) (take (n - 48 * l .i) r)) (l .inv .3)),
+          expand-step prk (s .args .info .now) (l .out) (l .t) (length (s .args .out .now)) (l .have) (l .i) (l .inv .4 prk e) _ r (omega arith) (search needs)
+          (c .before .before .expand-more .ensures .0 ∙ ap (λ (k : List ℕ). keyed k (take (l .have) (l .t) ++ s .args .info .now ++ ((l .i + 1) ∷ []))) e)
+          (c .before .before .expand-more .ensures .1 ∙ ap (λ (n : ℕ). splice (l .out) (48 * l .i) (take (n - 48 * l .i) r)) (l .inv .3)),
     )
 
 same-length : tie.Need-same-length Inv-loop μ-loop

@@ -8,7 +8,7 @@ use Rattle.kdf.proofs.keyed.Statement.{statement}
 use Rattle.kdf.proofs.keyed.Tie as tie
 
 returns : tie.Need-returns
-returns c = 
+returns c =
     let a = c .before .before .before .before .before .before .before .before .before .before .before .before .before .before .args in
     let e = regroup (padded (a .k0) ipad) (labelled (a .label .now)) (a .x .now) (a .end .now) in
     c .end .ensures _ (subst (Taken (c .before .before .update2 .result)) e (c .before .before .update2 .ensures .0 _ (c .before .before .before .before .update .ensures .0 _ (c .before .before .before .before .before .before .take-label .ensures .0 _ (c .before .before .before .before .before .before .before .before .begin .ensures .0)))))

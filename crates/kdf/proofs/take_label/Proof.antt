@@ -10,7 +10,7 @@ use Rattle.kdf.proofs.take_label.Statement.{statement}
 use Rattle.kdf.proofs.take_label.Tie as tie
 
 returns : tie.Need-returns
-returns c = 
+returns c =
     let label = c .before .before .before .before .before .args .label .now in
     let e : (x : List ℕ) → x ++ c .before .before .before .head-of .result ++ label ≡ x ++ labelled label = λ x. ap (λ (h : List ℕ). x ++ h ++ label) (c .before .before .before .head-of .ensures) ∙ labelled-behind x label in
     (λ x t. subst (Taken (c .update2 .result)) (e x) (c .update2 .ensures .0 _ (c .before .update .ensures .0 x t)), omega (arith, c .before .update .ensures .1, c .update2 .ensures .1))

@@ -1,12 +1,12 @@
 -- `octets::copy_in` meets its contract: what is copied so far is `paste`, which a turn extends by `paste-suc`. Assumes nothing.
 use mathlib.Core.Path.{_≡_, refl, sym, ap, _∙_}
-use Prim.Native.Nat.{ℕ, _+_, _≤_, _<_, _-_}
+use Prim.Native.Nat.{ℕ, _+_, _≤_, _-_}
 use mathlib.Core.List.{List}
 use native.Mathlib.Numerals.{add-one}
 use native.Mathlib.Nat.{le-antisymm}
 use native.Mathlib.Omega.{arith}
 use lib.ListN.{length, length-set, getD, set}
-use lib.Seq.{paste, paste-zero, paste-suc, length-paste}
+use lib.Seq.{paste, paste-zero, paste-suc}
 use Rattle.octets.proofs.Parts.{paste-splice}
 use Rattle.octets.proofs.copy_in.Statement.{statement}
 use Rattle.octets.proofs.copy_in.Tie as tie

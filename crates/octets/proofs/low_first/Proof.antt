@@ -1,4 +1,3 @@
-use native.Mathlib.Omega.{arith}
 use borrow.Author.Needs.{needs}
 use Rattle.octets.proofs.Words.{low-halves}
 use Rattle.octets.proofs.low_first.Statement.{statement}

@@ -1,12 +1,11 @@
 use mathlib.Core.Path.{_≡_, refl, sym, ap, ap₂, _∙_}
-use Prim.Native.Nat.{ℕ, _+_, _≤_, _<_, _-_}
+use Prim.Native.Nat.{ℕ, _+_, _≤_, _-_}
 use mathlib.Core.List.{List}
 use native.Mathlib.Numerals.{add-one}
-use native.Mathlib.Nat.{le-antisymm}
 use native.Mathlib.Omega.{arith}
 use lib.ListN.{length, length-set, getD, set}
-use lib.Seq.{paste, paste-zero, paste-suc, length-paste, drop-paste}
-use Rattle.octets.specs.Bytes.{part, splice}
+use lib.Seq.{paste, paste-zero, paste-suc, drop-paste}
+use Rattle.octets.specs.Bytes.{part}
 use Rattle.octets.proofs.Parts.{paste-splice, length-part, getD-part, getD-past}
 use Rattle.octets.proofs.move_down.Statement.{statement}
 use Rattle.octets.proofs.move_down.Tie as tie

@@ -1,10 +1,9 @@
 -- `octets::move_up`: what is moved so far is a splice of the run's end, which a turn extends by a byte in front (`up-step`). Assumes nothing.
-use mathlib.Core.Path.{_≡_, refl, sym, ap, ap₂, _∙_}
-use Prim.Native.Nat.{ℕ, _+_, _≤_, _<_, _-_}
-use mathlib.Core.List.{List, []}
+use mathlib.Core.Path.{_≡_, refl, sym, ap, _∙_}
+use Prim.Native.Nat.{ℕ, _+_, _≤_, _-_}
 use native.Mathlib.Nat.{add-zero, sub-zero}
 use native.Mathlib.Omega.{arith}
-use lib.ListN.{length, length-set, getD, set}
+use lib.ListN.{length, length-set}
 use Rattle.octets.specs.Bytes.{part, splice}
 use Rattle.octets.proofs.Parts.{splice-nil, up-step, part-of-none}
 use Rattle.octets.proofs.move_up.Statement.{statement}

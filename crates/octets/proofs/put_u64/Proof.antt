@@ -1,5 +1,3 @@
-use mathlib.Core.Path.{_≡_, ap, _∙_}
-use Rattle.octets.specs.Bytes.{splice}
 use borrow.Author.Needs.{needs}
 use Rattle.octets.proofs.put_u64.Statement.{statement}
 use Rattle.octets.proofs.put_u64.Tie as tie

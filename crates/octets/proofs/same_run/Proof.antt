@@ -1,10 +1,9 @@
 -- `octets::same_run`: the differences gathered so far are 0 just where the bytes so far are the same. Assumes nothing.
-use mathlib.Core.Path.{_≡_, refl, sym, ap, ap₂, _∙_}
-use Prim.Native.Nat.{ℕ, _+_, _≤_, _<_, _-_}
-use mathlib.Core.List.{List, []}
+use mathlib.Core.Path.{_≡_, refl, sym}
+use Prim.Native.Nat.{_≤_, _-_}
 use native.Mathlib.Omega.{arith}
 use lib.Dec.{eqb}
-use lib.ListN.{length, getD, drop}
+use lib.ListN.{length, drop}
 use mathlib.Core.Bool.{_&&_}
 use Rattle.octets.specs.Bytes.{part, sameBytes}
 use Rattle.octets.proofs.Parts.{length-part, getD-part}

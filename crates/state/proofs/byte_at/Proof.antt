@@ -3,7 +3,7 @@ use native.Mathlib.Omega.{arith}
 use Rattle.state.proofs.ReaderLaws.{take-whole, take-short}
 use Rattle.state.specs.declared.ByteRead.the-variants as byteRead
 use Rattle.courier.proofs.Laws.{fits, fits-not}
-use Rattle.courier.proofs.Octets.{num-one}
+use Rattle.octets.proofs.Numbers.{num-one}
 use Rattle.octets.specs.Bytes.{num}
 use Prim.Native.Nat.{_+_}
 use mathlib.Core.Path.{sym, ap, _∙_}
