@@ -9,6 +9,8 @@ use lib.ListN.{length, take, drop, getD, length-append}
 use lib.Seq.{getD-drop}
 use lib.Pow.{mod-pow-add, pow-add, pow-pos, high}
 use lib.Bits.{bitOr, or-shifted}
+use mir.Syntax.{w8}
+use mir.Val.{Fits}
 use Rattle.octets.specs.Bytes.{Bytes, part, num, be}
 use Rattle.octets.proofs.Parts.{length-part, part-add, part-cons, part-nil, part-one}
 
@@ -25,6 +27,17 @@ bytes-take (suc n) (x ∷ xs) h (suc i) = bytes-take n xs (λ j. h (suc j)) i
 pub bytes-drop : (n : ℕ) (a : List ℕ) → Bytes a → Bytes (drop n a)
 unfolding Bytes
 bytes-drop n a h i = rw getD-drop (h (n + i))
+
+pub bytes-append : (x y : List ℕ) → Bytes x → Bytes y → Bytes (x ++ y)
+unfolding Bytes
+bytes-append [] y p q i = q i
+bytes-append (b ∷ x) y p q zero = p 0
+bytes-append (b ∷ x) y p q (suc i) = bytes-append x y (λ j. p (suc j)) q i
+
+-- an array's elements, which fit their type, are bytes
+pub bytes-of : (a : List ℕ) → ((i : ℕ) → Fits w8 (getD a i 0)) → Bytes a
+unfolding Bytes
+bytes-of a h i = h i .fits
 
 pub bytes-part : (a : List ℕ) (at n : ℕ) → Bytes a → Bytes (part a at n)
 unfolding part
@@ -92,6 +105,16 @@ be-num (x ∷ xs) h =
     let l : num xs < 2 ^ (8 * length xs) = num-lt xs (bytes-drop 1 (x ∷ xs) h) in
     ap₂ (λ (p : ℕ) (r : List ℕ). p ∷ r) (ap (λ (p : ℕ). p % 256) (high x (8 * length xs) l) ∙ mod-eq-of-lt (h 0))
     (be-add (length xs) x (num xs) ∙ be-num xs (bytes-drop 1 (x ∷ xs) h))
+
+pub be-1 : (v : ℕ) → v < 256 → be 1 v ≡ v ∷ []
+unfolding be
+be-1 v h = let e : v / 1 % 256 ≡ v = omega arith in ap (λ (k : ℕ). k ∷ []) e
+
+pub bytes-be : (n v : ℕ) → Bytes (be n v)
+unfolding Bytes be
+bytes-be zero v i = omega arith
+bytes-be (suc n) v zero = omega arith
+bytes-be (suc n) v (suc i) = bytes-be n v i
 
 -- a number read of bytes fits their number, and is written back as it was read
 pub num-part-lt : (a : List ℕ) (at n : ℕ) → at + n ≤ length a → Bytes a → num (part a at n) < 2 ^ (8 * n)

@@ -110,6 +110,11 @@ pub paste-splice : (a : List ℕ) (at : ℕ) (v : List ℕ) → paste a at v (le
 unfolding splice
 paste-splice a at v = ap (λ (l : List ℕ). take at a ++ l ++ drop (at + length v) a) (take-length v)
 
+-- what is read of the part that is lent as `&a[at..at + n]`
+pub lent-part : {A : Type 0} (f : List ℕ → A) (a : List ℕ) (at n : ℕ) {r : A} → r ≡ f (take (at + n - at) (drop at a)) → r ≡ f (part a at n)
+unfolding part
+lent-part f a at n e = let k : at + n - at ≡ n = omega arith in e ∙ ap (λ (m : ℕ). f (take m (drop at a))) k
+
 -- a part from at on that was lent and came back as ys: the whole is a splice
 pub lent-splice : (a ys : List ℕ) (at k : ℕ) → length ys ≡ k → take at a ++ (ys ++ drop k (drop at a)) ≡ splice a at ys
 unfolding splice
