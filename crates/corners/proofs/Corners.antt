@@ -19,6 +19,7 @@ use Rattle.state.specs.Config.{inRange, configNew, configNumber}
 use Rattle.state.specs.Held.{carried, tombstone, heldRow, rowAnswered, heldDecode}
 use Rattle.state.proofs.RowLaws.{ProperTombstone, row-answered}
 use Rattle.state.proofs.HeldLaws.{ProperCarried, length-row, carried-back, carried-refused, tombstone-back}
+use Rattle.model.proofs.Corners.{CourieringCorners, couriering-corners}
 use Rattle.corners.proofs.Window.{chainRow, last-seven, count-seven, none-left, at-the-end}
 
 -- a carried row with no copies, or no time
@@ -67,6 +68,8 @@ pub record Corners : Type 0 where
       → 0 < r .header .«expiry_min» → heldDecode (heldRow (carried r ct)) ≡ some (carried r ct)
   -- a tombstone row has no such condition
   pub tombstone-read-back : (t : Tombstone) → ProperTombstone t → heldDecode (heldRow (tombstone t)) ≡ some (tombstone t)
+  -- ---- couriering.rs, a comment a line (model/proofs/Corners.antt)
+  pub couriering : CourieringCorners
 
 pub corners : Corners
 unfolding carriedLength envelopeValid inRange configNew
@@ -92,4 +95,5 @@ corners = record {
   ended-refused = λ r ct p e. carried-refused r p ct (not-valid (length (take 2064 ct)) (r .header .copies) (r .header .«expiry_min») 0 e);
   carried-read-back = λ r ct p. carried-back r p ct;
   tombstone-read-back = tombstone-back;
+  couriering = couriering-corners;
 }

@@ -30,7 +30,11 @@ fn say_line(bytes: &[u8]) {
 
 // The first n bytes, or all where there are fewer.
 fn front(bytes: &[u8], n: usize) -> &[u8] {
-    if n <= bytes.len() { &bytes[0..n] } else { bytes }
+    if n <= bytes.len() {
+        &bytes[0..n]
+    } else {
+        bytes
+    }
 }
 
 fn say_number(n: usize) {
@@ -151,7 +155,13 @@ fn hkdf_line(name: &[u8], ikm: &[u8], salt: &[u8], info: &[u8], out: &mut [u8]) 
 fn hkdf_basic(name: &[u8], ikm: &[u8]) {
     let salt = rising(0, 1);
     let info = rising(0xf0, 1);
-    hkdf_line(name, ikm, front(&salt, 13), front(&info, 10), &mut [0u8; 42]);
+    hkdf_line(
+        name,
+        ikm,
+        front(&salt, 13),
+        front(&info, 10),
+        &mut [0u8; 42],
+    );
 }
 
 fn hkdf_longer() {
@@ -247,13 +257,19 @@ fn labelled_hash() {
 fn long_label() {
     let key = rising(3, 7);
     let label = [97u8; 65526];
-    key_line(b"label of 65526 bytes ", kdf::mac(front(&key, 32), &label, b""));
+    key_line(
+        b"label of 65526 bytes ",
+        kdf::mac(front(&key, 32), &label, b""),
+    );
 }
 
 fn longer_label() {
     let key = rising(3, 7);
     let label = [97u8; 65527];
-    key_line(b"label of 65527 bytes ", kdf::mac(front(&key, 32), &label, b""));
+    key_line(
+        b"label of 65527 bytes ",
+        kdf::mac(front(&key, 32), &label, b""),
+    );
 }
 
 fn labels() {

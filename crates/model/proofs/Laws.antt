@@ -1,0 +1,128 @@
+-- Laws of the model's definitions: the bytes that carried rows can have, the place of the least expiry, the saved file, refusals.
+-- Assumes nothing.
+use mathlib.Core.Path.{_≡_, refl, sym, ap, _∙_, subst}
+use mathlib.Core.Bool.{Bool, true, false, cond}
+use mathlib.Core.List.{List, [], _∷_, _++_, Perm, Perm·refl, Perm·cons, Perm·trans, Perm·symm, perm-middle, append-nil}
+use Prim.Native.Nat.{ℕ, suc, _+_, _-_, _*_, _≤_, _<_, _^_, min}
+use native.Mathlib.Nat.{add-zero, min-le-left, min-le-right}
+use native.Mathlib.Omega.{arith}
+use lib.ListN.{length, drop, getD, length-take, length-drop}
+use lib.Seq.{getD-drop, drop-drop}
+use native.Mathlib.Numerals.{add-one}
+use lib.Dec.{leb, ltb}
+use borrow.Author.Tests.{ltb-false, ltb-true}
+use Rattle.octets.specs.Bytes.{part}
+use Rattle.rows.specs.declared.Carried.{Carried}
+use Rattle.rows.specs.declared.Tombstone.{Tombstone}
+use Rattle.model.specs.Basics.{merge}
+use Rattle.model.specs.State.{State}
+use Rattle.model.specs.Cells.{cellStart, cellLength, ciphertext}
+use Rattle.model.specs.Custody.{carriedTotal}
+use Rattle.model.specs.Tombs.{noTombstone, leastFrom, leastExpiry}
+use Rattle.model.specs.Saved.{Slotted, savedCarried, savedTombstones, savedRows, saveHeld, IsSaved}
+
+-- a carried row has at most 37 + 2,064 bytes
+pub carried-total : (size : ℕ) (rs : List Carried) → carriedTotal size rs ≤ length rs * 2101
+unfolding carriedTotal cellLength
+carried-total size [] = omega arith
+carried-total size (r ∷ rs) =
+    omega (arith, carried-total size rs, min-le-left (min (r .len) 2064) (size - r .cell * 2064), min-le-right (r .len) 2064)
+
+-- the length of a ciphertext
+pub length-ciphertext : (area : List ℕ) (cell len : ℕ) → length (ciphertext area cell len) ≡ cellLength (length area) cell len
+unfolding ciphertext cellStart cellLength part
+length-ciphertext area cell len =
+    length-take (min (min len 2064) (length area - cell * 2064)) (drop (min (cell * 2064) (length area)) area)
+    ∙ omega (arith, length-drop (min (cell * 2064) (length area)) area)
+
+-- ---- the least expiry
+
+abbrev pub expiryAt : List Tombstone → ℕ → ℕ
+expiryAt ts j = getD ts j noTombstone .«expiry_min»
+
+-- what holds below i and at i holds below i + 1
+upto : (P : ℕ → Type 0) (i : ℕ) → ((j : ℕ) → j < i → P j) → P i → (j : ℕ) → j < suc i → P j
+upto P i f p j h = go (ltb j i) refl
+  where
+    go : (b : Bool) → ltb j i ≡ b → P j
+    go true e = f j (ltb-true j i e)
+    go false e = let q : i ≡ j = omega (arith, ltb-false j i e) in subst P q p
+
+-- of the first i tombstones the one at best has the least expiry, and those before it a greater one
+pub record Least (ts : List Tombstone) (i best : ℕ) : Type 0 where
+  pub inside : best < i
+  pub least : (j : ℕ) → j < i → expiryAt ts best ≤ expiryAt ts j
+  pub first : (j : ℕ) → j < best → expiryAt ts best < expiryAt ts j
+
+module _ (ts : List Tombstone) where
+  at-drop : (i : ℕ) (t : Tombstone) (rest : List Tombstone) → drop i ts ≡ t ∷ rest → t .«expiry_min» ≡ expiryAt ts i
+  at-drop i t rest e = ap (λ (l : List Tombstone). expiryAt l 0) (sym e) ∙ ap (λ (x : Tombstone). x .«expiry_min») (getD-drop i ts 0 noTombstone ∙ ap (λ (n : ℕ). getD ts n noTombstone) (add-zero i))
+
+  past-drop : (i : ℕ) (t : Tombstone) (rest : List Tombstone) → drop i ts ≡ t ∷ rest → drop (suc i) ts ≡ rest
+  past-drop i t rest e = ap (λ (n : ℕ). drop n ts) (sym (add-one i)) ∙ sym (drop-drop 1 i ts) ∙ ap (drop 1) e
+
+  by-test : (n : ℕ) (b : Bool) (x y : ℕ) → (b ≡ true → Least ts n x) → (b ≡ false → Least ts n y) → Least ts n (cond b x y)
+  by-test n true x y f g = f refl
+  by-test n false x y f g = g refl
+
+  lower : (i best : ℕ) → expiryAt ts i < expiryAt ts best → Least ts i best → Least ts (suc i) i
+  lower i best h l = record {
+    inside = omega arith;
+    least = upto (λ (j : ℕ). expiryAt ts i ≤ expiryAt ts j) i (λ j b. omega (arith, l .least j b)) (omega arith);
+    first = λ j b. omega (arith, l .least j b);
+  }
+
+  later : (i best : ℕ) → expiryAt ts best ≤ expiryAt ts i → Least ts i best → Least ts (suc i) best
+  later i best h l = record {
+    inside = omega (arith, l .inside);
+    least = upto (λ (j : ℕ). expiryAt ts best ≤ expiryAt ts j) i (l .least) h;
+    first = l .first;
+  }
+
+  least-from : (rest : List Tombstone) (i best low : ℕ) → drop i ts ≡ rest → low ≡ expiryAt ts best → Least ts i best
+      → Least ts (i + length rest) (leastFrom i best low rest)
+  unfolding leastFrom
+  least-from [] i best low e q l = subst (λ (n : ℕ). Least ts n best) (sym (add-zero i)) l
+  least-from (t ∷ rest) i best low e q l =
+      let n : suc i + length rest ≡ i + suc (length rest) = omega arith in
+      let at : t .«expiry_min» ≡ expiryAt ts i = at-drop i t rest e in
+      by-test (i + suc (length rest)) (ltb (t .«expiry_min») low) (leastFrom (suc i) i (t .«expiry_min») rest) (leastFrom (suc i) best low rest)
+      (λ b. subst (λ (m : ℕ). Least ts m (leastFrom (suc i) i (t .«expiry_min») rest)) n
+      (least-from rest (suc i) i (t .«expiry_min») (past-drop i t rest e) at (lower i best (omega (arith, ltb-true (t .«expiry_min») low b)) l)))
+      (λ b. subst (λ (m : ℕ). Least ts m (leastFrom (suc i) best low rest)) n
+      (least-from rest (suc i) best low (past-drop i t rest e) q (later i best (omega (arith, ltb-false (t .«expiry_min») low b)) l)))
+
+-- the place that `store_tombstone` frees: least expiry, the first among equals
+pub least-expiry : (t : Tombstone) (ts : List Tombstone) → t .«expiry_min» < 2 ^ 32 → Least (t ∷ ts) (length (t ∷ ts)) (leastExpiry (t ∷ ts))
+unfolding leastFrom
+least-expiry t ts h =
+    by-test (t ∷ ts) (suc (length ts)) (ltb (t .«expiry_min») (2 ^ 32)) (leastFrom 1 0 (t .«expiry_min») ts) (leastFrom 1 0 (2 ^ 32) ts)
+    (λ b. subst (λ (m : ℕ). Least (t ∷ ts) m (leastFrom 1 0 (t .«expiry_min») ts)) (omega arith)
+    (least-from (t ∷ ts) ts 1 0 (t .«expiry_min») refl refl (record {
+      inside = omega arith;
+      least = λ j b. let z : j ≡ 0 = omega arith in omega (arith, ap (expiryAt (t ∷ ts)) z);
+      first = λ j b. absurd (omega arith);
+    })))
+    (λ b. absurd (omega (arith, ltb-false (t .«expiry_min») (2 ^ 32) b)))
+
+-- ---- the saved file
+
+-- the merged list has the elements of both, each once
+module _ {A : Type 0} (key : A → ℕ) where
+  by-key : (b : Bool) (x y : A) (l r all : List A) → Perm (x ∷ l) all → Perm (y ∷ r) all → Perm (cond b (x ∷ l) (y ∷ r)) all
+  by-key true x y l r all p q = p
+  by-key false x y l r all p q = q
+
+  pub perm-merge : (xs ys : List A) → Perm (merge key xs ys) (xs ++ ys)
+  unfolding merge
+  perm-merge [] ys = Perm·refl ys
+  perm-merge (x ∷ xs) [] = subst (Perm (x ∷ xs)) (sym (append-nil (x ∷ xs))) (Perm·refl (x ∷ xs))
+  perm-merge (x ∷ xs) (y ∷ ys) =
+      by-key (leb (key x) (key y)) x y (merge key xs (y ∷ ys)) (merge key (x ∷ xs) ys) ((x ∷ xs) ++ (y ∷ ys))
+      (Perm·cons x (perm-merge xs (y ∷ ys)))
+      (Perm·trans (Perm·cons y (perm-merge (x ∷ xs) ys)) (Perm·symm (perm-middle (x ∷ xs) ys)))
+
+-- the file is what document 01 fixes
+pub saved : (s : State) → IsSaved s (saveHeld s .bytes)
+unfolding saveHeld savedRows
+saved s = record { rows = savedRows s; once = perm-merge (λ (h : Slotted). h .slot) (savedCarried s) (savedTombstones s); bytes = refl }
