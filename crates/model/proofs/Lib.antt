@@ -7,5 +7,6 @@ pub mod KeepRows
 pub mod KeepParts
 pub mod KeepCalls
 pub mod RunLaws
+pub mod CallLaws
 pub mod Corners
 pub mod Examples

@@ -13,4 +13,5 @@ pub mod Maintenance
 pub mod Saved
 pub mod Step
 pub mod Areas
+pub mod Lent
 pub mod Good
