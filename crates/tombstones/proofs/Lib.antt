@@ -1,0 +1,4 @@
+pub mod LeafLaws
+pub mod ChoiceLaws
+pub mod WriteLaws
+pub mod CallLaws
