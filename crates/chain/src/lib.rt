@@ -66,7 +66,7 @@ pub fn is_bucket(n: usize) -> bool
 }
 
 // Is the byte no direction's?
-fn no_dir(b: u8) -> bool
+pub fn no_dir(b: u8) -> bool
     ensures { λ r. ⌜ r ≡ noDir (dirOf b) ⌝ }
 {
     match Dir::from_label(b) {

@@ -1,0 +1,36 @@
+-- `custody::duplicate`: the first of the three tables that has the tag decides. Assumes nothing.
+use borrow.Author.Needs.{needs}
+use mathlib.Core.Path.{refl, sym, _∙_}
+use mathlib.Core.Bool.{true, false}
+use Rattle.custody.proofs.Laws.{duplicate-of}
+use Rattle.model.specs.Tombs.{tombstoned}
+use Rattle.custody.proofs.duplicate.Statement.{statement}
+use Rattle.custody.proofs.duplicate.Tie as tie
+
+own-tagged-requires : tie.Need-own-tagged-requires
+own-tagged-requires c κs = search needs
+
+returns : tie.Need-returns
+returns c = λ a ed eo ec et. sym (duplicate-of _ a ed eo ec et true _ _ (sym (c .before .own-tagged .ensures) ∙ c .if1 .taken) refl refl)
+
+carried-tagged-requires : tie.Need-carried-tagged-requires
+carried-tagged-requires c κs = search needs
+
+returns-2 : tie.Need-returns-2
+returns-2 c =
+    let p = sym (c .before .before .before .own-tagged .ensures) ∙ c .before .before .if1 .left in
+    λ a ed eo ec et. sym (duplicate-of _ a ed eo ec et false true _ p (sym (c .before .carried-tagged .ensures) ∙ c .if2 .taken) refl)
+
+tombstoned-requires : tie.Need-tombstoned-requires
+tombstoned-requires c κs = search needs
+
+returns-3 : tie.Need-returns-3
+unfolding tombstoned
+returns-3 c =
+    let p = sym (c .before .before .before .before .own-tagged .ensures) ∙ c .before .before .before .if1 .left in
+    let q = sym (c .before .before .carried-tagged .ensures) ∙ c .before .if2 .left in
+    λ a ed eo ec et. sym (duplicate-of _ a ed eo ec et false false _ p q (sym (c .tombstoned .ensures)))
+
+pub duplicate-spec : {M : Type 1} → statement M
+duplicate-spec =
+    tie.close (tie.spec own-tagged-requires returns carried-tagged-requires returns-2 tombstoned-requires returns-3)

@@ -1,0 +1,24 @@
+-- `custody::lookup`: a row's tag is the 16 bytes at offset 14. Assumes nothing.
+use borrow.Author.Needs.{needs}
+use Rattle.rows.specs.Rows.{reachableCodec, reachableOf}
+use Rattle.table.proofs.TableLaws.{table-find}
+use Rattle.model.specs.Window.{windowRows, lookup}
+use Rattle.custody.proofs.Windows.{key-front}
+use Rattle.custody.proofs.lookup.Statement.{statement}
+use Rattle.custody.proofs.lookup.Tie as tie
+
+fit-requires : tie.Need-fit-requires
+fit-requires c κs = search needs
+
+slice-aggregate-scan : tie.Need-slice-aggregate-scan
+slice-aggregate-scan c = search needs
+
+scan-requires : tie.Need-scan-requires
+scan-requires c κs = search needs
+
+returns : tie.Need-returns
+unfolding lookup windowRows reachableOf
+returns c = table-find reachableCodec _ _ _ (c .before .before .fit .ensures .is) _ _ (λ b. key-front 14 _ b (search needs)) _ (c .scan .ensures)
+
+pub lookup-spec : {M : Type 1} → statement M
+lookup-spec = tie.close (tie.spec fit-requires slice-aggregate-scan scan-requires returns)
