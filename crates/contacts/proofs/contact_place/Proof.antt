@@ -22,29 +22,14 @@ Inv-loop contacts count id n i₀ i =
 abbrev μ-loop : tie.MeasureT-loop
 μ-loop contacts count id n i₀ i = n - i
 
-fit-requires : tie.Need-fit-requires Inv-loop μ-loop
-fit-requires c κs = omega arith
-
 loop-holds : tie.Need-loop-holds Inv-loop μ-loop
 unfolding contactPlace
 loop-holds c = (omega arith, (c .fit .ensures .is, (c .fit .ensures .inside, refl)))
-
-mul-get-u64 : tie.Need-mul-get-u64 Inv-loop μ-loop
-mul-get-u64 c = omega arith
-
-get-u64-requires : tie.Need-get-u64-requires Inv-loop μ-loop
-get-u64-requires c κs = omega arith
 
 returns : tie.Need-returns Inv-loop μ-loop
 returns c =
     let l = c .before .before .before .before .loop in
     sym (l .inv .1 .1 .1 ∙ place-next _ _ _ (l .i) _ true (omega arith) (c .before .before .get-u64 .ensures) (eq-eqb _ _ (c .if1 .taken)))
-
-add-i : tie.Need-add-i Inv-loop μ-loop
-add-i c = omega arith
-
-loop-less : tie.Need-loop-less Inv-loop μ-loop
-loop-less c = omega arith
 
 loop-again : tie.Need-loop-again Inv-loop μ-loop
 loop-again c =
@@ -60,4 +45,5 @@ pub contact-place-spec : {M : Type 1} → statement M
 contact-place-spec =
     tie.close
     (tie.spec
-    Inv-loop μ-loop fit-requires loop-holds mul-get-u64 get-u64-requires returns add-i loop-less loop-again returns-2)
+    Inv-loop μ-loop (λ c κs. omega arith) loop-holds (λ c. omega arith) (λ c κs. omega arith) returns (λ c. omega arith)
+    (λ c. omega arith) loop-again returns-2)

@@ -4,18 +4,6 @@ use Rattle.custody.proofs.Windows.{bad-peer, bad-other}
 use Rattle.custody.proofs.bad_at.Statement.{statement}
 use Rattle.custody.proofs.bad_at.Tie as tie
 
-get-u64-requires : tie.Need-get-u64-requires
-get-u64-requires c κs = search needs
-
-add-same : tie.Need-add-same
-add-same c = search needs
-
-slice-aggregate-same : tie.Need-slice-aggregate-same
-slice-aggregate-same c = search needs
-
-same-requires : tie.Need-same-requires
-same-requires c κs = search needs
-
 returns : tie.Need-returns
 returns c = bad-peer _ _ _ _ _ (c .before .before .before .get-u64 .ensures) _ (c .before .before .if1 .taken) (search needs) (c .same .ensures)
 
@@ -23,4 +11,7 @@ returns-2 : tie.Need-returns-2
 returns-2 c = bad-other _ _ _ _ _ (c .before .get-u64 .ensures) (c .if1 .left)
 
 pub bad-at-spec : {M : Type 1} → statement M
-bad-at-spec = tie.close (tie.spec get-u64-requires add-same slice-aggregate-same same-requires returns returns-2)
+bad-at-spec =
+    tie.close
+    (tie.spec
+    (λ c κs. search needs) (λ c. search needs) (λ c. search needs) (λ c κs. search needs) returns returns-2)

@@ -7,22 +7,13 @@ use Rattle.custody.proofs.Laws.{key-run}
 use Rattle.custody.proofs.carried_tagged.Statement.{statement}
 use Rattle.custody.proofs.carried_tagged.Tie as tie
 
-fit-requires : tie.Need-fit-requires
-fit-requires c κs = search needs
-
-slice-aggregate-find : tie.Need-slice-aggregate-find
-slice-aggregate-find c = search needs
-
-find-requires : tie.Need-find-requires
-find-requires c κs = search needs
-
-is-at-requires : tie.Need-is-at-requires
-is-at-requires c κs = search needs
-
 returns : tie.Need-returns
 unfolding carriedOf
 returns c =
     c .is-at .ensures ∙ table-any carriedCodec _ _ _ (c .before .before .before .fit .ensures .is) _ _ (λ b. key-run 16 16 _ b (search needs)) _ (c .before .find .ensures)
 
 pub carried-tagged-spec : {M : Type 1} → statement M
-carried-tagged-spec = tie.close (tie.spec fit-requires slice-aggregate-find find-requires is-at-requires returns)
+carried-tagged-spec =
+    tie.close
+    (tie.spec
+    (λ c κs. search needs) (λ c. search needs) (λ c κs. search needs) (λ c κs. search needs) returns)

@@ -14,26 +14,17 @@ returns c =
     let on = not-true _ (c .if1 .taken) in
     λ a ed eo ec et es em ev. sym (code-of (view a) _ _ _ false _ _ _ (enabled-in a ed on) refl refl refl)
 
-valid-requires : tie.Need-valid-requires
-valid-requires c κs = search needs
-
 returns-2 : tie.Need-returns-2
 returns-2 c =
     let on = not-false _ (c .before .before .if1 .left) in
     let good = sym (c .before .valid .ensures) ∙ not-true _ (c .if2 .taken) in
     λ a ed eo ec et es em ev. sym (code-of (view a) _ _ _ true false _ _ (enabled-in a ed on) (ap (envelopeValid _ _ _) (sym em) ∙ good) refl refl)
 
-duplicate-requires : tie.Need-duplicate-requires
-duplicate-requires c κs = search needs
-
 returns-3 : tie.Need-returns-3
 returns-3 c =
     let on = not-false _ (c .before .before .before .before .before .before .if1 .left) in
     let good = sym (c .before .before .before .before .before .valid .ensures) ∙ not-false _ (c .before .before .before .before .if2 .left) in
     λ a ed eo ec et es em ev. sym (code-of (view a) _ _ _ true true true _ (enabled-in a ed on) (ap (envelopeValid _ _ _) (sym em) ∙ good) (sym (c .before .duplicate .ensures a ed eo ec et) ∙ c .if3 .taken) refl)
-
-full-for-requires : tie.Need-full-for-requires
-full-for-requires c κs = search needs
 
 returns-4 : tie.Need-returns-4
 returns-4 c =
@@ -50,4 +41,5 @@ returns-5 c =
 pub custody-of-spec : {M : Type 1} → statement M
 custody-of-spec =
     tie.close
-    (tie.spec returns valid-requires returns-2 duplicate-requires returns-3 full-for-requires returns-4 returns-5)
+    (tie.spec
+    returns (λ c κs. search needs) returns-2 (λ c κs. search needs) returns-3 (λ c κs. search needs) returns-4 returns-5)

@@ -22,29 +22,8 @@ Inv-loop carried count id n sum₀ i₀ sum i =
 abbrev μ-loop : tie.MeasureT-loop
 μ-loop carried count id n sum₀ i₀ sum i = n - i
 
-fit-requires : tie.Need-fit-requires Inv-loop μ-loop
-fit-requires c κs = search needs
-
 loop-holds : tie.Need-loop-holds Inv-loop μ-loop
 loop-holds c = (omega arith, (omega arith, omega arith))
-
-mul-get-u64 : tie.Need-mul-get-u64 Inv-loop μ-loop
-mul-get-u64 c = omega arith
-
-add-get-u64 : tie.Need-add-get-u64 Inv-loop μ-loop
-add-get-u64 c = omega arith
-
-get-u64-requires : tie.Need-get-u64-requires Inv-loop μ-loop
-get-u64-requires c κs = omega arith
-
-add-sum : tie.Need-add-sum Inv-loop μ-loop
-add-sum c = omega arith
-
-add-i : tie.Need-add-i Inv-loop μ-loop
-add-i c = omega arith
-
-loop-less : tie.Need-loop-less Inv-loop μ-loop
-loop-less c = omega arith
 
 loop-again : tie.Need-loop-again Inv-loop μ-loop
 loop-again c =
@@ -63,15 +42,5 @@ pub deposited-spec : {M : Type 1} → statement M
 deposited-spec =
     tie.close
     (tie.spec
-    Inv-loop
-    μ-loop
-    fit-requires
-    loop-holds
-    mul-get-u64
-    add-get-u64
-    get-u64-requires
-    add-sum
-    add-i
-    loop-less
-    loop-again
-    returns)
+    Inv-loop μ-loop (λ c κs. search needs) loop-holds (λ c. omega arith) (λ c. omega arith) (λ c κs. omega arith)
+    (λ c. omega arith) (λ c. omega arith) (λ c. omega arith) loop-again returns)

@@ -7,22 +7,13 @@ use Rattle.model.specs.Tombs.{tombstoned}
 use Rattle.custody.proofs.duplicate.Statement.{statement}
 use Rattle.custody.proofs.duplicate.Tie as tie
 
-own-tagged-requires : tie.Need-own-tagged-requires
-own-tagged-requires c κs = search needs
-
 returns : tie.Need-returns
 returns c = λ a ed eo ec et. sym (duplicate-of _ a ed eo ec et true _ _ (sym (c .before .own-tagged .ensures) ∙ c .if1 .taken) refl refl)
-
-carried-tagged-requires : tie.Need-carried-tagged-requires
-carried-tagged-requires c κs = search needs
 
 returns-2 : tie.Need-returns-2
 returns-2 c =
     let p = sym (c .before .before .before .own-tagged .ensures) ∙ c .before .before .if1 .left in
     λ a ed eo ec et. sym (duplicate-of _ a ed eo ec et false true _ p (sym (c .before .carried-tagged .ensures) ∙ c .if2 .taken) refl)
-
-tombstoned-requires : tie.Need-tombstoned-requires
-tombstoned-requires c κs = search needs
 
 returns-3 : tie.Need-returns-3
 unfolding tombstoned
@@ -33,4 +24,6 @@ returns-3 c =
 
 pub duplicate-spec : {M : Type 1} → statement M
 duplicate-spec =
-    tie.close (tie.spec own-tagged-requires returns carried-tagged-requires returns-2 tombstoned-requires returns-3)
+    tie.close
+    (tie.spec
+    (λ c κs. search needs) returns (λ c κs. search needs) returns-2 (λ c κs. search needs) returns-3)

@@ -8,16 +8,13 @@ use Rattle.custody.proofs.Cells.{named-table}
 use Rattle.custody.proofs.free_carried_cell.Statement.{statement}
 use Rattle.custody.proofs.free_carried_cell.Tie as tie
 
-fit-requires : tie.Need-fit-requires
-fit-requires c κs = search needs
-
-free-cell-requires : tie.Need-free-cell-requires
-free-cell-requires c κs = search needs
-
 returns : tie.Need-returns
 unfolding carriedOf
 returns c =
     c .free-cell .ensures ∙ ap (freeCell _) (named-table carriedCodec (λ (r : Carried). r .cell) _ _ _ _ (c .before .fit .ensures .is) (λ b. refl))
 
 pub free-carried-cell-spec : {M : Type 1} → statement M
-free-carried-cell-spec = tie.close (tie.spec fit-requires free-cell-requires returns)
+free-carried-cell-spec =
+    tie.close
+    (tie.spec
+    (λ c κs. search needs) (λ c κs. search needs) returns)

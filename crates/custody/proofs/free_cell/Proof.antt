@@ -18,25 +18,13 @@ Inv-loop area width n offset size cells i₀ i =
 abbrev μ-loop : tie.MeasureT-loop
 μ-loop area width n offset size cells i₀ i = cells - i
 
-least-requires : tie.Need-least-requires Inv-loop μ-loop
-least-requires c κs = search needs
-
 loop-holds : tie.Need-loop-holds Inv-loop μ-loop
 loop-holds c = (omega arith, free-start _ _ _ (c .least .ensures))
-
-names-cell-requires : tie.Need-names-cell-requires Inv-loop μ-loop
-names-cell-requires c κs = search needs
 
 returns : tie.Need-returns Inv-loop μ-loop
 returns c =
     let l = c .before .before .before .loop in
     sym (l .inv .1 ∙ free-next _ (l .i) _ false (omega arith) (sym (c .before .names-cell .ensures) ∙ not-true _ (c .if1 .taken)))
-
-add-i : tie.Need-add-i Inv-loop μ-loop
-add-i c = omega arith
-
-loop-less : tie.Need-loop-less Inv-loop μ-loop
-loop-less c = omega arith
 
 loop-again : tie.Need-loop-again Inv-loop μ-loop
 loop-again c =
@@ -49,4 +37,6 @@ returns-2 c = let l = c .before .loop in sym (l .inv .1 ∙ free-end _ (l .i) _ 
 pub free-cell-spec : {M : Type 1} → statement M
 free-cell-spec =
     tie.close
-    (tie.spec Inv-loop μ-loop least-requires loop-holds names-cell-requires returns add-i loop-less loop-again returns-2)
+    (tie.spec
+    Inv-loop μ-loop (λ c κs. search needs) loop-holds (λ c κs. search needs) returns (λ c. omega arith) (λ c. omega arith)
+    loop-again returns-2)

@@ -8,16 +8,13 @@ use Rattle.custody.proofs.Cells.{named-table}
 use Rattle.custody.proofs.free_own_cell.Statement.{statement}
 use Rattle.custody.proofs.free_own_cell.Tie as tie
 
-fit-requires : tie.Need-fit-requires
-fit-requires c κs = search needs
-
-free-cell-requires : tie.Need-free-cell-requires
-free-cell-requires c κs = search needs
-
 returns : tie.Need-returns
 unfolding ownOf
 returns c =
     c .free-cell .ensures ∙ ap (freeCell _) (named-table ownCodec (λ (r : Own). r .cell) _ _ _ _ (c .before .fit .ensures .is) (λ b. refl))
 
 pub free-own-cell-spec : {M : Type 1} → statement M
-free-own-cell-spec = tie.close (tie.spec fit-requires free-cell-requires returns)
+free-own-cell-spec =
+    tie.close
+    (tie.spec
+    (λ c κs. search needs) (λ c κs. search needs) returns)

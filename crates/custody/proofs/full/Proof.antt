@@ -13,16 +13,10 @@ use Rattle.custody.proofs.full.Tie as tie
 returns : tie.Need-returns
 returns c = λ s peer en eb ev ed. sym (full-of _ s peer en eb ev ed true _ _ (le-leb _ _ (c .if1 .taken)) refl refl)
 
-over-bytes-requires : tie.Need-over-bytes-requires
-over-bytes-requires c κs = search needs
-
 returns-2 : tie.Need-returns-2
 returns-2 c =
     let p = lt-leb _ _ (c .before .before .if1 .left) in
     λ s peer en eb ev ed. sym (full-of _ s peer en eb ev ed false true _ p (sym (c .before .over-bytes .ensures) ∙ c .if2 .taken) refl)
-
-quota-requires : tie.Need-quota-requires
-quota-requires c κs = search needs
 
 returns-3 : tie.Need-returns-3
 returns-3 c =
@@ -31,4 +25,7 @@ returns-3 c =
     λ s peer en eb ev ed. sym (full-of _ s peer en eb ev ed false false _ p q (ap (λ (k : ℕ). leb k (c .before .before .before .before .args .ours)) (sym (c .quota .ensures))))
 
 pub full-spec : {M : Type 1} → statement M
-full-spec = tie.close (tie.spec returns over-bytes-requires returns-2 quota-requires returns-3)
+full-spec =
+    tie.close
+    (tie.spec
+    returns (λ c κs. search needs) returns-2 (λ c κs. search needs) returns-3)

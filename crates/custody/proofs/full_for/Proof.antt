@@ -8,18 +8,6 @@ use Rattle.model.specs.Custody.{carriedTotal, deposited}
 use Rattle.custody.proofs.full_for.Statement.{statement}
 use Rattle.custody.proofs.full_for.Tie as tie
 
-row-count-requires : tie.Need-row-count-requires
-row-count-requires c κs = search needs
-
-carried-total-requires : tie.Need-carried-total-requires
-carried-total-requires c κs = search needs
-
-deposited-requires : tie.Need-deposited-requires
-deposited-requires c κs = search needs
-
-full-requires : tie.Need-full-requires
-full-requires c κs = search needs
-
 returns : tie.Need-returns
 returns c =
     let peer = c .before .before .before .before .before .before .args .peer in
@@ -28,4 +16,7 @@ returns c =
     (c .before .deposited .ensures ∙ ap (λ (l : List Carried). deposited l peer) (sym ec))
 
 pub full-for-spec : {M : Type 1} → statement M
-full-for-spec = tie.close (tie.spec row-count-requires carried-total-requires deposited-requires full-requires returns)
+full-for-spec =
+    tie.close
+    (tie.spec
+    (λ c κs. search needs) (λ c κs. search needs) (λ c κs. search needs) (λ c κs. search needs) returns)

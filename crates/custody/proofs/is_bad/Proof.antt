@@ -19,29 +19,14 @@ Inv-loop bad count tag id n i₀ i =
 abbrev μ-loop : tie.MeasureT-loop
 μ-loop bad count tag id n i₀ i = n - i
 
-fit-requires : tie.Need-fit-requires Inv-loop μ-loop
-fit-requires c κs = search needs
-
 loop-holds : tie.Need-loop-holds Inv-loop μ-loop
 loop-holds c = (omega arith, refl)
-
-mul-bad-at : tie.Need-mul-bad-at Inv-loop μ-loop
-mul-bad-at c = omega arith
-
-bad-at-requires : tie.Need-bad-at-requires Inv-loop μ-loop
-bad-at-requires c κs = omega arith
 
 returns : tie.Need-returns Inv-loop μ-loop
 returns c =
     let l = c .before .before .before .loop in
     let f = c .before .before .before .before .fit .ensures .is in
     sym (bad-next _ _ _ _ _ f (l .i) (l .inv .1) true (omega arith) (sym (c .before .bad-at .ensures) ∙ c .if1 .taken))
-
-add-i : tie.Need-add-i Inv-loop μ-loop
-add-i c = omega arith
-
-loop-less : tie.Need-loop-less Inv-loop μ-loop
-loop-less c = omega arith
 
 loop-again : tie.Need-loop-again Inv-loop μ-loop
 loop-again c =
@@ -56,14 +41,5 @@ pub is-bad-spec : {M : Type 1} → statement M
 is-bad-spec =
     tie.close
     (tie.spec
-    Inv-loop
-    μ-loop
-    fit-requires
-    loop-holds
-    mul-bad-at
-    bad-at-requires
-    returns
-    add-i
-    loop-less
-    loop-again
-    returns-2)
+    Inv-loop μ-loop (λ c κs. search needs) loop-holds (λ c. omega arith) (λ c κs. omega arith) returns (λ c. omega arith)
+    (λ c. omega arith) loop-again returns-2)

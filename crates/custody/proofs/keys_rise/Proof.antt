@@ -17,31 +17,13 @@ Inv-loop window n i₀ i = (i ≤ n) × (keysRise (windowRows window) ≡ keysRi
 abbrev μ-loop : tie.MeasureT-loop
 μ-loop window n i₀ i = n - i
 
-fit-requires : tie.Need-fit-requires Inv-loop μ-loop
-fit-requires c κs = search needs
-
 loop-holds : tie.Need-loop-holds Inv-loop μ-loop
 loop-holds c = (omega arith, refl)
-
-add-loop : tie.Need-add-loop Inv-loop μ-loop
-add-loop c = omega arith
-
-mul-rises : tie.Need-mul-rises Inv-loop μ-loop
-mul-rises c = omega arith
-
-rises-requires : tie.Need-rises-requires Inv-loop μ-loop
-rises-requires c κs = omega arith
 
 returns : tie.Need-returns Inv-loop μ-loop
 returns c =
     let l = c .before .before .before .loop in
     sym (l .inv .1 ∙ rise-next _ _ (c .before .before .before .before .fit .ensures .is) (l .i) false (omega arith) (sym (c .before .rises .ensures) ∙ not-true _ (c .if1 .taken)))
-
-add-i : tie.Need-add-i Inv-loop μ-loop
-add-i c = omega arith
-
-loop-less : tie.Need-loop-less Inv-loop μ-loop
-loop-less c = omega arith
 
 loop-again : tie.Need-loop-again Inv-loop μ-loop
 loop-again c =
@@ -55,15 +37,5 @@ pub keys-rise-spec : {M : Type 1} → statement M
 keys-rise-spec =
     tie.close
     (tie.spec
-    Inv-loop
-    μ-loop
-    fit-requires
-    loop-holds
-    add-loop
-    mul-rises
-    rises-requires
-    returns
-    add-i
-    loop-less
-    loop-again
-    returns-2)
+    Inv-loop μ-loop (λ c κs. search needs) loop-holds (λ c. omega arith) (λ c. omega arith) (λ c κs. omega arith) returns
+    (λ c. omega arith) (λ c. omega arith) loop-again returns-2)

@@ -7,18 +7,12 @@ use Rattle.custody.proofs.Windows.{key-front}
 use Rattle.custody.proofs.lookup_prefix.Statement.{statement}
 use Rattle.custody.proofs.lookup_prefix.Tie as tie
 
-fit-requires : tie.Need-fit-requires
-fit-requires c κs = search needs
-
-slice-aggregate-scan : tie.Need-slice-aggregate-scan
-slice-aggregate-scan c = search needs
-
-scan-requires : tie.Need-scan-requires
-scan-requires c κs = search needs
-
 returns : tie.Need-returns
 unfolding lookup windowRows reachableOf
 returns c = table-find reachableCodec _ _ _ (c .before .before .fit .ensures .is) _ _ (λ b. key-front 14 _ b (search needs)) _ (c .scan .ensures)
 
 pub lookup-prefix-spec : {M : Type 1} → statement M
-lookup-prefix-spec = tie.close (tie.spec fit-requires slice-aggregate-scan scan-requires returns)
+lookup-prefix-spec =
+    tie.close
+    (tie.spec
+    (λ c κs. search needs) (λ c. search needs) (λ c κs. search needs) returns)

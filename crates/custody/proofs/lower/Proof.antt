@@ -13,4 +13,7 @@ returns-3 : tie.Need-returns-3
 returns-3 c = simp (le-ltb _ _ (c .before .if1 .left), ne-eqb _ _ (c .if2 .left))
 
 pub lower-spec : {M : Type 1} → statement M
-lower-spec = tie.close (tie.spec returns returns-2 returns-3)
+lower-spec =
+    tie.close
+    (tie.spec
+    returns returns-2 returns-3)

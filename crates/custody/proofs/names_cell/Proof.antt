@@ -1,5 +1,4 @@
 -- `custody::names_cell`: whether a row names the cell is whether one from i on does. Assumes nothing.
-use borrow.Author.Needs.{needs}
 use borrow.Author.Tests.{eq-eqb, ne-eqb}
 use mathlib.Core.Path.{_≡_, refl, sym, _∙_}
 use mathlib.Core.Bool.{true, false}
@@ -33,20 +32,11 @@ add-get-u16 c = let s = c .before .before .before .args in omega (arith, row-in 
 get-u16-requires : tie.Need-get-u16-requires Inv-loop μ-loop
 get-u16-requires c κs = let s = c .before .before .before .args in omega (arith, row-in (c .before .loop .i) (s .n) (s .width) (omega arith))
 
-cast-if1 : tie.Need-cast-if1 Inv-loop μ-loop
-cast-if1 c = omega arith
-
 returns : tie.Need-returns Inv-loop μ-loop
 returns c =
     let s = c .before .before .before .before .before in
     let l = c .before .before .before .loop in
     sym (cell-next _ _ _ _ (s .pre .1) (s .args .cell) (l .i) (l .inv .1) _ true (omega arith) (c .before .get-u16 .ensures) (eq-eqb _ _ (c .if1 .taken)))
-
-add-i : tie.Need-add-i Inv-loop μ-loop
-add-i c = omega arith
-
-loop-less : tie.Need-loop-less Inv-loop μ-loop
-loop-less c = omega arith
 
 loop-again : tie.Need-loop-again Inv-loop μ-loop
 loop-again c =
@@ -64,15 +54,5 @@ pub names-cell-spec : {M : Type 1} → statement M
 names-cell-spec =
     tie.close
     (tie.spec
-    Inv-loop
-    μ-loop
-    loop-holds
-    mul-get-u16
-    add-get-u16
-    get-u16-requires
-    cast-if1
-    returns
-    add-i
-    loop-less
-    loop-again
-    returns-2)
+    Inv-loop μ-loop loop-holds mul-get-u16 add-get-u16 get-u16-requires (λ c. omega arith) returns (λ c. omega arith)
+    (λ c. omega arith) loop-again returns-2)

@@ -14,4 +14,7 @@ returns-2 : tie.Need-returns-2
 returns-2 c = let s = c .before .args in ltb-same (1048539 - s .len) (s .bytes) 1048576 (s .bytes + (37 + s .len)) (λ h. omega arith) (λ h. omega arith)
 
 pub over-bytes-spec : {M : Type 1} → statement M
-over-bytes-spec = tie.close (tie.spec returns returns-2)
+over-bytes-spec =
+    tie.close
+    (tie.spec
+    returns returns-2)

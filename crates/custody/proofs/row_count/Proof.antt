@@ -6,11 +6,11 @@ use Rattle.table.proofs.TableLaws.{length-table}
 use Rattle.custody.proofs.row_count.Statement.{statement}
 use Rattle.custody.proofs.row_count.Tie as tie
 
-fit-requires : tie.Need-fit-requires
-fit-requires c κs = search needs
-
 returns : tie.Need-returns
 returns c = c .fit .ensures .is ∙ sym (length-table carriedCodec _ _)
 
 pub row-count-spec : {M : Type 1} → statement M
-row-count-spec = tie.close (tie.spec fit-requires returns)
+row-count-spec =
+    tie.close
+    (tie.spec
+    (λ c κs. search needs) returns)

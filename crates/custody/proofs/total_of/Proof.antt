@@ -19,29 +19,8 @@ Inv-loop carried count size n sum₀ i₀ sum i =
 abbrev μ-loop : tie.MeasureT-loop
 μ-loop carried count size n sum₀ i₀ sum i = n - i
 
-fit-requires : tie.Need-fit-requires Inv-loop μ-loop
-fit-requires c κs = search needs
-
 loop-holds : tie.Need-loop-holds Inv-loop μ-loop
 loop-holds c = (omega arith, (omega arith, omega arith))
-
-mul-ciphertext-length : tie.Need-mul-ciphertext-length Inv-loop μ-loop
-mul-ciphertext-length c = omega arith
-
-ciphertext-length-requires : tie.Need-ciphertext-length-requires Inv-loop μ-loop
-ciphertext-length-requires c κs = search needs
-
-add-sum : tie.Need-add-sum Inv-loop μ-loop
-add-sum c = omega arith
-
-add-sum-2 : tie.Need-add-sum-2 Inv-loop μ-loop
-add-sum-2 c = omega arith
-
-add-i : tie.Need-add-i Inv-loop μ-loop
-add-i c = omega arith
-
-loop-less : tie.Need-loop-less Inv-loop μ-loop
-loop-less c = omega arith
 
 loop-again : tie.Need-loop-again Inv-loop μ-loop
 loop-again c =
@@ -56,15 +35,5 @@ pub total-of-spec : {M : Type 1} → statement M
 total-of-spec =
     tie.close
     (tie.spec
-    Inv-loop
-    μ-loop
-    fit-requires
-    loop-holds
-    mul-ciphertext-length
-    ciphertext-length-requires
-    add-sum
-    add-sum-2
-    add-i
-    loop-less
-    loop-again
-    returns)
+    Inv-loop μ-loop (λ c κs. search needs) loop-holds (λ c. omega arith) (λ c κs. search needs) (λ c. omega arith)
+    (λ c. omega arith) (λ c. omega arith) (λ c. omega arith) loop-again returns)

@@ -17,35 +17,14 @@ Inv-loop window n i₀ i = (i ≤ n) × (any wrongDirection (windowRows window) 
 abbrev μ-loop : tie.MeasureT-loop
 μ-loop window n i₀ i = n - i
 
-fit-requires : tie.Need-fit-requires Inv-loop μ-loop
-fit-requires c κs = search needs
-
 loop-holds : tie.Need-loop-holds Inv-loop μ-loop
 loop-holds c = (omega arith, refl)
-
-mul-no-dir : tie.Need-mul-no-dir Inv-loop μ-loop
-mul-no-dir c = omega arith
-
-add-no-dir : tie.Need-add-no-dir Inv-loop μ-loop
-add-no-dir c = omega arith
-
-shared-slice-read-no-dir : tie.Need-shared-slice-read-no-dir Inv-loop μ-loop
-shared-slice-read-no-dir c = omega arith
-
-no-dir-requires : tie.Need-no-dir-requires Inv-loop μ-loop
-no-dir-requires c κs = search needs
 
 returns : tie.Need-returns Inv-loop μ-loop
 returns c =
     let l = c .before .before .before .before .loop in
     let f = c .before .before .before .before .before .fit .ensures .is in
     sym (direction-next _ _ f (l .i) (l .inv .1) true (omega arith) (omega arith) (sym (c .before .no-dir .ensures) ∙ c .if1 .taken))
-
-add-i : tie.Need-add-i Inv-loop μ-loop
-add-i c = omega arith
-
-loop-less : tie.Need-loop-less Inv-loop μ-loop
-loop-less c = omega arith
 
 loop-again : tie.Need-loop-again Inv-loop μ-loop
 loop-again c =
@@ -60,16 +39,5 @@ pub wrong-directions-spec : {M : Type 1} → statement M
 wrong-directions-spec =
     tie.close
     (tie.spec
-    Inv-loop
-    μ-loop
-    fit-requires
-    loop-holds
-    mul-no-dir
-    add-no-dir
-    shared-slice-read-no-dir
-    no-dir-requires
-    returns
-    add-i
-    loop-less
-    loop-again
-    returns-2)
+    Inv-loop μ-loop (λ c κs. search needs) loop-holds (λ c. omega arith) (λ c. omega arith) (λ c. omega arith)
+    (λ c κs. search needs) returns (λ c. omega arith) (λ c. omega arith) loop-again returns-2)

@@ -10,14 +10,8 @@ use Rattle.custody.proofs.wrong_window.Tie as tie
 returns : tie.Need-returns
 returns c = sym (wrong-of _ true _ _ (lt-ltb _ _ (c .if1 .taken)) refl refl)
 
-wrong-directions-requires : tie.Need-wrong-directions-requires
-wrong-directions-requires c κs = search needs
-
 returns-2 : tie.Need-returns-2
 returns-2 c = sym (wrong-of _ false true _ (le-ltb _ _ (c .before .before .if1 .left)) (sym (c .before .wrong-directions .ensures) ∙ c .if2 .taken) refl)
-
-keys-rise-requires : tie.Need-keys-rise-requires
-keys-rise-requires c κs = search needs
 
 returns-3 : tie.Need-returns-3
 returns-3 c =
@@ -26,4 +20,6 @@ returns-3 c =
 
 pub wrong-window-spec : {M : Type 1} → statement M
 wrong-window-spec =
-    tie.close (tie.spec returns wrong-directions-requires returns-2 keys-rise-requires returns-3)
+    tie.close
+    (tie.spec
+    returns (λ c κs. search needs) returns-2 (λ c κs. search needs) returns-3)

@@ -20,23 +20,8 @@ Inv-loop tombstones count n best₀ low₀ i₀ best low i =
 abbrev μ-loop : tie.MeasureT-loop
 μ-loop tombstones count n best₀ low₀ i₀ best low i = n - i
 
-fit-requires : tie.Need-fit-requires Inv-loop μ-loop
-fit-requires c κs = omega arith
-
 loop-holds : tie.Need-loop-holds Inv-loop μ-loop
 loop-holds c = (omega arith, (omega arith, refl))
-
-mul-expiry-at : tie.Need-mul-expiry-at Inv-loop μ-loop
-mul-expiry-at c = omega arith
-
-expiry-at-requires : tie.Need-expiry-at-requires Inv-loop μ-loop
-expiry-at-requires c κs = omega arith
-
-add-i : tie.Need-add-i Inv-loop μ-loop
-add-i c = omega arith
-
-loop-less : tie.Need-loop-less Inv-loop μ-loop
-loop-less c = omega arith
 
 loop-again : tie.Need-loop-again Inv-loop μ-loop
 loop-again c =
@@ -66,4 +51,5 @@ pub least-expiry-spec : {M : Type 1} → statement M
 least-expiry-spec =
     tie.close
     (tie.spec
-    Inv-loop μ-loop fit-requires loop-holds mul-expiry-at expiry-at-requires add-i loop-less loop-again returns)
+    Inv-loop μ-loop (λ c κs. omega arith) loop-holds (λ c. omega arith) (λ c κs. omega arith) (λ c. omega arith) (λ c. omega arith)
+    loop-again returns)

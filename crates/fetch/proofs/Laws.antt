@@ -1,0 +1,96 @@
+-- Laws of the search for an envelope.
+-- Assumes nothing.
+use mathlib.Core.Path.{_≡_, sym, ap, ap₂, _∙_, subst}
+use mathlib.Core.Bool.{Bool, false, cond, not, _&&_}
+use mathlib.Core.List.{List}
+use Prim.Native.Nat.{ℕ, _+_, _-_, _*_, _≤_, _<_, min}
+use native.Mathlib.Omega.{arith}
+use lib.ListN.{length, take, drop}
+use lib.Dec.{eqb}
+use borrow.Author.Tests.{eq-eqb, ne-eqb}
+use Rattle.octets.specs.Bytes.{part, splice, num, sameBytes}
+use Rattle.octets.proofs.Parts.{part-part, part-whole}
+use Rattle.core.specs.declared.ContactId.{ContactId}
+use Rattle.table.specs.declared.Found.the-variants.{At, Nothing}
+use Rattle.table.specs.Lists.{positionFrom}
+use Rattle.table.specs.Rows.{held, hasKey}
+use Rattle.table.specs.Codec.{tableOf}
+use Rattle.table.proofs.FindLaws.{position-next, position-end}
+use Rattle.table.proofs.TableLaws.{length-table, table-next}
+use Rattle.rows.specs.declared.Own.{Own}
+use Rattle.rows.specs.declared.Carried.{Carried}
+use Rattle.rows.specs.Rows.{ownCodec, ownOf, replyBytes}
+use Rattle.courier.specs.declared.Header.{Header}
+use Rattle.courier.specs.Courier.{headerBytes}
+use Rattle.model.specs.Calls.{ofOwn, ofCarried, replyCell, envelopeReply}
+use Rattle.model.specs.Exchange.{ownEnvelopeOf, carriedEnvelopeOf}
+use Rattle.model.specs.Cells.{cellStart, cellLength, ciphertext}
+use Rattle.fetch.specs.Fetch.{forOthers, Given}
+
+-- the row at a place, by its contact and its tag
+module _ (a tag : List ℕ) (at id v : ℕ) (e : v ≡ num (part a at 8)) where
+  pub its-own : v ≡ id → false ≡ (not (eqb (num (part a at 8)) id) && sameBytes (part a (at + 12) 16) tag)
+  its-own q = sym (ap (λ (b : Bool). not b && sameBytes (part a (at + 12) 16) tag) (eq-eqb (num (part a at 8)) id (sym e ∙ q)))
+
+  pub other : (r : Bool) → (v ≡ id → ⊥) → length tag ≡ 16 → r ≡ sameBytes (part a (at + 12) 16) (part tag 0 16)
+      → r ≡ (not (eqb (num (part a at 8)) id) && sameBytes (part a (at + 12) 16) tag)
+  other r q l f =
+      f ∙ ap₂ (λ (b : Bool) (t : List ℕ). not b && sameBytes (part a (at + 12) 16) t) (sym (ne-eqb (num (part a at 8)) id (λ z. q (e ∙ z)))) (part-whole tag 16 l)
+
+-- what the comparison at row i says of the rows from i on
+module _ (count n : ℕ) (a : List ℕ) (peer : ContactId) (tag : List ℕ) (held-n : n ≡ held (length a) 54 count) (i : ℕ) where
+  abbrev T : List Own
+  T = tableOf ownCodec count a
+
+  pub others-next : (b : Bool) → i < n → (not (eqb (num (part a (i * 54) 8)) (peer .0)) && sameBytes (part a (i * 54 + 12) 16) tag) ≡ b
+      → positionFrom i (forOthers peer tag) (drop i T) ≡ cond b (At i) (positionFrom (i + 1) (forOthers peer tag) (drop (i + 1) T))
+  unfolding ownOf
+  others-next b h e =
+      let z : i * 54 + 0 ≡ i * 54 = omega arith in
+      position-next (forOthers peer tag) T i _ b (table-next ownCodec count a i (omega arith))
+      (ap₂ (λ (p t : List ℕ). not (eqb (num p) (peer .0)) && sameBytes t tag)
+      (part-part a (i * 54) 54 0 8 (omega arith) ∙ ap (λ (k : ℕ). part a k 8) z) (part-part a (i * 54) 54 12 16 (omega arith)) ∙ e)
+
+  pub others-end : n ≤ i → positionFrom i (forOthers peer tag) (drop i T) ≡ Nothing
+  others-end h = position-end (forOthers peer tag) T i (omega (arith, length-table ownCodec count a))
+
+-- a row that has a key of n bytes
+pub key-run : (o n : ℕ) (key b : List ℕ) → length key ≡ n → hasKey o key b ≡ sameBytes (part b o n) key
+unfolding hasKey
+key-run o n key b e = ap (λ (k : ℕ). sameBytes (part b o k) key) e
+
+-- ---- the ciphertext
+
+pub part-inside : (a : List ℕ) (cell len n : ℕ) → cell * 2064 ≤ length a → n ≡ min (min len 2064) (length a - cell * 2064)
+    → take (cell * 2064 + n - cell * 2064) (drop (cell * 2064) a) ≡ ciphertext a cell len
+unfolding ciphertext cellStart cellLength part
+part-inside a cell len n h q =
+    let x : cell * 2064 ≡ min (cell * 2064) (length a) = omega arith in
+    let y : cell * 2064 + n - cell * 2064 ≡ min (min len 2064) (length a - cell * 2064) = omega arith in
+    ap₂ (λ (s m : ℕ). take m (drop s a)) x y
+
+pub part-outside : (a : List ℕ) (cell len : ℕ) → length a < cell * 2064 → take 0 a ≡ ciphertext a cell len
+unfolding ciphertext cellStart cellLength part
+part-outside a cell len h =
+    let z : min (min len 2064) (length a - cell * 2064) ≡ 0 = omega arith in ap (λ (m : ℕ). take m (drop (min (cell * 2064) (length a)) a)) (sym z)
+
+-- ---- what is written
+
+pub envelope-row : (lent back b body : List ℕ) (cell : ℕ) (h : Header) → body ≡ headerBytes h → b ≡ replyBytes (record { kind = 1; cell = cell; body = body })
+    → back ≡ splice lent 0 b → back ≡ splice lent 0 (replyBytes (envelopeReply ofOwn cell h))
+envelope-row lent back b body cell h e f g = g ∙ ap (splice lent 0) (f ∙ ap (λ (x : List ℕ). replyBytes (record { kind = 1; cell = cell; body = x })) e)
+
+module _ (cells lent ct back : List ℕ) (head : Header) where
+  pub given-own : (o x : Own) → o ≡ x → head ≡ ownEnvelopeOf o .head → back ≡ splice lent 0 (replyBytes (envelopeReply ofOwn (o .cell) head))
+      → ct ≡ ciphertext cells (o .cell) (o .len) → Given (ownEnvelopeOf x) cells lent ct back
+  unfolding ownEnvelopeOf
+  given-own o x e h f g =
+      subst (λ (y : Own). Given (ownEnvelopeOf y) cells lent ct back) e
+      (record { bytes = g; row = f ∙ ap (λ (y : Header). splice lent 0 (replyBytes (envelopeReply ofOwn (o .cell) y))) h })
+
+  pub given-carried : (k : ℕ) (o x : Carried) → o ≡ x → k ≡ replyCell ofCarried (o .cell) → head ≡ carriedEnvelopeOf o .head
+      → back ≡ splice lent 0 (replyBytes (envelopeReply ofOwn k head)) → ct ≡ ciphertext cells (o .cell) (o .len) → Given (carriedEnvelopeOf x) cells lent ct back
+  unfolding carriedEnvelopeOf
+  given-carried k o x e q h f g =
+      subst (λ (y : Carried). Given (carriedEnvelopeOf y) cells lent ct back) e
+      (record { bytes = g; row = f ∙ ap₂ (λ (n : ℕ) (y : Header). splice lent 0 (replyBytes (envelopeReply ofOwn n y))) q h })
