@@ -22,6 +22,7 @@ use chain::no_dir;
 use core::ContactId;
 use courier::Custody;
 use courier::Header;
+use octets::least;
 use rows::Device;
 use rows::Reachable;
 use table::Found;
@@ -88,12 +89,6 @@ pub fn deposited(carried: &[u8], count: usize, peer: ContactId) -> usize
         i += 1;
     }
     sum
-}
-
-fn least(a: usize, b: usize) -> usize
-    ensures { λ r. ⌜ r ≡ min a b ⌝ }
-{
-    if a < b { a } else { b }
 }
 
 // The length of a ciphertext in a cell area of size bytes: what lies inside the cell and the area.

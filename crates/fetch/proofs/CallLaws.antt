@@ -32,7 +32,7 @@ use Rattle.model.specs.Custody.{carriedOfTag}
 use Rattle.model.specs.Exchange.{Envelope, ownEnvelopeOf, carriedEnvelopeOf, envelopes, envelopeOfTag, noOwn, noCarried, replyFor, cellArea, fetchTests, fetched, receiveFetch}
 use Rattle.model.specs.Step.{tests, perform, step}
 use Rattle.model.specs.Areas.{Areas, Written, view, store, storeDevice, storeSession, answerAreas}
-use Rattle.contacts.proofs.CallLaws.{refused-here, not-here, no-test, quiet-call, refused-call}
+use Rattle.model.proofs.CallLaws.{refused-here, not-here, no-test, quiet-call, refused-call}
 use Rattle.fetch.specs.Fetch.{forOthers, Given, fetchedAs, cellsOf, fetchSays, repliesLent, fetchIn}
 use Rattle.fetch.proofs.SearchLaws.{own-found, carried-found, none-found}
 

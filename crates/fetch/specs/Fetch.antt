@@ -15,7 +15,7 @@ use Rattle.model.specs.Areas.{Areas, AnswerAreas}
 use Rattle.model.specs.Cells.{ciphertext}
 use Rattle.model.specs.Custody.{ownOfTag}
 use Rattle.model.specs.Exchange.{Envelope, notFor, replyFor}
-use Rattle.contacts.specs.Lent.{deviceIn, contactsIn, ownIn, carriedIn, ownCellsIn, carriedCellsIn}
+use Rattle.model.specs.Lent.{deviceIn, contactsIn, ownIn, carriedIn, ownCellsIn, carriedCellsIn}
 
 -- an own row with the tag that is not for the peer
 abbrev pub forOthers : ContactId → List ℕ → Own → Bool

@@ -12,10 +12,11 @@ ghost use Rattle.model.specs.Calls.{fetch as fetchCall, ofOwn, ofCarried, reply
 ghost use Rattle.model.specs.Cells.{ciphertext};
 ghost use Rattle.model.specs.Custody.{carriedOfTag};
 ghost use Rattle.model.specs.Exchange.{ownEnvelopeOf, carriedEnvelopeOf};
-ghost use Rattle.contacts.specs.Lent.{Does};
+ghost use Rattle.model.specs.Lent.{Does};
 ghost use Rattle.fetch.specs.Fetch.{forOthers, Given, fetchedAs, fetchSays, repliesLent, fetchIn};
 use core::ContactId;
 use courier::Header;
+use octets::least;
 use rows::Carried;
 use rows::Device;
 use rows::Own;
@@ -60,12 +61,6 @@ pub fn carried_of_tag(carried: &[u8], count: usize, tag: [u8; 16]) -> Found
 }
 
 // ---- its ciphertext
-
-fn least(a: usize, b: usize) -> usize
-    ensures { λ r. ⌜ r ≡ min a b ⌝ }
-{
-    if a < b { a } else { b }
-}
 
 // The ciphertext of a row that names a cell and a length: what lies inside the cell and the area.
 pub fn cell_part(cells: &[u8], cell: u16, len: u16) -> &[u8]

@@ -1,5 +1,6 @@
 // HMAC (FIPS 198-1) and HKDF (RFC 5869) with SHA-384.
 use hasher::Hasher;
+use octets::least;
 ghost use mathlib.Core.Path.{_≡_};
 ghost use mathlib.Core.List.{List, [], _∷_, _++_};
 ghost use Prim.Native.Nat.{ℕ, _+_, _-_, _*_, _≤_, _<_, min};
@@ -91,12 +92,6 @@ fn next_block(k: &[u64; 80], k0: [u8; 128], previous: &[u8], info: &[u8], i: u8)
     let b = hasher::update(k, a, info);
     let c = hasher::update(k, b, &counter);
     end(k, k0, c)
-}
-
-fn least(a: usize, b: usize) -> usize
-    ensures { λ r. ⌜ r ≡ min a b ⌝ }
-{
-    if a < b { a } else { b }
 }
 
 // T(i + 1), from T(i), which is the first `have` bytes of t; it is written at 48 i of out, as far as there is room.

@@ -1,8 +1,15 @@
 // Bytes in a lent area: runs copied and moved, runs compared, big-endian numbers read and written.
 ghost use mathlib.Core.Path.{_≡_};
-ghost use Prim.Native.Nat.{ℕ, _+_, _*_, _^_, _≤_, _<_};
+ghost use Prim.Native.Nat.{ℕ, _+_, _*_, _^_, _≤_, _<_, min};
 ghost use lib.ListN.{length};
 ghost use Rattle.octets.specs.Bytes.{Bytes, splice, part, num, be, lowFirst, sameBytes};
+
+// The lesser of two.
+pub fn least(a: usize, b: usize) -> usize
+    ensures { λ r. ⌜ r ≡ min a b ⌝ }
+{
+    if a < b { a } else { b }
+}
 
 // Copies src into dst, from index at on.
 pub fn copy_in(dst: &mut [u8], at: usize, src: &[u8])
