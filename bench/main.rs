@@ -1,5 +1,7 @@
 //! Times the proved functions beside plain Rust and OpenSSL's libcrypto: see README.md.
 
+mod custody;
+mod plain;
 #[path = "../oracle/hashes/src/sha384.rs"]
 mod sha384;
 
@@ -143,4 +145,5 @@ fn tags() {
 fn main() {
     hashes();
     tags();
+    custody::run();
 }

@@ -21,10 +21,27 @@ find_source() {
   exit 0
 }
 
+# Builds the program; the words go to cargo.
 build() {
   if ! command -v cargo >/dev/null; then
     echo "oracle: cargo is missing; Rust 1.95 builds the oracle" >&2
     exit 1
   fi
-  cargo build --release --offline --locked --quiet --manifest-path "$oracle/Cargo.toml" --target-dir "$oracle/target"
+  cargo build --release --offline --locked --quiet --manifest-path "$oracle/Cargo.toml" --target-dir "$oracle/target" "$@"
+}
+
+# Builds the program with the library linked in. The library is proved and built first, unless nothing under crates/ is newer than it.
+build_with_library() {
+  local root
+  root=$(cd "$oracle/.." && pwd)
+  export EXPORTS="$root/target/staticlib"
+  local library="$EXPORTS/libexports.a"
+  if [ ! -f "$library" ] || [ -n "$(find "$root/crates" "$root/crates.txt" -newer "$library" -print -quit)" ]; then
+    mkdir -p "$oracle/target"
+    if ! (cd "$root" && rt staticlib exports >"$oracle/target/staticlib.log" 2>&1); then
+      echo "oracle: rt staticlib exports failed; oracle/target/staticlib.log has what it said" >&2
+      exit 1
+    fi
+  fi
+  build --features library
 }

@@ -18,7 +18,7 @@ use Rattle.table.specs.Rows.{held}
 use Rattle.table.specs.Codec.{tableOf}
 use Rattle.table.proofs.RowLaws.{held-inside}
 use Rattle.table.proofs.TableLaws.{length-table, table-next, getD-table}
-use Rattle.table.proofs.FindLaws.{position-next, position-end, position-any, First, position-first}
+use Rattle.table.proofs.FindLaws.{position-next, position-end, position-any, position-first}
 use Rattle.rows.specs.declared.Contact.{Contact}
 use Rattle.rows.specs.Rows.{contactOf, contactCodec}
 use Rattle.model.specs.Basics.{matchFound}

@@ -1,2 +1,3 @@
 pub mod FindLaws
+pub mod WindowLaws
 pub mod ContactLaws

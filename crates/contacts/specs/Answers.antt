@@ -2,7 +2,6 @@
 -- Assumes nothing.
 use Prim.Native.Nat.{ℕ}
 use Rattle.core.specs.Core.{refusalNumber}
-use Rattle.core.specs.declared.Refusal.{Refusal}
 use Rattle.state.specs.declared.CourierConfig.{CourierConfig}
 use Rattle.rows.specs.declared.Device.{Device}
 use Rattle.rows.specs.declared.Exchange.{Exchange}

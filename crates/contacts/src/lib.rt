@@ -1,5 +1,6 @@
 // Contacts and the clock in minutes, and the calls that set them: contact, setting, clock, fresh exchange.
 ghost use mathlib.Core.Path.{_≡_};
+ghost use mathlib.Core.Bool.{true, not};
 ghost use mathlib.Core.List.{[], _∷_, _++_};
 ghost use Prim.Native.Nat.{_+_, _*_, _≤_, _<_};
 ghost use lib.ListN.{length};
@@ -10,6 +11,7 @@ ghost use Rattle.rows.specs.declared.Exchange.{Exchange as AnExchange};
 ghost use Rattle.rows.specs.Rows.{contactWidth, contactCodec};
 ghost use Rattle.model.specs.Calls.{contact as contactCall, setting as settingCall, clock as clockCall, openExchange};
 ghost use Rattle.model.specs.Contacts.{nowMin, lifetimeEnd, contactPlace, known as knownOf, isVerified, addedBefore};
+ghost use Rattle.model.specs.Window.{windowRows, strangers as someStranger};
 ghost use Rattle.model.specs.Lent.{Does, noAnswers, deviceIn, contactsIn, exchangeIn};
 ghost use Rattle.contacts.specs.Answers.{saidOf, openedOf, exchangeAfter, deviceWith};
 use core::ContactId;
@@ -93,6 +95,45 @@ pub fn added_before(contacts: &[u8], count: usize, id: ContactId) -> usize
         Found::At(i) => i,
         Found::Nothing => table::fit(contacts.len(), rows::CONTACT_WIDTH, count),
     }
+}
+
+// Is a contact not known? The one before it is, and so it is looked for only where it is another.
+fn is_stranger(contacts: &[u8], count: usize, before: u64, id: u64) -> bool
+    requires { ⌜ knownOf (tableOf contactCodec count (now contacts)) (record { 0 = before }) ≡ true ⌝ }
+    ensures { λ r. ⌜ r ≡ not (knownOf (tableOf contactCodec count (now (contacts .entry))) (record { 0 = id })) ⌝ }
+{
+    if before == id {
+        return false;
+    }
+    !known(contacts, count, ContactId(id))
+}
+
+// Number 2 of a window: a contact in it isn't known. The rows of a contact follow each other.
+pub fn strangers(contacts: &[u8], count: usize, window: &[u8]) -> bool
+    ensures { λ r. ⌜ r ≡ someStranger (tableOf contactCodec count (now (contacts .entry))) (windowRows (now (window .entry))) ⌝ }
+{
+    let n = table::fit(
+        window.len(),
+        rows::REACHABLE_WIDTH,
+        window.len() / rows::REACHABLE_WIDTH,
+    );
+    if n == 0 {
+        return false;
+    }
+    let mut before = octets::get_u64(window, 0);
+    if !known(contacts, count, ContactId(before)) {
+        return true;
+    }
+    let mut i = 0;
+    while i < n {
+        let id = octets::get_u64(window, i * rows::REACHABLE_WIDTH);
+        if is_stranger(contacts, count, before, id) {
+            return true;
+        }
+        before = id;
+        i += 1;
+    }
+    false
 }
 
 // ---- the calls

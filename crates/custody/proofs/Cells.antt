@@ -10,6 +10,7 @@ use lib.ListN.{length, drop, length-map}
 use lib.Dec.{eqb}
 use Rattle.octets.specs.Bytes.{part, num}
 use Rattle.octets.proofs.Parts.{part-part}
+use Rattle.table.specs.declared.Found.{Found}
 use Rattle.table.specs.declared.Found.the-variants.{At, Nothing}
 use Rattle.table.specs.Lists.{any}
 use Rattle.table.specs.Rows.{held, rows}
@@ -47,12 +48,12 @@ module _ (w n o : ℕ) (a : List ℕ) (fits : o + 2 ≤ w) where
     pub cell-end : n ≤ i → false ≡ any (λ (k : ℕ). eqb k cell) named
     cell-end h = sym (left ∙ any-end (λ (k : ℕ). eqb k cell) named i (omega (arith, length-named)))
 
--- the cells that typed rows name
-pub named-table : {A : Type 0} (c : Codec A) (cell : A → ℕ) (o count n : ℕ) (a : List ℕ) → n ≡ held (length a) (c .width) count
-    → ((b : List ℕ) → num (part b o 2) ≡ cell (c .decode b)) → cellsNamed (c .width) o n a ≡ map cell (tableOf c count a)
+-- the first free cell, by the cells that typed rows name
+pub free-table : {A : Type 0} (c : Codec A) (cell : A → ℕ) (o size count n : ℕ) (a : List ℕ) (f : Found) → n ≡ held (length a) (c .width) count
+    → ((b : List ℕ) → num (part b o 2) ≡ cell (c .decode b)) → f ≡ freeCell size (cellsNamed (c .width) o n a) → f ≡ freeCell size (map cell (tableOf c count a))
 unfolding cellsNamed tableOf
-named-table {A} c cell o count n a e same =
-    ap (λ (k : ℕ). map (cellOf o) (rows (c .width) k a)) e ∙ go (rows (c .width) (held (length a) (c .width) count) a)
+free-table {A} c cell o size count n a f e same q =
+    q ∙ ap (freeCell size) (ap (λ (k : ℕ). map (cellOf o) (rows (c .width) k a)) e ∙ go (rows (c .width) (held (length a) (c .width) count) a))
   where
     go : (rs : List (List ℕ)) → map (cellOf o) rs ≡ map cell (map (c .decode) rs)
     go [] = refl

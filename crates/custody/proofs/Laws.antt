@@ -8,39 +8,38 @@ use native.Mathlib.Omega.{arith}
 use lib.ListN.{length, drop, drop-of-length-le}
 use lib.Dec.{eqb, leb, ltb}
 use borrow.Author.Tests.{lt-ltb, le-ltb, ltb-true, ltb-false}
-use Rattle.octets.specs.Bytes.{part, num, sameBytes}
+use Rattle.octets.specs.Bytes.{part, num}
 use Rattle.octets.proofs.Parts.{part-part}
 use Rattle.core.specs.declared.ContactId.{ContactId}
 use Rattle.courier.specs.declared.Header.{Header}
 use Rattle.courier.specs.declared.Custody.{Custody}
 use Rattle.courier.specs.declared.Custody.the-variants as custody
 use Rattle.courier.specs.Courier.{envelopeValid}
-use Rattle.table.specs.Lists.{any, countBy}
-use Rattle.table.specs.Rows.{held, hasKey}
+use Rattle.table.specs.Lists.{any}
+use Rattle.table.specs.Rows.{held}
 use Rattle.table.specs.Codec.{tableOf}
 use Rattle.table.proofs.FindLaws.{count-next, count-end}
+use Rattle.table.proofs.RowLaws.{held-inside}
 use Rattle.table.proofs.TableLaws.{length-table, table-next}
 use Rattle.rows.specs.declared.Device.{Device}
 use Rattle.rows.specs.declared.Carried.{Carried}
-use Rattle.rows.specs.Rows.{ownCodec, carriedCodec, tombstoneCodec, carriedWidth, carriedOf}
+use Rattle.rows.specs.declared.Contact.{Contact}
+use Rattle.rows.specs.Rows.{contactCodec, ownCodec, carriedCodec, tombstoneCodec, carriedWidth, carriedOf}
 use Rattle.model.specs.Basics.{sameContact}
 use Rattle.model.specs.State.{State}
 use Rattle.model.specs.Areas.{Areas, view}
 use Rattle.model.specs.Contacts.{minuteOf, isVerified}
 use Rattle.model.specs.Cells.{cellLength}
-use Rattle.model.specs.Custody.{ownOfTag, carriedOfTag, tombstoneOfTag, quota, duplicate, deposited, carriedTotal, full, custodyOf}
-
--- a row that has a key of n bytes
-pub key-run : (o n : ℕ) (key b : List ℕ) → length key ≡ n → hasKey o key b ≡ sameBytes (part b o n) key
-unfolding hasKey
-key-run o n key b e = ap (λ (k : ℕ). sameBytes (part b o k) key) e
+use Rattle.model.specs.Custody.{ownOfTag, carriedOfTag, quota, duplicate, deposited, carriedTotal, full, custodyOf}
+use Rattle.model.specs.Tombs.{tombstoned}
+use Rattle.model.proofs.Laws.{carried-total}
 
 -- what own, carried and tombstone rows say of a tag is what duplicate says
 pub duplicate-of : {device : Device} {own carried tombstones : List ℕ} (tag : List ℕ) (a : Areas) → a .device ≡ device → a .own ≡ own → a .carried ≡ carried
     → a .tombstones ≡ tombstones → (o c t : Bool) → any (ownOfTag tag) (tableOf ownCodec (device .own) own) ≡ o
     → any (carriedOfTag tag) (tableOf carriedCodec (device .carried) carried) ≡ c
-    → any (tombstoneOfTag tag) (tableOf tombstoneCodec (device .tombstones) tombstones) ≡ t → duplicate (view a) tag ≡ (o || c || t)
-unfolding duplicate view
+    → tombstoned (tableOf tombstoneCodec (device .tombstones) tombstones) tag ≡ t → duplicate (view a) tag ≡ (o || c || t)
+unfolding duplicate tombstoned view
 duplicate-of tag a ed eo ec et o c t po pc pt = rw (ed, eo, ec, et, po, pc, pt)
 
 -- ---- carried rows by depositor
@@ -94,11 +93,19 @@ ltb-same a b c d up down = go (ltb a b) refl
     go true e = e ∙ sym (lt-ltb c d (up (ltb-true a b e)))
     go false e = e ∙ sym (le-ltb c d (down (ltb-false a b e)))
 
-pub full-of : {count bytes held : ℕ} {verified : Bool} (len : ℕ) (s : State) (peer : ContactId) → count ≡ length (s .carried)
-    → bytes ≡ carriedTotal (length (s .carriedCells)) (s .carried) → verified ≡ isVerified (s .contacts) peer → held ≡ deposited (s .carried) peer
-    → (x y z : Bool) → leb 256 count ≡ x → ltb 1048576 (bytes + (37 + len)) ≡ y → leb (quota verified) held ≡ z → full s peer len ≡ (x || y || z)
+-- a ciphertext that fits a cell never passes the limit of bytes
+pub few-bytes : (size len count : ℕ) (a : List ℕ) → length a ≤ 14592 → len ≤ 2064
+    → ltb 1048576 (carriedTotal size (tableOf carriedCodec count a) + (37 + len)) ≡ false
+few-bytes size len count a e h =
+    let T : List Carried = tableOf carriedCodec count a in
+    le-ltb 1048576 (carriedTotal size T + (37 + len))
+    (omega (arith, carried-total size T, length-table carriedCodec count a, held-inside (length a) 57 count))
+
+pub full-of : {size : ℕ} {rows : List Carried} {contacts : List Contact} (len : ℕ) (peer : ContactId) (s : State) → s .carried ≡ rows → s .contacts ≡ contacts
+    → size ≡ length (s .carriedCells) → (x y z : Bool) → leb 256 (length rows) ≡ x → ltb 1048576 (carriedTotal size rows + (37 + len)) ≡ y
+    → leb (quota (isVerified contacts peer)) (deposited rows peer) ≡ z → full s peer len ≡ (x || y || z)
 unfolding full
-full-of len s peer en eb ev ed x y z px py pz = rw (← en, ← eb, ← ev, ← ed, px, py, pz)
+full-of len peer s er ec es x y z px py pz = rw (er, ec, ← es, px, py, pz)
 
 -- ---- the code, and what the areas say of its parts
 
@@ -116,6 +123,10 @@ module _ {device : Device} (a : Areas) (e : a .device ≡ device) where
   pub enabled-in : {o : Bool} → device .courier .enabled ≡ o → view a .courier .enabled ≡ o
   unfolding view
   enabled-in p = rw e p
+
+  pub contacts-in : {x : List ℕ} → a .contacts ≡ x → view a .contacts ≡ tableOf contactCodec (device .contacts) x
+  unfolding view
+  contacts-in p = rw (e, p)
 
   pub carried-in : {x : List ℕ} → a .carried ≡ x → view a .carried ≡ tableOf carriedCodec (device .carried) x
   unfolding view

@@ -2,23 +2,23 @@
 ghost use mathlib.Core.Path.{_≡_};
 ghost use mathlib.Core.Bool.{_||_, _&&_};
 ghost use mathlib.Core.List.{map};
-ghost use Prim.Native.Nat.{_+_, _*_, _≤_, min};
+ghost use Prim.Native.Nat.{_+_, _*_, _≤_};
 ghost use lib.Dec.{eqb, ltb};
 ghost use Rattle.octets.specs.Bytes.{part, num, sameBytes};
 ghost use Rattle.core.specs.declared.ContactId.{ContactId};
 ghost use lib.ListN.{length};
 ghost use Rattle.table.specs.Lists.{any, isAt};
 ghost use Rattle.table.specs.Codec.{tableOf};
-ghost use Rattle.rows.specs.Rows.{ownCodec, carriedCodec, tombstoneCodec, badTagCodec, reachableOf};
-ghost use Rattle.chain.specs.Chain.{dirOf, noDir};
+ghost use Rattle.rows.specs.Rows.{contactCodec, ownCodec, carriedCodec, badTagCodec, reachableOf};
 ghost use Rattle.model.specs.State.{State};
 ghost use Rattle.model.specs.Areas.{Areas, view};
-ghost use Rattle.model.specs.Contacts.{minuteOf, isVerified};
+ghost use Rattle.model.specs.Contacts.{minuteOf};
 ghost use Rattle.model.specs.Cells.{cellLength, freeCell};
 ghost use Rattle.model.specs.Window.{windowRows, lookup, wrongDirection, keyBelow, keysRise, wrongWindow, isBad};
 ghost use Rattle.custody.specs.Named.{cellsNamed};
-ghost use Rattle.model.specs.Custody.{ownOfTag, carriedOfTag, tombstoneOfTag, maxCarriedBytes, envelopeHeader, quota, duplicate, deposited, carriedTotal, full, custodyOf};
+ghost use Rattle.model.specs.Custody.{ownOfTag, carriedOfTag, maxCarriedBytes, envelopeHeader, quota, duplicate, deposited, carriedTotal, full, custodyOf};
 use chain::no_dir;
+use contacts::is_verified;
 use core::ContactId;
 use courier::Custody;
 use courier::Header;
@@ -115,7 +115,7 @@ fn ciphertext_length(carried: &[u8], at: usize, size: usize) -> usize
 }
 
 // Header and ciphertext bytes of carried rows, in a cell area of size bytes. There are 256 rows at most, so that the sum fits.
-fn total_of(carried: &[u8], count: usize, size: usize) -> usize
+fn carried_total(carried: &[u8], count: usize, size: usize) -> usize
     requires { ⌜ length (now carried) ≤ 14592 ⌝ }
     ensures { λ r. ⌜ r ≡ carriedTotal size (tableOf carriedCodec count (now (carried .entry))) ⌝ }
 {
@@ -127,12 +127,6 @@ fn total_of(carried: &[u8], count: usize, size: usize) -> usize
         i += 1;
     }
     sum
-}
-
-pub fn carried_total(carried: &[u8; 14592], count: usize, size: usize) -> usize
-    ensures { λ r. ⌜ r ≡ carriedTotal size (tableOf carriedCodec count (now (carried .entry))) ⌝ }
-{
-    total_of(carried, count, size)
 }
 
 fn quota(verified: bool) -> usize
@@ -151,17 +145,42 @@ fn over_bytes(bytes: usize, len: usize) -> bool
     1048539 - len < bytes
 }
 
-// Full over its parts: how many carried rows there are, their bytes, and how many of them the peer deposited.
-pub fn full(count: usize, bytes: usize, len: usize, verified: bool, ours: usize) -> bool
-    ensures { λ r. ⌜ ((s : State) (peer : ContactId) → count ≡ length (s .carried) → bytes ≡ carriedTotal (length (s .carriedCells)) (s .carried) → verified ≡ isVerified (s .contacts) peer → ours ≡ deposited (s .carried) peer → r ≡ full s peer len) ⌝ }
+// The same, over the carried rows. 256 of them have 537,856 bytes at most, so that a ciphertext which fits a cell never passes it.
+fn too_many_bytes(carried: &[u8], count: usize, size: usize, len: usize) -> bool
+    requires { ⌜ length (now carried) ≤ 14592 ⌝ }
+    ensures { λ r. ⌜ r ≡ ltb maxCarriedBytes (carriedTotal size (tableOf carriedCodec count (now (carried .entry))) + (envelopeHeader + len)) ⌝ }
 {
-    if 256 <= count {
+    if len <= 2064 {
+        return false;
+    }
+    over_bytes(carried_total(carried, count, size), len)
+}
+
+fn row_count(carried: &[u8], count: usize) -> usize
+    ensures { λ r. ⌜ r ≡ length (tableOf carriedCodec count (now (carried .entry))) ⌝ }
+{
+    table::fit(carried.len(), rows::CARRIED_WIDTH, count)
+}
+
+// Full, of an envelope of len ciphertext bytes, in a cell area of size bytes.
+pub fn full(
+    carried: &[u8; 14592],
+    count: usize,
+    size: usize,
+    len: usize,
+    contacts: &[u8],
+    known: usize,
+    peer: ContactId,
+) -> bool
+    ensures { λ r. ⌜ ((s : State) → s .carried ≡ tableOf carriedCodec count (now (carried .entry)) → s .contacts ≡ tableOf contactCodec known (now (contacts .entry)) → size ≡ length (s .carriedCells) → r ≡ full s peer len) ⌝ }
+{
+    if 256 <= row_count(carried, count) {
         return true;
     }
-    if over_bytes(bytes, len) {
+    if too_many_bytes(carried, count, size, len) {
         return true;
     }
-    quota(verified) <= ours
+    quota(is_verified(contacts, known, peer)) <= deposited(carried, count, peer)
 }
 
 // ---- the cell of a new row
@@ -355,42 +374,20 @@ pub fn is_bad(bad: &[u8], count: usize, peer: ContactId, tag: [u8; 16]) -> bool
 
 // ---- `custody`
 
-fn row_count(carried: &[u8], count: usize) -> usize
-    ensures { λ r. ⌜ r ≡ length (tableOf carriedCodec count (now (carried .entry))) ⌝ }
-{
-    table::fit(carried.len(), rows::CARRIED_WIDTH, count)
-}
-
-// Full, of an envelope of len ciphertext bytes, in a cell area of size bytes.
-pub fn full_for(
-    carried: &[u8; 14592],
-    count: usize,
-    size: usize,
-    len: usize,
-    verified: bool,
-    peer: ContactId,
-) -> bool
-    ensures { λ r. ⌜ ((s : State) → s .carried ≡ tableOf carriedCodec count (now (carried .entry)) → size ≡ length (s .carriedCells) → verified ≡ isVerified (s .contacts) peer → r ≡ full s peer len) ⌝ }
-{
-    let n = row_count(carried, count);
-    let bytes = carried_total(carried, count, size);
-    full(n, bytes, len, verified, deposited(carried, count, peer))
-}
-
 // The tests Off, Invalid, Duplicate, Full: the first that applies is the code.
 pub fn custody_of(
     device: Device,
     minute: u32,
-    verified: bool,
     peer: ContactId,
     head: Header,
     len: usize,
+    contacts: &[u8],
     own: &[u8],
     carried: &[u8; 14592],
     tombstones: &[u8],
     size: usize,
 ) -> Custody
-    ensures { λ r. ⌜ ((a : Areas) → a .device ≡ device → a .own ≡ now (own .entry) → a .carried ≡ now (carried .entry) → a .tombstones ≡ now (tombstones .entry) → size ≡ length (a .carriedCells) → minute ≡ minuteOf (view a) → verified ≡ isVerified (view a .contacts) peer → r ≡ custodyOf (view a) peer head len) ⌝ }
+    ensures { λ r. ⌜ ((a : Areas) → a .device ≡ device → a .contacts ≡ now (contacts .entry) → a .own ≡ now (own .entry) → a .carried ≡ now (carried .entry) → a .tombstones ≡ now (tombstones .entry) → size ≡ length (a .carriedCells) → minute ≡ minuteOf (view a) → r ≡ custodyOf (view a) peer head len) ⌝ }
 {
     let config = device.courier;
     if !config.enabled {
@@ -403,7 +400,15 @@ pub fn custody_of(
     if duplicate(device, own, carried, tombstones, tag) {
         return Custody::Duplicate;
     }
-    if full_for(carried, device.carried, size, len, verified, peer) {
+    if full(
+        carried,
+        device.carried,
+        size,
+        len,
+        contacts,
+        device.contacts,
+        peer,
+    ) {
         return Custody::Full;
     }
     Custody::Accepted

@@ -15,8 +15,8 @@ use Rattle.table.specs.declared.Found.the-variants.{At, Nothing}
 use Rattle.table.specs.Lists.{position}
 use Rattle.table.specs.Rows.{held, join, written}
 use Rattle.table.specs.Codec.{tableOf, withTable}
-use Rattle.table.proofs.RowLaws.{held-inside, written-splice}
-use Rattle.table.proofs.TableLaws.{length-table, getD-table}
+use Rattle.table.proofs.RowLaws.{held-inside}
+use Rattle.table.proofs.TableLaws.{length-table, getD-table, with-one}
 use Rattle.table.proofs.FindLaws.{position-first}
 use Rattle.rows.specs.declared.Device.{Device}
 use Rattle.rows.specs.declared.Own.{Own}
@@ -33,7 +33,8 @@ use Rattle.model.specs.Exchange.{Envelope, ownEnvelopeOf, carriedEnvelopeOf, en
 use Rattle.model.specs.Step.{tests, perform, step}
 use Rattle.model.specs.Areas.{Areas, Written, view, store, storeDevice, storeSession, answerAreas}
 use Rattle.model.proofs.CallLaws.{refused-here, not-here, no-test, quiet-call, refused-call}
-use Rattle.fetch.specs.Fetch.{forOthers, Given, fetchedAs, cellsOf, fetchSays, repliesLent, fetchIn}
+use Rattle.model.specs.Lent.{repliesLent}
+use Rattle.fetch.specs.Fetch.{forOthers, Given, fetchedAs, cellsOf, fetchSays, fetchIn}
 use Rattle.fetch.proofs.SearchLaws.{own-found, carried-found, none-found}
 
 -- ---- the row that is found is in the table
@@ -53,10 +54,6 @@ module _ (count : ℕ) (a tag : List ℕ) {i : ℕ} where
 
     pub carried-row : i * 57 + 57 ≤ length a
     carried-row = omega (arith, carried-inside, held-inside (length a) 57 count)
-
-one-reply : (lent x : List ℕ) (p : Reply) → x ≡ splice lent 0 (replyBytes p) → x ≡ withTable replyCodec lent (p ∷ [])
-unfolding withTable join
-one-reply lent x p h = h ∙ ap (splice lent 0) (sym (append-nil (replyBytes p))) ∙ sym (written-splice lent (replyBytes p ∷ []))
 
 -- ---- the ways out
 
@@ -108,7 +105,7 @@ module _ (d : Device) (peer : ContactId) (tag contacts own carried oc cc lent : 
       given e r back s G = rw s (record {
         answer = ap (fetchedAs 0) (G .bytes ∙ ap (λ (n : ℕ). part (cellsOf oc cc (e .cells)) (cellStart n (e .cell)) (cellLength n (e .cell) (e .len))) (ap length (area (e .cells))));
         areas = refl;
-        answers = ap repliesLent (one-reply lent back (replyFor e) (G .row));
+        answers = ap repliesLent (with-one replyCodec lent back _ (replyFor e) refl (G .row));
       })
 
       pub says-own : (i : ℕ) (r back : List ℕ) → At i ≡ position (forOthers peer tag) To → Given (ownEnvelopeOf (ownOf (part own (i * 54) 54))) oc lent r back → Says 0 r back

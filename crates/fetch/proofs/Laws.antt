@@ -13,7 +13,7 @@ use Rattle.octets.proofs.Parts.{part-part, part-whole}
 use Rattle.core.specs.declared.ContactId.{ContactId}
 use Rattle.table.specs.declared.Found.the-variants.{At, Nothing}
 use Rattle.table.specs.Lists.{positionFrom}
-use Rattle.table.specs.Rows.{held, hasKey}
+use Rattle.table.specs.Rows.{held}
 use Rattle.table.specs.Codec.{tableOf}
 use Rattle.table.proofs.FindLaws.{position-next, position-end}
 use Rattle.table.proofs.TableLaws.{length-table, table-next}
@@ -21,7 +21,6 @@ use Rattle.rows.specs.declared.Own.{Own}
 use Rattle.rows.specs.declared.Carried.{Carried}
 use Rattle.rows.specs.Rows.{ownCodec, ownOf, replyBytes}
 use Rattle.courier.specs.declared.Header.{Header}
-use Rattle.courier.specs.Courier.{headerBytes}
 use Rattle.model.specs.Calls.{ofOwn, ofCarried, replyCell, envelopeReply}
 use Rattle.model.specs.Exchange.{ownEnvelopeOf, carriedEnvelopeOf}
 use Rattle.model.specs.Cells.{cellStart, cellLength, ciphertext}
@@ -54,11 +53,6 @@ module _ (count n : ℕ) (a : List ℕ) (peer : ContactId) (tag : List ℕ) (hel
   pub others-end : n ≤ i → positionFrom i (forOthers peer tag) (drop i T) ≡ Nothing
   others-end h = position-end (forOthers peer tag) T i (omega (arith, length-table ownCodec count a))
 
--- a row that has a key of n bytes
-pub key-run : (o n : ℕ) (key b : List ℕ) → length key ≡ n → hasKey o key b ≡ sameBytes (part b o n) key
-unfolding hasKey
-key-run o n key b e = ap (λ (k : ℕ). sameBytes (part b o k) key) e
-
 -- ---- the ciphertext
 
 pub part-inside : (a : List ℕ) (cell len n : ℕ) → cell * 2064 ≤ length a → n ≡ min (min len 2064) (length a - cell * 2064)
@@ -75,10 +69,6 @@ part-outside a cell len h =
     let z : min (min len 2064) (length a - cell * 2064) ≡ 0 = omega arith in ap (λ (m : ℕ). take m (drop (min (cell * 2064) (length a)) a)) (sym z)
 
 -- ---- what is written
-
-pub envelope-row : (lent back b body : List ℕ) (cell : ℕ) (h : Header) → body ≡ headerBytes h → b ≡ replyBytes (record { kind = 1; cell = cell; body = body })
-    → back ≡ splice lent 0 b → back ≡ splice lent 0 (replyBytes (envelopeReply ofOwn cell h))
-envelope-row lent back b body cell h e f g = g ∙ ap (splice lent 0) (f ∙ ap (λ (x : List ℕ). replyBytes (record { kind = 1; cell = cell; body = x })) e)
 
 module _ (cells lent ct back : List ℕ) (head : Header) where
   pub given-own : (o x : Own) → o ≡ x → head ≡ ownEnvelopeOf o .head → back ≡ splice lent 0 (replyBytes (envelopeReply ofOwn (o .cell) head))

@@ -11,7 +11,7 @@ use Rattle.rows.specs.declared.Own.{Own}
 use Rattle.rows.specs.declared.Device.{Device}
 use Rattle.rows.specs.Rows.{replyBytes}
 use Rattle.model.specs.Calls.{Cells, ofOwn, ofCarried, Answer, Result, refused, malformed, done, ours, found, missing, ownRow, noEnvelope, wrote}
-use Rattle.model.specs.Areas.{Areas, AnswerAreas}
+use Rattle.model.specs.Areas.{Areas}
 use Rattle.model.specs.Cells.{ciphertext}
 use Rattle.model.specs.Custody.{ownOfTag}
 use Rattle.model.specs.Exchange.{Envelope, notFor, replyFor}
@@ -54,10 +54,6 @@ fetchedOf own carried (wrote count) = fetchedAs 255 []
 
 abbrev pub fetchSays : List ℕ → List ℕ → Result → Fetched
 fetchSays own carried o = fetchedOf own carried (o .answer)
-
--- the call is lent the reply area alone for an answer
-abbrev pub repliesLent : List ℕ → AnswerAreas
-repliesLent area = record { replies = area; actions = []; bytes = [] }
 
 -- what the call is lent, set into areas that are anything otherwise
 abbrev pub fetchIn : Device → (contacts own carried ownCells carriedCells : List ℕ) → Areas → Areas

@@ -4,23 +4,19 @@ ghost use mathlib.Core.Bool.{not, _&&_};
 ghost use Prim.Native.Nat.{_+_, _≤_, min};
 ghost use lib.ListN.{length};
 ghost use lib.Dec.{eqb};
-ghost use Rattle.octets.specs.Bytes.{part, splice, num, sameBytes};
+ghost use Rattle.octets.specs.Bytes.{part, num, sameBytes};
 ghost use Rattle.table.specs.Lists.{position};
 ghost use Rattle.table.specs.Codec.{tableOf};
-ghost use Rattle.rows.specs.Rows.{ownCodec, carriedCodec, ownOf, carriedOf, replyBytes};
-ghost use Rattle.model.specs.Calls.{fetch as fetchCall, ofOwn, ofCarried, replyCell, envelopeReply};
+ghost use Rattle.rows.specs.Rows.{ownCodec, carriedCodec, ownOf, carriedOf};
+ghost use Rattle.model.specs.Calls.{fetch as fetchCall};
 ghost use Rattle.model.specs.Cells.{ciphertext};
 ghost use Rattle.model.specs.Custody.{carriedOfTag};
 ghost use Rattle.model.specs.Exchange.{ownEnvelopeOf, carriedEnvelopeOf};
-ghost use Rattle.model.specs.Lent.{Does};
-ghost use Rattle.fetch.specs.Fetch.{forOthers, Given, fetchedAs, fetchSays, repliesLent, fetchIn};
+ghost use Rattle.model.specs.Lent.{Does, repliesLent};
+ghost use Rattle.fetch.specs.Fetch.{forOthers, Given, fetchedAs, fetchSays, fetchIn};
 use core::ContactId;
-use courier::Header;
 use octets::least;
-use rows::Carried;
 use rows::Device;
-use rows::Own;
-use rows::Reply;
 use table::Found;
 
 // ---- the envelope
@@ -76,62 +72,13 @@ pub fn cell_part(cells: &[u8], cell: u16, len: u16) -> &[u8]
 
 // ---- its header, in a reply row
 
-fn own_header(row: Own) -> Header
-    ensures { λ r. ⌜ r ≡ ownEnvelopeOf row .head ⌝ }
-{
-    let tag = row.tag;
-    let s = row.s;
-    let c = courier::commitment(s);
-    Header {
-        tag,
-        c,
-        expiry_min: row.expiry_min,
-        copies: row.copies,
-    }
-}
-
-fn carried_header(row: Carried) -> Header
-    ensures { λ r. ⌜ r ≡ carriedEnvelopeOf row .head ⌝ }
-{
-    let tag = row.tag;
-    let c = row.c;
-    Header {
-        tag,
-        c,
-        expiry_min: row.expiry_min,
-        copies: row.copies,
-    }
-}
-
-// The cell of a carried envelope, as a reply says it.
-fn carried_cell(cell: u16) -> u16
-    ensures { λ r. ⌜ r ≡ replyCell ofCarried cell ⌝ }
-{
-    ((256 + cell as u64) % 65536) as u16
-}
-
-// Writes an envelope's row to the reply area.
-fn put_envelope(replies: &mut [u8], cell: u16, head: Header)
-    requires { ⌜ 40 ≤ length (now replies) ⌝ }
-    ensures { λ _. ⌜ now (replies .exit) ≡ splice (now (replies .entry)) 0 (replyBytes (envelopeReply ofOwn cell head)) ⌝ }
-{
-    let body = courier::header_bytes(head);
-    let row = Reply {
-        kind: 1,
-        cell,
-        body,
-    };
-    let b = rows::reply_bytes(row);
-    octets::copy_in(replies, 0, &b);
-}
-
 // Writes the own envelope at a place to the reply area, and answers its ciphertext.
 fn give_own<'c>(own: &[u8], at: usize, cells: &'c [u8], replies: &mut [u8]) -> &'c [u8]
     requires { ⌜ (at + 54 ≤ length (now own)) × (40 ≤ length (now replies)) ⌝ }
     ensures { λ r. ⌜ Given (ownEnvelopeOf (ownOf (part (now (own .entry)) at 54))) (now (cells .entry)) (now (replies .entry)) (now r) (now (replies .exit)) ⌝ }
 {
     let row = rows::own_at(own, at);
-    put_envelope(replies, row.cell, own_header(row));
+    answers::put_envelope(replies, 0, row.cell, answers::own_header(row));
     cell_part(cells, row.cell, row.len)
 }
 
@@ -141,7 +88,12 @@ fn give_carried<'c>(carried: &[u8], at: usize, cells: &'c [u8], replies: &mut [u
     ensures { λ r. ⌜ Given (carriedEnvelopeOf (carriedOf (part (now (carried .entry)) at 57))) (now (cells .entry)) (now (replies .entry)) (now r) (now (replies .exit)) ⌝ }
 {
     let row = rows::carried_at(carried, at);
-    put_envelope(replies, carried_cell(row.cell), carried_header(row));
+    answers::put_envelope(
+        replies,
+        0,
+        answers::carried_cell(row.cell),
+        answers::carried_header(row),
+    );
     cell_part(cells, row.cell, row.len)
 }
 

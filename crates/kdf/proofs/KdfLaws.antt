@@ -38,9 +38,6 @@ pub labelled-behind : (x label : List ℕ) → x ++ head label ++ label ≡ x ++
 unfolding labelled
 labelled-behind x label = append-assoc x (head label) label
 
-pub regroup : (p a b c : List ℕ) → p ++ a ++ b ++ c ≡ p ++ (a ++ b ++ c)
-regroup p a b c = simp append-assoc
-
 -- ---- sixteen bytes
 
 pub mac-bytes : (key label x k0 d b : List ℕ) → k0 ≡ K0 key → d ≡ keyed k0 (labelled label ++ x ++ []) → b ≡ part d 0 16 → b ≡ mac key label x

@@ -26,6 +26,11 @@ unfolding stepOf
 no-test p = refl
 
 module _ {A : Type 0} {says : Result → A} {r : A} {o : Result} {before after : Areas} {lent : AnswerAreas} where
+  -- a call that answers in the areas lent for it
+  pub answering-call : {back : AnswerAreas} (p : Result) → o ≡ p → r ≡ says p → after ≡ store before (p .change) → back ≡ answerAreas p lent
+      → Written says o r before after lent back
+  answering-call p e q s b = rw e (record { answer = q; areas = s; answers = b })
+
   -- a call that writes to no answer area
   pub quiet-call : (said : Answer) (change : Change) → o ≡ result said [] [] change → r ≡ says (result said [] [] change) → after ≡ store before change
       → Written says o r before after lent lent

@@ -169,12 +169,12 @@ sweeps = (refl, refl)
 
 -- ---- quotas
 
--- n carried rows of a peer, tags n − 1 down to 0
+-- n carried rows of a peer, tags n − 1 down to 0; they have expired, and count until a maintenance takes them
 rowsFrom : ℕ → ℕ → List Carried
 unfolding id ofByte
 rowsFrom peer zero = []
 rowsFrom peer (suc n) =
-    (record { slot = n; depositor = id peer; tag = ofByte n; c = ofByte 34; «expiry_min» = 100; copies = 6; len = 48; cell = 7 }) ∷ rowsFrom peer n
+    (record { slot = n; depositor = id peer; tag = ofByte n; c = ofByte 34; «expiry_min» = 0; copies = 6; len = 48; cell = 7 }) ∷ rowsFrom peer n
 
 -- contact 5, with so many rows, and one cell that none of them names
 holding : List Carried → Post

@@ -10,3 +10,4 @@ pub mod RunLaws
 pub mod CallLaws
 pub mod Corners
 pub mod Examples
+pub mod SearchLaws

@@ -13,6 +13,19 @@ use Rattle.model.specs.Areas.{Areas, SessionAreas, AnswerAreas, Written,
 abbrev pub noAnswers : AnswerAreas
 noAnswers = record { replies = []; actions = []; bytes = [] }
 
+-- a call that is lent replies, actions or both; or prefixes, a blob or a file
+abbrev pub repliesLent : List ℕ → AnswerAreas
+repliesLent area = record { replies = area; actions = []; bytes = [] }
+
+abbrev pub actionsLent : List ℕ → AnswerAreas
+actionsLent area = record { replies = []; actions = area; bytes = [] }
+
+abbrev pub answersLent : (replies actions : List ℕ) → AnswerAreas
+answersLent replies actions = record { replies = replies; actions = actions; bytes = [] }
+
+abbrev pub bytesLent : List ℕ → AnswerAreas
+bytesLent area = record { replies = []; actions = []; bytes = area }
+
 -- areas by their parts, in the record's order
 abbrev areas : Device → List ℕ → List ℕ → List ℕ → List ℕ → List ℕ → List ℕ → List ℕ → SessionAreas → Areas
 areas d c o r t b oc rc e = record {

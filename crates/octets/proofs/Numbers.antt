@@ -7,7 +7,7 @@ use native.Mathlib.Nat.{add-assoc, add-zero, mul-assoc, add-mul, mod-one, mod-eq
 use native.Mathlib.Omega.{arith}
 use lib.ListN.{length, take, drop, getD, length-append}
 use lib.Seq.{getD-drop}
-use lib.Pow.{mod-pow-add, pow-add, pow-pos, high}
+use lib.Pow.{mod-pow-add, pow-add, pow-pos, high, shr-shr, field, mod-mod-pow}
 use lib.Bits.{bitOr, or-shifted}
 use mir.Syntax.{w8}
 use mir.Val.{Fits}
@@ -168,3 +168,26 @@ num-8 a at h =
 pub or-halves : (a : List ℕ) (at : ℕ) {x y : ℕ} → at + 8 ≤ length a → x ≡ num (part a at 4) → y ≡ num (part a (at + 4) 4) → y < 2 ^ 32
     → bitOr (x * 2 ^ 32) y ≡ num (part a at 8)
 or-halves a at {x} {y} h p q l = or-shifted x 32 y l ∙ ap₂ (λ (m n : ℕ). m * 2 ^ 32 + n) p q ∙ sym (num-8 a at h)
+
+-- ---- the bytes of a number in two runs
+
+-- a number of j + k bytes: the high j, then the low k
+pub be-append : (j k v : ℕ) → be (j + k) v ≡ be j (v / 2 ^ (8 * k)) ++ be k v
+unfolding be
+be-append zero k v = let e : zero + k ≡ k = omega arith in rw e
+be-append (suc j) k v =
+    let e : suc j + k ≡ suc (j + k) = omega arith in
+    let d : 8 * (j + k) ≡ 8 * k + 8 * j = omega arith in
+    ap (λ (i : ℕ). be i v) e
+    ∙ ap₂ (λ (b : ℕ) (l : List ℕ). b ∷ l)
+    (ap (λ (i : ℕ). v / 2 ^ i % 256) d ∙ ap (λ (q : ℕ). q % 256) (sym (shr-shr v (8 * k) (8 * j)))) (be-append j k v)
+
+-- the low bytes do not see what stands above them
+pub be-mod : (k j v : ℕ) → be k (v % 2 ^ (j + 8 * k)) ≡ be k v
+unfolding be
+be-mod zero j v = refl
+be-mod (suc k) j v =
+    let e : j + 8 * suc k ≡ j + 8 + 8 * k = omega arith in
+    ap (λ (i : ℕ). be (suc k) (v % 2 ^ i)) e
+    ∙ ap₂ (λ (b : ℕ) (l : List ℕ). b ∷ l)
+    (ap (λ (q : ℕ). q % 256) (field v (j + 8) (8 * k)) ∙ mod-mod-pow (v / 2 ^ (8 * k)) j 8) (be-mod k (j + 8) v)

@@ -142,6 +142,20 @@ pub fn get_u64(area: &[u8], at: usize) -> u64
     high * 0x1_0000_0000 | low
 }
 
+pub fn get_u8(area: &[u8], at: usize) -> u8
+    requires { ⌜ at + 1 ≤ length (now area) ⌝ }
+    ensures { λ r. ⌜ r ≡ num (part (now (area .entry)) at 1) ⌝ }
+{
+    area[at]
+}
+
+pub fn put_u8(area: &mut [u8], at: usize, v: u8)
+    requires { ⌜ at + 1 ≤ length (now area) ⌝ }
+    ensures { λ _. ⌜ now (area .exit) ≡ splice (now (area .entry)) at (be 1 v) ⌝ }
+{
+    area[at] = v;
+}
+
 // The sixteen bytes of a tag, a commitment or a secret.
 pub fn get_16(area: &[u8], at: usize) -> [u8; 16]
     requires { ⌜ at + 16 ≤ length (now area) ⌝ }
@@ -150,6 +164,13 @@ pub fn get_16(area: &[u8], at: usize) -> [u8; 16]
     let mut t = [0u8; 16];
     copy_in(&mut t, 0, &area[at..at + 16]);
     t
+}
+
+pub fn put_16(area: &mut [u8], at: usize, v: [u8; 16])
+    requires { ⌜ at + 16 ≤ length (now area) ⌝ }
+    ensures { λ _. ⌜ (now (area .exit) ≡ splice (now (area .entry)) at v) × (length v ≡ 16) ⌝ }
+{
+    copy_in(area, at, &v);
 }
 
 pub fn be2(v: u16) -> [u8; 2]

@@ -153,20 +153,6 @@ impl Exchange {
 
 // ---- fields that octets has no function for
 
-fn get_u8(area: &[u8], at: usize) -> u8
-    requires { ⌜ at + 1 ≤ length (now area) ⌝ }
-    ensures { λ r. ⌜ r ≡ num (part (now (area .entry)) at 1) ⌝ }
-{
-    area[at]
-}
-
-fn put_u8(area: &mut [u8], at: usize, v: u8)
-    requires { ⌜ at + 1 ≤ length (now area) ⌝ }
-    ensures { λ _. ⌜ now (area .exit) ≡ splice (now (area .entry)) at (be 1 v) ⌝ }
-{
-    area[at] = v;
-}
-
 // The body of a reply.
 fn get_37(area: &[u8], at: usize) -> [u8; 37]
     requires { ⌜ at + 37 ≤ length (now area) ⌝ }
@@ -178,13 +164,6 @@ fn get_37(area: &[u8], at: usize) -> [u8; 37]
 }
 
 // A tag, a commitment or a secret.
-fn put_16(area: &mut [u8], at: usize, v: [u8; 16])
-    requires { ⌜ at + 16 ≤ length (now area) ⌝ }
-    ensures { λ _. ⌜ (now (area .exit) ≡ splice (now (area .entry)) at v) × (length v ≡ 16) ⌝ }
-{
-    octets::copy_in(area, at, &v);
-}
-
 fn put_37(area: &mut [u8], at: usize, v: [u8; 37])
     requires { ⌜ at + 37 ≤ length (now area) ⌝ }
     ensures { λ _. ⌜ (now (area .exit) ≡ splice (now (area .entry)) at v) × (length v ≡ 37) ⌝ }
@@ -227,7 +206,7 @@ pub fn carried_at(area: &[u8], at: usize) -> Carried
         tag,
         c,
         expiry_min: octets::get_u32(b, 48),
-        copies: get_u8(b, 52),
+        copies: octets::get_u8(b, 52),
         len: octets::get_u16(b, 53),
         cell: octets::get_u16(b, 55),
     }
@@ -246,8 +225,8 @@ pub fn own_at(area: &[u8], at: usize) -> Own
         tag,
         s,
         expiry_min: octets::get_u32(b, 44),
-        copies: get_u8(b, 48),
-        renewed: get_u8(b, 49),
+        copies: octets::get_u8(b, 48),
+        renewed: octets::get_u8(b, 49),
         len: octets::get_u16(b, 50),
         cell: octets::get_u16(b, 52),
     }
@@ -275,7 +254,7 @@ pub fn contact_at(area: &[u8], at: usize) -> Contact
     let b = &area[at..at + CONTACT_WIDTH];
     Contact {
         id: ContactId(octets::get_u64(b, 0)),
-        verification: get_u8(b, 8),
+        verification: octets::get_u8(b, 8),
     }
 }
 
@@ -299,7 +278,7 @@ pub fn offer_at(area: &[u8], at: usize) -> Offer
     let tag = octets::get_16(b, 0);
     Offer {
         tag,
-        copies: get_u8(b, 16),
+        copies: octets::get_u8(b, 16),
     }
 }
 
@@ -310,7 +289,7 @@ pub fn reply_at(area: &[u8], at: usize) -> Reply
     let b = &area[at..at + REPLY_WIDTH];
     let body = get_37(b, 3);
     Reply {
-        kind: get_u8(b, 0),
+        kind: octets::get_u8(b, 0),
         cell: octets::get_u16(b, 1),
         body,
     }
@@ -322,7 +301,7 @@ pub fn action_at(area: &[u8], at: usize) -> Action
 {
     let b = &area[at..at + ACTION_WIDTH];
     Action {
-        kind: get_u8(b, 0),
+        kind: octets::get_u8(b, 0),
         number: octets::get_u64(b, 1),
         msgno: octets::get_u32(b, 9),
     }
@@ -336,8 +315,8 @@ pub fn reachable_at(area: &[u8], at: usize) -> Reachable
     let tag = octets::get_16(b, 14);
     Reachable {
         contact: ContactId(octets::get_u64(b, 0)),
-        dir: get_u8(b, 8),
-        generation: get_u8(b, 9),
+        dir: octets::get_u8(b, 8),
+        generation: octets::get_u8(b, 9),
         idx: octets::get_u32(b, 10),
         tag,
     }
@@ -354,10 +333,10 @@ pub fn carried_bytes(row: Carried) -> [u8; CARRIED_WIDTH]
     let mut b = [0u8; CARRIED_WIDTH];
     octets::put_u64(&mut b, 0, row.slot);
     octets::put_u64(&mut b, 8, depositor.0);
-    put_16(&mut b, 16, tag);
-    put_16(&mut b, 32, c);
+    octets::put_16(&mut b, 16, tag);
+    octets::put_16(&mut b, 32, c);
     octets::put_u32(&mut b, 48, row.expiry_min);
-    put_u8(&mut b, 52, row.copies);
+    octets::put_u8(&mut b, 52, row.copies);
     octets::put_u16(&mut b, 53, row.len);
     octets::put_u16(&mut b, 55, row.cell);
     b
@@ -372,11 +351,11 @@ pub fn own_bytes(row: Own) -> [u8; OWN_WIDTH]
     let mut b = [0u8; OWN_WIDTH];
     octets::put_u64(&mut b, 0, contact.0);
     octets::put_u32(&mut b, 8, row.msgno);
-    put_16(&mut b, 12, tag);
-    put_16(&mut b, 28, s);
+    octets::put_16(&mut b, 12, tag);
+    octets::put_16(&mut b, 28, s);
     octets::put_u32(&mut b, 44, row.expiry_min);
-    put_u8(&mut b, 48, row.copies);
-    put_u8(&mut b, 49, row.renewed);
+    octets::put_u8(&mut b, 48, row.copies);
+    octets::put_u8(&mut b, 49, row.renewed);
     octets::put_u16(&mut b, 50, row.len);
     octets::put_u16(&mut b, 52, row.cell);
     b
@@ -389,8 +368,8 @@ pub fn tombstone_bytes(row: Tombstone) -> [u8; TOMBSTONE_WIDTH]
     let s = row.s;
     let mut b = [0u8; TOMBSTONE_WIDTH];
     octets::put_u64(&mut b, 0, row.slot);
-    put_16(&mut b, 8, tag);
-    put_16(&mut b, 24, s);
+    octets::put_16(&mut b, 8, tag);
+    octets::put_16(&mut b, 24, s);
     octets::put_u32(&mut b, 40, row.expiry_min);
     b
 }
@@ -401,7 +380,7 @@ pub fn contact_bytes(row: Contact) -> [u8; CONTACT_WIDTH]
     let id = row.id;
     let mut b = [0u8; CONTACT_WIDTH];
     octets::put_u64(&mut b, 0, id.0);
-    put_u8(&mut b, 8, row.verification);
+    octets::put_u8(&mut b, 8, row.verification);
     b
 }
 
@@ -412,7 +391,7 @@ pub fn bad_tag_bytes(row: BadTag) -> [u8; BAD_TAG_WIDTH]
     let tag = row.tag;
     let mut b = [0u8; BAD_TAG_WIDTH];
     octets::put_u64(&mut b, 0, peer.0);
-    put_16(&mut b, 8, tag);
+    octets::put_16(&mut b, 8, tag);
     b
 }
 
@@ -421,8 +400,8 @@ pub fn offer_bytes(row: Offer) -> [u8; OFFER_WIDTH]
 {
     let tag = row.tag;
     let mut b = [0u8; OFFER_WIDTH];
-    put_16(&mut b, 0, tag);
-    put_u8(&mut b, 16, row.copies);
+    octets::put_16(&mut b, 0, tag);
+    octets::put_u8(&mut b, 16, row.copies);
     b
 }
 
@@ -431,7 +410,7 @@ pub fn reply_bytes(row: Reply) -> [u8; REPLY_WIDTH]
 {
     let body = row.body;
     let mut b = [0u8; REPLY_WIDTH];
-    put_u8(&mut b, 0, row.kind);
+    octets::put_u8(&mut b, 0, row.kind);
     octets::put_u16(&mut b, 1, row.cell);
     put_37(&mut b, 3, body);
     b
@@ -441,7 +420,7 @@ pub fn action_bytes(row: Action) -> [u8; ACTION_WIDTH]
     ensures { λ r. ⌜ r ≡ actionBytes row ⌝ }
 {
     let mut b = [0u8; ACTION_WIDTH];
-    put_u8(&mut b, 0, row.kind);
+    octets::put_u8(&mut b, 0, row.kind);
     octets::put_u64(&mut b, 1, row.number);
     octets::put_u32(&mut b, 9, row.msgno);
     b
@@ -454,9 +433,9 @@ pub fn reachable_bytes(row: Reachable) -> [u8; REACHABLE_WIDTH]
     let tag = row.tag;
     let mut b = [0u8; REACHABLE_WIDTH];
     octets::put_u64(&mut b, 0, contact.0);
-    put_u8(&mut b, 8, row.dir);
-    put_u8(&mut b, 9, row.generation);
+    octets::put_u8(&mut b, 8, row.dir);
+    octets::put_u8(&mut b, 9, row.generation);
     octets::put_u32(&mut b, 10, row.idx);
-    put_16(&mut b, 14, tag);
+    octets::put_16(&mut b, 14, tag);
     b
 }

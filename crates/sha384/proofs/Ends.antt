@@ -7,35 +7,13 @@ use native.Mathlib.Numerals.{add-one}
 use native.Mathlib.Omega.{arith}
 use lib.ListN.{length, take, drop, set, getD, replicate, length-append, length-drop, length-replicate, replicate-append-replicate}
 use lib.Seq.{take-at, set-at, take-suc, take-all}
-use lib.Pow.{shr-shr, field, mod-mod-pow}
 use Rattle.octets.specs.Bytes.{splice, be}
 use Rattle.octets.proofs.Parts.{splice-zeros, splice-then, take-written}
-use Rattle.octets.proofs.Numbers.{length-be}
+use Rattle.octets.proofs.Numbers.{length-be, be-append, be-mod}
 use Rattle.sha384.specs.Padding.{zeroBits, padding}
 use Rattle.sha384.specs.Sha384.{bytes}
 
 -- ---- the length of the message in bits
-
--- a number of j + k bytes: the high j, then the low k
-be-add : (j k v : ℕ) → be (j + k) v ≡ be j (v / 2 ^ (8 * k)) ++ be k v
-unfolding be
-be-add zero k v = let e : zero + k ≡ k = omega arith in rw e
-be-add (suc j) k v =
-    let e : suc j + k ≡ suc (j + k) = omega arith in
-    let d : 8 * (j + k) ≡ 8 * k + 8 * j = omega arith in
-    ap (λ (i : ℕ). be i v) e
-    ∙ ap₂ (λ (b : ℕ) (l : List ℕ). b ∷ l)
-    (ap (λ (i : ℕ). v / 2 ^ i % 256) d ∙ ap (λ (q : ℕ). q % 256) (sym (shr-shr v (8 * k) (8 * j)))) (be-add j k v)
-
--- the low bytes do not see what stands above them
-be-mod : (k j v : ℕ) → be k (v % 2 ^ (j + 8 * k)) ≡ be k v
-unfolding be
-be-mod zero j v = refl
-be-mod (suc k) j v =
-    let e : j + 8 * suc k ≡ j + 8 + 8 * k = omega arith in
-    ap (λ (i : ℕ). be (suc k) (v % 2 ^ i)) e
-    ∙ ap₂ (λ (b : ℕ) (l : List ℕ). b ∷ l)
-    (ap (λ (q : ℕ). q % 256) (field v (j + 8) (8 * k)) ∙ mod-mod-pow (v / 2 ^ (8 * k)) j 8) (be-mod k (j + 8) v)
 
 -- its two words
 bits : (n : ℕ) → be 8 (n / 2 ^ 61) ++ be 8 (n * 2 ^ 3 % 2 ^ 64) ≡ be 16 (8 * n)
@@ -43,7 +21,7 @@ bits n =
     let hi : n / 2 ^ 61 ≡ 8 * n / 2 ^ 64 = omega arith in
     let lo : n * 2 ^ 3 ≡ 8 * n = omega arith in
     ap₂ (λ (p q : ℕ). be 8 p ++ be 8 (q % 2 ^ 64)) hi lo
-    ∙ ap (λ (l : List ℕ). be 8 (8 * n / 2 ^ 64) ++ l) (be-mod 8 0 (8 * n)) ∙ sym (be-add 8 8 (8 * n))
+    ∙ ap (λ (l : List ℕ). be 8 (8 * n / 2 ^ 64) ++ l) (be-mod 8 0 (8 * n)) ∙ sym (be-append 8 8 (8 * n))
 
 -- ---- the padded end
 

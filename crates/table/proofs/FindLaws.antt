@@ -125,6 +125,11 @@ module _ (w : ℕ) (a : List ℕ) (p : List ℕ → Bool) (i : ℕ) (left : any 
 
 -- ---- a key at an offset of the rows of an area
 
+-- a row that has a key of n bytes
+pub key-run : (o n : ℕ) (key b : List ℕ) → length key ≡ n → hasKey o key b ≡ sameBytes (part b o n) key
+unfolding hasKey
+key-run o n key b e = ap (λ (k : ℕ). sameBytes (part b o k) key) e
+
 module _ (w n : ℕ) (a key : List ℕ) (o : ℕ) (fits : o + length key ≤ w) where
   -- what a comparison at row i says of the rows from i on
   pub find-next : (i : ℕ) → i < n → (b d : Bool) → d ≡ sameBytes (part a (i * w + o) (length key)) (part key 0 (length key)) → d ≡ b

@@ -48,6 +48,10 @@ pub held-all : (len w count : ℕ) → 0 < w → count * w ≤ len → held len 
 unfolding held
 held-all len w count hw h = min-eq-left (le-div-iff-mul-le hw .1 h)
 
+-- the count that fits, cut again
+pub held-held : (len w count n : ℕ) → 0 < w → n ≡ held len w count → n ≡ held len w n
+held-held len w count n z e = sym (held-all len w n z (omega (arith, ap (λ (k : ℕ). k * w) e, held-inside len w count)))
+
 pub fits-low : (len w count : ℕ) → count ≤ len / w → Fits len w count count
 unfolding held
 fits-low len w count h = record { is = sym (min-eq-left h); inside = omega (arith, mul-le {i = count} {n = len / w} w h, div-mul-le-self len w) }
@@ -236,6 +240,15 @@ written-over a rs ss h =
     (ap (λ (m : ℕ). drop m (join rs ++ drop (length (join rs)) a)) e
     ∙ drop-append-add (join rs) (drop (length (join rs)) a) k
     ∙ drop-drop k (length (join rs)) a ∙ ap (λ (m : ℕ). drop m a) (sym e))
+
+-- a row behind those that are written
+pub written-push : (a b : List ℕ) (rs : List (List ℕ)) → splice (written a rs) (length (join rs)) b ≡ written a (rs ++ (b ∷ []))
+unfolding written
+written-push a b rs =
+    let behind : List ℕ = drop (length (join rs)) a in
+    splice-written (join rs ++ behind) b (length (join rs)) (rs ++ (b ∷ [])) (omega (arith, length-append (join rs) behind))
+    (join-snoc rs b ∙ ap (λ (l : List ℕ). l ++ b) (sym (take-at (join rs) behind (length (join rs)) refl)))
+    ∙ written-over a rs (rs ++ (b ∷ [])) (omega (arith, ap length (join-snoc rs b), length-append (join rs) b))
 
 -- ---- what the rows of an area are now
 

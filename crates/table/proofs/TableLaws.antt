@@ -2,19 +2,19 @@
 -- Assumes nothing.
 use mathlib.Core.Path.{_≡_, refl, sym, ap, ap₂, _∙_, subst}
 use mathlib.Core.Bool.{Bool}
-use mathlib.Core.List.{List, [], _∷_, _++_, map, map-append}
+use mathlib.Core.List.{List, [], _∷_, _++_, map, map-append, append-nil}
 use Prim.Native.Nat.{ℕ, zero, suc, _+_, _*_, _/_, _≤_, _<_}
 use native.Mathlib.Nat.{zero-min}
 use native.Mathlib.Omega.{arith}
 use lib.ListN.{length, take, drop, getD, length-map, take-append-drop}
 use lib.Seq.{length-take-le}
-use Rattle.octets.specs.Bytes.{Bytes, part}
+use Rattle.octets.specs.Bytes.{Bytes, part, splice}
 use Rattle.table.specs.declared.Found.{Found}
 use Rattle.table.specs.Lists.{All, none, more, insertAt, removeAt, replaceAt, filter, any, position, isAt}
 use Rattle.table.specs.Rows.{held, rows, join, written, RowsNow}
 use Rattle.table.specs.Codec.{Codec, CodecLaws, tableOf, withTable, TableNow}
 use Rattle.table.proofs.ListLaws.{all-push, all-insertAt, all-removeAt, all-replaceAt, all-filter, all-map, map-drop, map-insertAt, map-removeAt, map-replaceAt, filter-map}
-use Rattle.table.proofs.RowLaws.{mul-le, held-inside, held-all, length-rows, rows-next, join-rows, Wide, all-rows, length-join, rows-join, length-written, written-over}
+use Rattle.table.proofs.RowLaws.{mul-le, held-inside, held-all, held-held, length-rows, rows-next, join-rows, Wide, all-rows, length-join, rows-join, length-written, written-splice, written-over, written-push}
 use Rattle.table.proofs.FindLaws.{position-map, position-any}
 
 -- ---- what is read
@@ -60,6 +60,17 @@ module _ {A : Type 0} (c : Codec A) (count n : ℕ) (a : List ℕ) (held-n : n �
 pub table-none : {A : Type 0} (c : Codec A) (a : List ℕ) → tableOf c 0 a ≡ []
 unfolding tableOf held rows
 table-none c a = ap (λ (m : ℕ). map (c .decode) (rows (c .width) m a)) (zero-min (length a / c .width))
+
+-- a table at a count, and at the count that fits
+pub table-held : {A : Type 0} (c : Codec A) (count n : ℕ) (a : List ℕ) → 0 < c .width → n ≡ held (length a) (c .width) count → tableOf c n a ≡ tableOf c count a
+unfolding tableOf
+table-held c count n a z e =
+    ap (λ (k : ℕ). map (c .decode) (rows (c .width) k a)) (sym (held-held (length a) (c .width) count n z e) ∙ e)
+
+-- one row at the front of an area
+pub with-one : {A : Type 0} (c : Codec A) (a x b : List ℕ) (t : A) → b ≡ c .encode t → x ≡ splice a 0 b → x ≡ withTable c a (t ∷ [])
+unfolding withTable join
+with-one c a x b t e h = h ∙ ap (splice a 0) (e ∙ sym (append-nil (c .encode t))) ∙ sym (written-splice a (c .encode t ∷ []))
 
 module _ {A : Type 0} {c : Codec A} {P : A → Type 0} (laws : CodecLaws c P) where
   abbrev W : ℕ
@@ -140,6 +151,15 @@ module _ {A : Type 0} {c : Codec A} {P : A → Type 0} (laws : CodecLaws c P) wh
   unfolding withTable
   with-over a ts us p q h =
       written-over a (map (c .encode) ts) (map (c .encode) us) (omega (arith, length-encoded ts p, length-encoded us q, mul-le W h))
+
+  -- a row behind those that stand at the front of an area
+  pub with-push : (a x y b : List ℕ) (ts : List A) (t : A) (at : ℕ) → All P ts → at ≡ length ts * W → x ≡ withTable c a ts → b ≡ c .encode t
+      → y ≡ splice x at b → y ≡ withTable c a (ts ++ (t ∷ []))
+  unfolding withTable
+  with-push a x y b ts t at p ea ex eb ey =
+      let es : List (List ℕ) = map (c .encode) ts in
+      ey ∙ ap (λ (z : List ℕ). splice z at b) ex ∙ ap₂ (λ (k : ℕ) (v : List ℕ). splice (written a es) k v) (ea ∙ sym (length-encoded ts p)) eb
+      ∙ written-push a (c .encode t) es ∙ ap (written a) (sym (map-append (c .encode) ts (t ∷ [])))
 
   -- ---- the changes
 

@@ -1,157 +1,121 @@
--- Laws of the call "stored tombstone": each choice as a result of the model's step, and what it leaves in the areas.
+-- Laws of the calls that store a tombstone: what the choice says of the model's tests, and what storing leaves in the areas.
 -- Assumes nothing.
-use mathlib.Core.Path.{_≡_, refl, sym, ap, _∙_, subst}
-use mathlib.Core.Bool.{Bool, true, false, cond, not, _&&_}
-use mathlib.Core.List.{List, [], _∷_, _++_, append-nil}
-use Prim.Native.Nat.{ℕ, _+_, _≤_}
+use mathlib.Core.Path.{_≡_, refl, sym, ap, _∙_}
+use mathlib.Core.Bool.{Bool, true, false, cond}
+use mathlib.Core.List.{List, [], _∷_, _++_, map}
+use Prim.Native.Nat.{ℕ, _+_, _*_, _/_}
 use native.Mathlib.Omega.{arith}
-use lib.ListN.{length, getD, length-append}
-use lib.Dec.{leb}
+use lib.ListN.{length}
+use lib.Dec.{ltb}
 use Rattle.core.specs.declared.Refusal.{Refusal}
 use Rattle.core.specs.declared.Refusal.the-variants as refusal
 use Rattle.core.specs.Core.{firstOf}
-use Rattle.octets.specs.Bytes.{splice, be}
-use Rattle.octets.proofs.Parts.{splice-nil, splice-then}
-use Rattle.octets.proofs.Numbers.{length-be}
-use Rattle.table.specs.Lists.{removeAt}
+use Rattle.octets.specs.Bytes.{splice}
 use Rattle.table.specs.Rows.{join, written}
-use Rattle.table.specs.Codec.{tableOf, withTable}
+use Rattle.table.specs.Codec.{withTable}
 use Rattle.table.proofs.RowLaws.{written-splice}
 use Rattle.rows.specs.declared.Device.{Device}
 use Rattle.rows.specs.declared.Tombstone.{Tombstone}
 use Rattle.rows.specs.declared.Action.{Action}
 use Rattle.rows.specs.Rows.{tombstoneCodec, actionCodec, actionBytes}
 use Rattle.model.specs.State.{State, Change, nothing, tombstonesNow, nextSlotNow, _and_}
-use Rattle.model.specs.Calls.{Call, Result, Answer, result, only, refused, done, stepOf, storedTombstone, shortActions, putCourier, deleteCourier}
-use Rattle.model.specs.Custody.{lastSlot}
-use Rattle.model.specs.Tombs.{noTombstone, tombstoned, leastExpiry, remaining, evicted, storeTombstone, storeActions, noRowToStore, noSlotToStore, storedTests, stored}
+use Rattle.model.specs.Calls.{Call, Result, only, refused, stepOf, storedTombstone}
+use Rattle.model.specs.Tombs.{tombstoned, remaining, storeTombstone, storeActions, storedTests, stored, noRowToStore, noSlotToStore}
 use Rattle.model.specs.Step.{tests, perform, step}
-use Rattle.model.specs.Areas.{Areas, AnswerAreas, view, store, storeDevice, storeSession, answerAreas, Written}
+use Rattle.model.specs.Areas.{Areas, Written, view, store, storeDevice, storeSession, bytesAfter, answerAreas}
+use Rattle.model.proofs.CallLaws.{refused-here, not-here, answering-call, refused-call}
+use Rattle.model.specs.Lent.{actionsLent}
+use Rattle.tombstones.specs.declared.Storing.{Storing}
 use Rattle.tombstones.specs.declared.Choice.{Choice}
 use Rattle.tombstones.specs.declared.Choice.the-variants as choice
 use Rattle.tombstones.specs.declared.Stored.{Stored}
 use Rattle.tombstones.specs.declared.Stored.the-variants as says
-use Rattle.tombstones.specs.Tombstones.{ChoiceOf, storedChoice, newTombstone, deviceAfter, Grown, storedSays, actionsLent, withTombstones}
-use Rattle.tombstones.proofs.ChoiceLaws.{told}
+use Rattle.tombstones.specs.Tombstones.{Reads, ChoiceOf, howToStore, storeTests, storeChoice, Stores, StoredAs, saysStored, tombstonesLent}
 
--- ---- each choice as a result
+-- ---- the choice, and the tests that it stands for
 
-module _ (ts : List Tombstone) (new : Tombstone) (next : ℕ) where
-  -- what the state is if it is ts and the new one
-  abbrev pub added : List Tombstone → List Action → Result
-  added us acts = result done [] acts (tombstonesNow (us ++ (new ∷ [])) and nextSlotNow (next + 1))
+module _ (s : State) (tag : List ℕ) (p : Result) where
+  abbrev told : {A : Type 0} → Bool → Bool → (Refusal → A) → A → A
+  told full last f x = firstOf ((full, refusal.NoTombstoneRow) ∷ (last, refusal.NoSlot) ∷ []) f x
 
-  abbrev pub resultOf : Choice → Result
-  resultOf (choice.Refused why) = only (refused why)
-  resultOf choice.Nothing = only done
-  resultOf choice.Append = added ts (putCourier next ∷ [])
-  resultOf (choice.Evict i) = added (removeAt i ts) (deleteCourier (getD ts i noTombstone .slot) ∷ putCourier next ∷ [])
+  pub cannot-store : (why : Refusal) → choice.Refused why ≡ storeChoice s tag → stepOf (storeTests s tag) p ≡ only (refused why)
+  unfolding storeChoice storeTests stepOf
+  cannot-store why e = go (noRowToStore s tag) (noSlotToStore s tag) e
+    where
+      go : (full last : Bool) → choice.Refused why ≡ told full last choice.Refused (choice.Store (howToStore s tag))
+          → told full last (λ (w : Refusal). only (refused w)) p ≡ only (refused why)
+      go true last q = let k : refusal.NoTombstoneRow ≡ why = cc in ap (λ (w : Refusal). only (refused w)) k
+      go false true q = let k : refusal.NoSlot ≡ why = cc in ap (λ (w : Refusal). only (refused w)) k
+      go false false q = let z : _≡_ {A = ℕ} 0 1 = cc in absurd (omega arith)
 
-  by-tests : (short known full last many : Bool) (i : ℕ)
-      → firstOf ((short, refusal.ShortArea) ∷ (not known && full, refusal.NoTombstoneRow) ∷ (not known && last, refusal.NoSlot) ∷ []) (λ (why : Refusal). only (refused why))
-      (result done [] (cond known [] (cond many (deleteCourier (getD ts i noTombstone .slot) ∷ []) [] ++ (putCourier next ∷ [])))
-      (cond known nothing (tombstonesNow (cond many (removeAt i ts) ts ++ (new ∷ [])) and nextSlotNow (next + 1))))
-      ≡ resultOf (told short known full last many i)
-  by-tests true known full last many i = refl
-  by-tests false true full last many i = refl
-  by-tests false false true last many i = refl
-  by-tests false false false true many i = refl
-  by-tests false false false false true i = refl
-  by-tests false false false false false i = refl
+  pub can-store : (h : Storing) → choice.Store h ≡ storeChoice s tag → (stepOf (storeTests s tag) p ≡ p) × (h ≡ howToStore s tag)
+  unfolding storeChoice storeTests stepOf
+  can-store h e = go (noRowToStore s tag) (noSlotToStore s tag) e
+    where
+      go : (full last : Bool) → choice.Store h ≡ told full last choice.Refused (choice.Store (howToStore s tag))
+          → (told full last (λ (w : Refusal). only (refused w)) p ≡ p) × (h ≡ howToStore s tag)
+      go true last q = let z : _≡_ {A = ℕ} 0 1 = cc in absurd (omega arith)
+      go false true q = let z : _≡_ {A = ℕ} 0 1 = cc in absurd (omega arith)
+      go false false q = (refl, cc)
 
-step-is : (s : State) (tag secret : List ℕ) (expiry actions : ℕ)
-    → step s (storedTombstone actions tag secret expiry)
-    ≡ resultOf (s .tombstones) (record { slot = s .nextSlot; tag = tag; s = secret; «expiry_min» = expiry }) (s .nextSlot) (storedChoice s tag actions)
-unfolding step stepOf tests perform stored storedTests noRowToStore noSlotToStore storeTombstone storeActions remaining evicted storedChoice
-step-is s tag secret expiry actions =
-    by-tests (s .tombstones) (record { slot = s .nextSlot; tag = tag; s = secret; «expiry_min» = expiry }) (s .nextSlot) (shortActions s actions)
-    (tombstoned (s .tombstones) tag) (leb (s .tombstoneRows) (length (cond (leb 1024 (length (s .tombstones))) (removeAt (leastExpiry (s .tombstones)) (s .tombstones)) (s .tombstones)))) (lastSlot s)
-    (leb 1024 (length (s .tombstones))) (leastExpiry (s .tombstones))
+-- ---- what is lent
 
--- ---- the rows of the action area
+pub lent-reads : (d : Device) (to : List ℕ) (a : Areas) → Reads (view (tombstonesLent d to a)) d to
+unfolding view
+lent-reads d to a = record { tombstones = refl; nextSlot = refl; rows = refl }
 
-length-action : (r : Action) → length (actionBytes r) ≡ 13
-unfolding actionBytes
-length-action r =
-    omega (arith, length-append (be 1 (r .kind) ++ be 8 (r .number)) (be 4 (r .msgno)), length-append (be 1 (r .kind)) (be 8 (r .number)), length-be 1 (r .kind), length-be 8 (r .number), length-be 4 (r .msgno))
+-- the actions of an area that is written from its front
+pub with-actions : (ac : List ℕ) (acts : List Action) → splice ac 0 (join (map actionBytes acts)) ≡ withTable actionCodec ac acts
+unfolding withTable
+with-actions ac acts = sym (written-splice ac (map actionBytes acts))
 
-no-action : (ac : List ℕ) → ac ≡ withTable actionCodec ac []
-unfolding withTable join
-no-action ac = sym (written-splice ac [] ∙ splice-nil ac 0)
+-- what storing leaves in the areas
+module _ (d : Device) (to : List ℕ) (a : Areas) where
+  abbrev c : Bool → List Tombstone → ℕ → Change
+  c b ts n = cond b nothing (tombstonesNow ts and nextSlotNow n)
 
-one-action : (ac x : List ℕ) (p : Action) → x ≡ splice ac 0 (actionBytes p) → x ≡ withTable actionCodec ac (p ∷ [])
-unfolding withTable join
-one-action ac x p h = h ∙ ap (splice ac 0) (sym (append-nil (actionBytes p))) ∙ sym (written-splice ac (actionBytes p ∷ []))
+  by : (b : Bool) (ts : List Tombstone) (n : ℕ) → tombstonesLent (storeDevice d (c b ts n)) (bytesAfter tombstoneCodec to (c b ts n .tombstones)) a ≡ store (tombstonesLent d to a) (c b ts n)
+  unfolding store storeDevice storeSession
+  by true ts n = refl
+  by false ts n = refl
 
-two-actions : (ac x y : List ℕ) (p q : Action) → 26 ≤ length ac → x ≡ splice ac 0 (actionBytes p) → y ≡ splice x 13 (actionBytes q) → y ≡ withTable actionCodec ac (p ∷ q ∷ [])
-unfolding withTable join
-two-actions ac x y p q h ex ey =
-    splice-then ac x y 0 13 (actionBytes p) (actionBytes q) ex ey (omega (arith, length-action p)) (omega (arith, length-action q))
-    ∙ ap (λ (l : List ℕ). splice ac 0 (actionBytes p ++ l)) (sym (append-nil (actionBytes q))) ∙ sym (written-splice ac (actionBytes p ∷ actionBytes q ∷ []))
+  pub areas-stored : (s : State) (tag secret : List ℕ) (expiry at : ℕ) (ac : List ℕ) {r : Device} {n : ℕ} {x y : List ℕ} → StoredAs s d tag secret expiry at to ac r n x y
+      → tombstonesLent r x a ≡ store (tombstonesLent d to a) (storeTombstone s tag secret expiry)
+  unfolding storeTombstone
+  areas-stored s tag secret expiry at ac S =
+      (λ j. tombstonesLent (S .device j) (S .tombstones j) a) ∙ by (tombstoned (s .tombstones) tag) (remaining (s .tombstones) ++ _) (s .nextSlot + 1)
 
-answered : (v : Answer) (acts : List Action) (c : Change) (ac x : List ℕ) → x ≡ withTable actionCodec ac acts
-    → actionsLent x ≡ answerAreas (result v [] acts c) (actionsLent ac)
-unfolding answerAreas withTable written join splice
-answered v acts c ac x e = ap actionsLent e
+-- ---- the call
 
--- ---- the four ways
-
-module _ (d : Device) (tag secret : List ℕ) (expiry : ℕ) (to ac : List ℕ) (ch : Choice) (q : ChoiceOf d to tag (length ac) ch) (a : Areas) where
+module _ (d : Device) (tag secret : List ℕ) (expiry : ℕ) (to ac : List ℕ) (a : Areas) where
   abbrev B : Areas
-  B = withTombstones a d to
+  B = tombstonesLent d to a
 
   abbrev C : Call
   C = storedTombstone (length ac) tag secret expiry
 
-  abbrev N : Tombstone
-  N = newTombstone d tag secret expiry
+  abbrev short : Bool
+  short = ltb (length ac) (13 * (512 + length to / 44))
 
-  abbrev T : List Tombstone
-  T = tableOf tombstoneCodec (d .tombstones) to
+  abbrev Says : Stored → Device → (x y : List ℕ) → Type 0
+  Says v r x y = Written saysStored (step (view B) C) v B (tombstonesLent r x a) (actionsLent ac) (actionsLent y)
 
-  is : (k : Choice) → ch ≡ k → step (view B) C ≡ resultOf T N (d .«next_slot») k
-  unfolding view
-  is k e = step-is (view B) tag secret expiry (length ac) ∙ ap (resultOf T N (d .«next_slot»)) (sym (q (view B) (record { tombstones = refl; nextSlot = refl; rows = refl })) ∙ e)
+  pub says-short : short ≡ true → Says (says.Refused refusal.ShortArea) d to ac
+  unfolding step tests perform storedTests view
+  says-short e = refused-call refusal.ShortArea (refused-here _ _ _ e) refl refl
 
-  unchanged : (v : Answer) → step (view B) C ≡ only v → Written storedSays (step (view B) C) (storedSays (only v)) B B (actionsLent ac) (actionsLent ac)
-  unfolding store storeDevice storeSession
-  unchanged v e = rw e (record { answer = refl; areas = refl; answers = answered v [] nothing ac ac (no-action ac) })
+  module _ (long : short ≡ false) (ch : Choice) (q : ChoiceOf d to tag ch) where
+    past : {o : Result} → stepOf (storeTests (view B) tag) (stored (view B) tag secret expiry) ≡ o → step (view B) C ≡ o
+    unfolding step tests perform storedTests storeTests view
+    past e = not-here _ _ _ long e
 
-  pub says-refused : (why : Refusal) → ch ≡ choice.Refused why → Written storedSays (step (view B) C) (says.Refused why) B B (actionsLent ac) (actionsLent ac)
-  unfolding storedSays
-  says-refused why e = unchanged (refused why) (is (choice.Refused why) e)
+    pub says-refused : (why : Refusal) → ch ≡ choice.Refused why → Says (says.Refused why) d to ac
+    says-refused why e = refused-call why (past (cannot-store (view B) tag _ why (sym e ∙ q (view B) (lent-reads d to a)))) refl refl
 
-  pub says-nothing : ch ≡ choice.Nothing → Written storedSays (step (view B) C) (says.Done 0) B B (actionsLent ac) (actionsLent ac)
-  unfolding storedSays
-  says-nothing e = unchanged done (is choice.Nothing e)
-
-  grown : (t : Tombstone) → t ≡ N → (r : Device) (x y : List ℕ) (us : List Tombstone) (acts : List Action) → step (view B) C ≡ added T N (d .«next_slot») us acts
-      → Grown d r to x (us ++ (t ∷ []))
-      → y ≡ withTable actionCodec ac acts → Written storedSays (step (view B) C) (says.Done (length acts)) B (withTombstones a r x) (actionsLent ac) (actionsLent y)
-  unfolding store storeDevice storeSession deviceAfter storedSays
-  grown t et r x y us acts e g₀ h = let g = subst (λ (u : Tombstone). Grown d r to x (us ++ (u ∷ []))) et g₀ in rw e (record {
-    answer = refl;
-    areas = λ j. withTombstones a (g .device j) (g .area j);
-    answers = answered done acts (tombstonesNow (us ++ (N ∷ [])) and nextSlotNow (d .«next_slot» + 1)) ac y h;
-  })
-
-  pub says-added : (t : Tombstone) → t ≡ N → (r : Device) (x y : List ℕ) → ch ≡ choice.Append → Grown d r to x (T ++ (t ∷ [])) → y ≡ splice ac 0 (actionBytes (putCourier (d .«next_slot»)))
-      → Written storedSays (step (view B) C) (says.Done 1) B (withTombstones a r x) (actionsLent ac) (actionsLent y)
-  says-added t et r x y e g h = grown t et r x y T (putCourier (d .«next_slot») ∷ []) (is choice.Append e) g (one-action ac y (putCourier (d .«next_slot»)) h)
-
-  pub says-evicted : (t : Tombstone) → t ≡ N → (i slot : ℕ) (r : Device) (x z y : List ℕ) → ch ≡ choice.Evict i → 26 ≤ length ac → Grown d r to x (removeAt i T ++ (t ∷ []))
-      → slot ≡ getD T i noTombstone .slot → z ≡ splice ac 0 (actionBytes (deleteCourier slot)) → y ≡ splice z 13 (actionBytes (putCourier (d .«next_slot»)))
-      → Written storedSays (step (view B) C) (says.Done 2) B (withTombstones a r x) (actionsLent ac) (actionsLent y)
-  says-evicted t et i slot r x z y e l g es hz hy =
-      let D : Action = deleteCourier (getD T i noTombstone .slot) in
-      let P : Action = putCourier (d .«next_slot») in
-      grown t et r x y (removeAt i T) (D ∷ P ∷ []) (is (choice.Evict i) e) g
-      (two-actions ac z y D P l (hz ∙ ap (λ (k : ℕ). splice ac 0 (actionBytes (deleteCourier k))) es) hy)
-
--- areas whose parts are those that are lent
-pub of-areas : (d r : Device) (to x : List ℕ) (c : Call) (v : Stored) (l m : AnswerAreas)
-    → ((a : Areas) → Written storedSays (step (view (withTombstones a d to)) c) v (withTombstones a d to) (withTombstones a r x) l m)
-    → (a : Areas) → a .device ≡ d → a .tombstones ≡ to → Written storedSays (step (view a) c) v a (withTombstones a r x) l m
-of-areas d r to x c v l m f a ed et =
-    let p : withTombstones a d to ≡ a = λ j. withTombstones a (sym ed j) (sym et j) in
-    subst (λ (b : Areas). Written storedSays (step (view b) c) v b (withTombstones a r x) l m) p (f a)
+    pub says-stored : (h : Storing) (r : Device) (n : ℕ) (x y : List ℕ) → ch ≡ choice.Store h → Stores h d tag secret expiry 0 to ac r n x y → Says (says.Done n) r x y
+    unfolding stored answerAreas withTable written join splice
+    says-stored h r n x y e S =
+        let k = can-store (view B) tag (stored (view B) tag secret expiry) h (sym e ∙ q (view B) (lent-reads d to a)) in
+        let D = S (view B) (lent-reads d to a) (k .1) in
+        answering-call (stored (view B) tag secret expiry) (past (k .0)) (ap says.Done (D .count)) (areas-stored d to a (view B) tag secret expiry 0 ac D)
+        (ap actionsLent (D .actions ∙ with-actions ac (storeActions (view B) tag)))

@@ -1,4 +1,5 @@
 pub mod LeafLaws
 pub mod ChoiceLaws
 pub mod WriteLaws
+pub mod StoreLaws
 pub mod CallLaws

@@ -1,7 +1,7 @@
 -- Laws of the writes: a tombstone added, and one taken out before.
 -- Assumes nothing.
 use mathlib.Core.Path.{_≡_, sym, ap, _∙_, subst}
-use mathlib.Core.List.{List, [], _∷_, _++_, map}
+use mathlib.Core.List.{List, [], _∷_, _++_}
 use Prim.Native.Nat.{ℕ, _+_, _*_, _≤_, _<_}
 use native.Mathlib.Nat.{add-zero}
 use native.Mathlib.Omega.{arith}
@@ -12,8 +12,8 @@ use Rattle.table.specs.Lists.{removeAt}
 use Rattle.table.specs.Rows.{held, rows, RowsNow}
 use Rattle.table.specs.Codec.{tableOf, TableNow}
 use Rattle.table.proofs.ListLaws.{all-push, length-removeAt}
-use Rattle.table.proofs.RowLaws.{length-rows, held-all, held-inside}
-use Rattle.table.proofs.TableLaws.{getD-table, table-push, table-remove, table-then}
+use Rattle.table.proofs.RowLaws.{length-rows, held-all}
+use Rattle.table.proofs.TableLaws.{getD-table, table-held, table-push, table-remove, table-then}
 use Rattle.rows.specs.declared.Device.{Device}
 use Rattle.rows.specs.declared.Tombstone.{Tombstone}
 use Rattle.rows.specs.Rows.{tombstoneOf, tombstoneBytes, tombstoneCodec}
@@ -21,20 +21,6 @@ use Rattle.rows.specs.Proper.{ProperTombstone}
 use Rattle.rows.proofs.Laws.{tombstone-laws}
 use Rattle.model.specs.Tombs.{noTombstone}
 use Rattle.tombstones.specs.Tombstones.{Pushed, Grown, deviceAfter}
-
--- the count that fits, cut again
-held-held : (a : List ℕ) (count n : ℕ) → n ≡ held (length a) 44 count → n ≡ held (length a) 44 n
-held-held a count n e =
-    sym (held-all (length a) 44 n (omega arith) (omega (arith, ap (λ (k : ℕ). k * 44) e, held-inside (length a) 44 count)))
-
--- a table at a count, and at the count that fits
-table-held : (a : List ℕ) (count n : ℕ) → n ≡ held (length a) 44 count → tableOf tombstoneCodec n a ≡ tableOf tombstoneCodec count a
-unfolding tableOf
-table-held a count n e =
-    ap (λ (k : ℕ). tableAt k) (sym (held-held a count n e) ∙ e)
-  where
-    tableAt : ℕ → List Tombstone
-    tableAt k = map (tombstoneCodec .decode) (rows 44 k a)
 
 pub pushed-row : (n : ℕ) (a x b : List ℕ) (t : Tombstone) (m : ℕ) → n * 44 + 44 ≤ length a → ProperTombstone t → b ≡ tombstoneBytes t
     → RowsNow 44 a (rows 44 n a ++ (b ∷ [])) m x → Pushed n a t m x
@@ -53,7 +39,7 @@ module _ (d r : Device) (a x : List ℕ) (n m : ℕ) (t : Tombstone) (en : n ≡
   pub grown-added : Pushed n a t m x → Grown d r a x (tableOf tombstoneCodec (d .tombstones) a ++ (t ∷ []))
   grown-added P =
       let T : TableNow tombstoneCodec a (tableOf tombstoneCodec (d .tombstones) a ++ (t ∷ [])) m x =
-      subst (λ (ts : List Tombstone). TableNow tombstoneCodec a (ts ++ (t ∷ [])) m x) (table-held a (d .tombstones) n en) (P .table) in
+      subst (λ (ts : List Tombstone). TableNow tombstoneCodec a (ts ++ (t ∷ [])) m x) (table-held tombstoneCodec (d .tombstones) n a (omega arith) en) (P .table) in
       record { area = T .area; device = er ∙ ap (deviceAfter d) (T .count) }
 
   pub grown-moved : (i k : ℕ) (y : List ℕ) → RowsNow 44 a (removeAt i (rows 44 n a)) k y → Pushed k y t m x

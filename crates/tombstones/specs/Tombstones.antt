@@ -2,23 +2,27 @@
 -- Assumes nothing.
 use Prim.Native.Nat.{ℕ, _+_, _-_, _*_, _/_, _≤_, _<_}
 use mathlib.Core.Path.{_≡_}
-use mathlib.Core.Bool.{cond}
-use mathlib.Core.List.{List, [], _∷_, _++_}
+use mathlib.Core.Bool.{Bool, cond}
+use mathlib.Core.List.{List, [], _∷_, _++_, map}
 use lib.ListN.{length}
 use lib.Dec.{leb}
 use Rattle.core.specs.Core.{firstOf}
-use Rattle.octets.specs.Bytes.{Bytes}
-use Rattle.table.specs.Rows.{held}
+use Rattle.core.specs.declared.Refusal.{Refusal}
+use Rattle.core.specs.declared.Refusal.the-variants as refusal
+use Rattle.octets.specs.Bytes.{Bytes, splice}
+use Rattle.table.specs.Rows.{held, join}
 use Rattle.table.specs.Codec.{tableOf, withTable, TableNow}
 use Rattle.rows.specs.declared.Device.{Device}
 use Rattle.rows.specs.declared.Tombstone.{Tombstone}
-use Rattle.rows.specs.Rows.{tombstoneWidth, tombstoneCodec}
+use Rattle.rows.specs.Rows.{tombstoneWidth, tombstoneCodec, actionBytes}
 use Rattle.rows.specs.Proper.{ProperTombstone}
 use Rattle.model.specs.State.{State}
-use Rattle.model.specs.Calls as calls
 use Rattle.model.specs.Calls.{Result}
-use Rattle.model.specs.Tombs.{tombstoned, leastExpiry, maxTombstones, storedTests}
-use Rattle.model.specs.Areas.{Areas, AnswerAreas}
+use Rattle.model.specs.Tombs.{tombstoned, leastExpiry, maxTombstones, noRowToStore, noSlotToStore, storeTombstone, storeActions}
+use Rattle.model.specs.Areas.{Areas, storeDevice, bytesAfter}
+use Rattle.model.specs.Lent.{refusedOr, deviceIn, tombstonesIn}
+use Rattle.tombstones.specs.declared.Storing.{Storing}
+use Rattle.tombstones.specs.declared.Storing.the-variants as way
 use Rattle.tombstones.specs.declared.Choice.{Choice}
 use Rattle.tombstones.specs.declared.Choice.the-variants as choice
 use Rattle.tombstones.specs.declared.Stored.{Stored}
@@ -29,13 +33,18 @@ pub record Least (ts : List Tombstone) (r : ℕ) : Type 0 where
   pub is : r ≡ leastExpiry ts
   pub inside : r ≤ length ts - 1
 
--- ---- what `store_tombstone` does, and the refusals of the call before it
+-- ---- what `store_tombstone` does, and its refusals
 
-unfoldable pub storedChoice : State → List ℕ → ℕ → Choice
-storedChoice s tag actions =
-    firstOf (storedTests s actions tag) choice.Refused
-    (cond (tombstoned (s .tombstones) tag) choice.Nothing
-    (cond (leb maxTombstones (length (s .tombstones))) (choice.Evict (leastExpiry (s .tombstones))) choice.Append))
+unfoldable pub howToStore : State → List ℕ → Storing
+howToStore s tag =
+    cond (tombstoned (s .tombstones) tag) way.Nothing
+    (cond (leb maxTombstones (length (s .tombstones))) (way.Evict (leastExpiry (s .tombstones))) way.Append)
+
+unfoldable pub storeTests : State → List ℕ → List (Bool × Refusal)
+storeTests s tag = (noRowToStore s tag, refusal.NoTombstoneRow) ∷ (noSlotToStore s tag, refusal.NoSlot) ∷ []
+
+unfoldable pub storeChoice : State → List ℕ → Choice
+storeChoice s tag = firstOf (storeTests s tag) choice.Refused (choice.Store (howToStore s tag))
 
 -- the parts of a state that the choice reads, by the areas
 pub record Reads (s : State) (d : Device) (area : List ℕ) : Type 0 where
@@ -43,36 +52,37 @@ pub record Reads (s : State) (d : Device) (area : List ℕ) : Type 0 where
   pub nextSlot : s .nextSlot ≡ d .«next_slot»
   pub rows : s .tombstoneRows ≡ length area / tombstoneWidth
 
-abbrev pub ChoiceOf : Device → List ℕ → List ℕ → ℕ → Choice → Type 0
-ChoiceOf d area tag actions r = (s : State) → Reads s d area → r ≡ storedChoice s tag actions
+abbrev pub ChoiceOf : Device → List ℕ → List ℕ → Choice → Type 0
+ChoiceOf d area tag r = (s : State) → Reads s d area → r ≡ storeChoice s tag
 
--- ---- what the writes rely on: there is a slot, a row to write, and room for the actions
+-- ---- what the writes rely on: there is a slot, and a row to write
 
-pub record Space (n len next actions : ℕ) : Type 0 where
+pub record Space (n len next : ℕ) : Type 0 where
   pub rows : n * 44 + 44 ≤ len
   pub slot : next < 18446744073709551615
-  pub listed : 26 ≤ actions
 
-pub record Spare (i n len next actions : ℕ) : Type 0 where
+pub record Spare (i n len next : ℕ) : Type 0 where
   pub row : i < n
   pub rows : n * 44 ≤ len
   pub slot : next < 18446744073709551615
-  pub listed : 26 ≤ actions
 
 abbrev pub heldTombstones : Device → List ℕ → ℕ
 heldTombstones d area = held (length area) 44 (d .tombstones)
 
-abbrev pub spaceFor : Device → List ℕ → ℕ → Type 0
-spaceFor d area actions = Space (heldTombstones d area) (length area) (d .«next_slot») actions
+abbrev pub spaceFor : Device → List ℕ → Type 0
+spaceFor d area = Space (heldTombstones d area) (length area) (d .«next_slot»)
 
-abbrev pub spareAt : ℕ → Device → List ℕ → ℕ → Type 0
-spareAt i d area actions = Spare i (heldTombstones d area) (length area) (d .«next_slot») actions
+abbrev pub spareAt : ℕ → Device → List ℕ → Type 0
+spareAt i d area = Spare i (heldTombstones d area) (length area) (d .«next_slot»)
 
-unfoldable pub Room : Choice → Device → List ℕ → ℕ → Type 0
-Room (choice.Refused why) d area actions = Unit {0}
-Room choice.Nothing d area actions = Unit {0}
-Room choice.Append d area actions = spaceFor d area actions
-Room (choice.Evict i) d area actions = spareAt i d area actions
+unfoldable pub Room : Storing → Device → List ℕ → Type 0
+Room way.Nothing d area = Unit {0}
+Room way.Append d area = spaceFor d area
+Room (way.Evict i) d area = spareAt i d area
+
+unfoldable pub RoomFor : Choice → Device → List ℕ → Type 0
+RoomFor (choice.Refused why) d area = Unit {0}
+RoomFor (choice.Store how) d area = Room how d area
 
 -- ---- what the writes leave
 
@@ -108,37 +118,22 @@ pub record Grown (d r : Device) (a x : List ℕ) (ts : List Tombstone) : Type 0 
   pub area : x ≡ withTable tombstoneCodec a ts
   pub device : r ≡ deviceAfter d (length ts)
 
+-- a tombstone was stored from the state s: the device d is now r, the tombstones to are now x, and of the actions ac, now y, n are listed from at on
+pub record StoredAs (s : State) (d : Device) (tag secret : List ℕ) (expiry at : ℕ) (to ac : List ℕ) (r : Device) (n : ℕ) (x y : List ℕ) : Type 0 where
+  pub device : r ≡ storeDevice d (storeTombstone s tag secret expiry)
+  pub tombstones : x ≡ bytesAfter tombstoneCodec to (storeTombstone s tag secret expiry .tombstones)
+  pub actions : y ≡ splice ac at (join (map actionBytes (storeActions s tag)))
+  pub count : n ≡ length (storeActions s tag)
+
+abbrev pub Stores : Storing → Device → (tag secret : List ℕ) (expiry at : ℕ) (to ac : List ℕ) → Device → ℕ → (x y : List ℕ) → Type 0
+Stores how d tag secret expiry at to ac r n x y =
+    (s : State) → Reads s d to → how ≡ howToStore s tag → StoredAs s d tag secret expiry at to ac r n x y
+
 -- ---- the call
 
--- the answer: document 01's number of a refusal, or how many actions are listed
-abbrev pub saysOf : calls.Answer → ℕ → Stored
-saysOf (calls.refused why) n = stored.Refused why
-saysOf calls.malformed n = stored.Done n
-saysOf calls.done n = stored.Done n
-saysOf (calls.ours contact generation idx) n = stored.Done n
-saysOf (calls.found cells position len) n = stored.Done n
-saysOf calls.missing n = stored.Done n
-saysOf (calls.ownRow row) n = stored.Done n
-saysOf calls.noEnvelope n = stored.Done n
-saysOf (calls.wrote count) n = stored.Done n
+-- a refusal, or how many actions are listed
+abbrev pub saysStored : Result → Stored
+saysStored o = refusedOr stored.Refused (stored.Done (length (o .actions))) (o .answer)
 
-unfoldable pub storedSays : Result → Stored
-storedSays o = saysOf (o .answer) (length (o .actions))
-
--- the call is lent the action area alone
-abbrev pub actionsLent : List ℕ → AnswerAreas
-actionsLent area = record { replies = []; actions = area; bytes = [] }
-
--- areas with these parts in the place of theirs
-abbrev pub withTombstones : Areas → Device → List ℕ → Areas
-withTombstones a d area = record {
-  device = d;
-  contacts = a .contacts;
-  own = a .own;
-  carried = a .carried;
-  tombstones = area;
-  badTags = a .badTags;
-  ownCells = a .ownCells;
-  carriedCells = a .carriedCells;
-  session = a .session;
-}
+abbrev pub tombstonesLent : Device → List ℕ → Areas → Areas
+tombstonesLent d area a = deviceIn d (tombstonesIn area a)

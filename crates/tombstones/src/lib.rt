@@ -1,29 +1,38 @@
-// Tombstones: `store_tombstone`, and the call "stored tombstone".
+// Tombstones: `store_tombstone`, which the tomb and report calls use too, and the call "stored tombstone".
 ghost use mathlib.Core.Path.{_≡_};
 ghost use mathlib.Core.List.{[], _∷_, _++_};
-ghost use Prim.Native.Nat.{_+_, _*_, _≤_, _<_};
+ghost use Prim.Native.Nat.{_+_, _*_, _/_, _≤_, _<_};
 ghost use lib.ListN.{length, getD};
-ghost use Rattle.octets.specs.Bytes.{splice, part, num};
+ghost use lib.Dec.{ltb};
+ghost use Rattle.octets.specs.Bytes.{part, num};
 ghost use Rattle.table.specs.Lists.{removeAt};
 ghost use Rattle.table.specs.Rows.{held};
 ghost use Rattle.table.specs.Codec.{tableOf};
-ghost use Rattle.rows.specs.Rows.{tombstoneCodec, actionBytes};
-ghost use Rattle.model.specs.Calls.{storedTombstone, putCourier, deleteCourier};
+ghost use Rattle.rows.specs.Rows.{tombstoneCodec};
+ghost use Rattle.model.specs.Calls.{storedTombstone};
 ghost use Rattle.model.specs.Tombs.{tombstoned as someTombstone, noTombstone};
-ghost use Rattle.model.specs.Step.{step};
-ghost use Rattle.model.specs.Areas.{Areas, view, Written};
-ghost use Rattle.tombstones.specs.Tombstones.{Least, ChoiceOf, Room, spaceFor, spareAt, Pushed, HasSlot, deviceAfter, newTombstone, Grown, storedSays, actionsLent, withTombstones};
+ghost use Rattle.model.specs.Lent.{Does, actionsLent};
+ghost use Rattle.tombstones.specs.Tombstones.{Least, ChoiceOf, RoomFor, Room, spaceFor, spareAt, Pushed, HasSlot, deviceAfter, newTombstone, Grown, Stores, saysStored, tombstonesLent};
 use core::Refusal;
-use rows::Action;
 use rows::Device;
 use rows::Tombstone;
 
-// What a stored tombstone does: nothing if its tag has a tombstone, and the one at a place goes first if there are too many.
-pub enum Choice {
-    Refused(Refusal),
+// What storing a tombstone does: nothing if its tag has one, and the one at a place goes first if there are too many.
+pub enum Storing {
     Nothing,
     Append,
     Evict(usize),
+}
+
+pub enum Choice {
+    Refused(Refusal),
+    Store(Storing),
+}
+
+// The device after a tombstone is stored, and how many actions are listed.
+pub struct After {
+    pub device: Device,
+    pub actions: usize,
 }
 
 // What the call answers: a refusal, or how many actions are listed.
@@ -75,50 +84,21 @@ pub fn least_expiry(tombstones: &[u8], count: usize) -> usize
     best
 }
 
-// Writes a row to the action area.
-fn put_action(actions: &mut [u8], at: usize, row: Action)
-    requires { ⌜ at + 13 ≤ length (now actions) ⌝ }
-    ensures { λ _. ⌜ now (actions .exit) ≡ splice (now (actions .entry)) at (actionBytes row) ⌝ }
+// Is an action area too short for so many bytes of tombstones?
+pub fn short_actions(actions: usize, tombstones: usize) -> bool
+    ensures { λ r. ⌜ r ≡ ltb actions (13 * (512 + tombstones / 44)) ⌝ }
 {
-    let b = rows::action_bytes(row);
-    octets::copy_in(actions, at, &b);
+    actions < 13 * (512 + tombstones / 44)
 }
 
-fn put_courier(actions: &mut [u8], at: usize, slot: u64)
-    requires { ⌜ at + 13 ≤ length (now actions) ⌝ }
-    ensures { λ _. ⌜ now (actions .exit) ≡ splice (now (actions .entry)) at (actionBytes (putCourier slot)) ⌝ }
+// Numbers 5 and 6 of a tombstone that is to be stored, or how it is. It reads only.
+pub fn store_choice(device: Device, tag: [u8; 16], tombstones: &[u8]) -> Choice
+    ensures { λ r. ⌜ ChoiceOf device (now (tombstones .entry)) tag r × RoomFor r device (now (tombstones .entry)) ⌝ }
 {
-    let row = Action {
-        kind: 0,
-        number: slot,
-        msgno: 0,
-    };
-    put_action(actions, at, row);
-}
-
-fn delete_courier(actions: &mut [u8], at: usize, slot: u64)
-    requires { ⌜ at + 13 ≤ length (now actions) ⌝ }
-    ensures { λ _. ⌜ now (actions .exit) ≡ splice (now (actions .entry)) at (actionBytes (deleteCourier slot)) ⌝ }
-{
-    let row = Action {
-        kind: 1,
-        number: slot,
-        msgno: 0,
-    };
-    put_action(actions, at, row);
-}
-
-// The refusals of the call, in order, and what it does. It reads only.
-fn stored_choice(device: Device, tag: [u8; 16], tombstones: &[u8], actions: usize) -> Choice
-    ensures { λ r. ⌜ ChoiceOf device (now (tombstones .entry)) tag actions r × Room r device (now (tombstones .entry)) actions ⌝ }
-{
-    let room = tombstones.len() / 44;
-    if actions < 13 * (512 + room) {
-        return Choice::Refused(Refusal::ShortArea);
-    }
     if tombstoned(tombstones, device.tombstones, tag) {
-        return Choice::Nothing;
+        return Choice::Store(Storing::Nothing);
     }
+    let room = tombstones.len() / 44;
     let n = table::fit(tombstones.len(), 44, device.tombstones);
     if n < 1024 {
         if room <= n {
@@ -127,13 +107,13 @@ fn stored_choice(device: Device, tag: [u8; 16], tombstones: &[u8], actions: usiz
         if device.next_slot == 18446744073709551615 {
             return Choice::Refused(Refusal::NoSlot);
         }
-        return Choice::Append;
+        return Choice::Store(Storing::Append);
     }
     let i = least_expiry(tombstones, device.tombstones);
     if device.next_slot == 18446744073709551615 {
         return Choice::Refused(Refusal::NoSlot);
     }
-    Choice::Evict(i)
+    Choice::Store(Storing::Evict(i))
 }
 
 // Puts a tombstone behind the n that are there.
@@ -176,7 +156,7 @@ fn new_tombstone(device: Device, tag: [u8; 16], s: [u8; 16], expiry: u32) -> Tom
 
 // Adds a tombstone.
 fn append(device: Device, row: Tombstone, tombstones: &mut [u8]) -> Device
-    requires { ⌜ spaceFor device (now tombstones) 26 ⌝ }
+    requires { ⌜ spaceFor device (now tombstones) ⌝ }
     ensures { λ r. ⌜ Grown device r (now (tombstones .entry)) (now (tombstones .exit)) (tableOf tombstoneCodec (device .tombstones) (now (tombstones .entry)) ++ (row ∷ [])) ⌝ }
 {
     let n = table::fit(tombstones.len(), 44, device.tombstones);
@@ -186,7 +166,7 @@ fn append(device: Device, row: Tombstone, tombstones: &mut [u8]) -> Device
 
 // Takes the tombstone at i out, and adds one.
 fn evict(device: Device, i: usize, row: Tombstone, tombstones: &mut [u8]) -> Device
-    requires { ⌜ spareAt i device (now tombstones) 26 ⌝ }
+    requires { ⌜ spareAt i device (now tombstones) ⌝ }
     ensures { λ r. ⌜ Grown device r (now (tombstones .entry)) (now (tombstones .exit)) (removeAt i (tableOf tombstoneCodec (device .tombstones) (now (tombstones .entry))) ++ (row ∷ [])) ⌝ }
 {
     let n = table::fit(tombstones.len(), 44, device.tombstones);
@@ -203,6 +183,44 @@ fn slot_at(tombstones: &[u8], count: usize, i: usize) -> u64
     octets::get_u64(tombstones, i * 44)
 }
 
+// Stores a tombstone as it was chosen, at the next slot; its actions are listed from a place on.
+pub fn store_tombstone(
+    device: Device,
+    how: Storing,
+    tag: [u8; 16],
+    s: [u8; 16],
+    expiry: u32,
+    tombstones: &mut [u8],
+    actions: &mut [u8],
+    at: usize,
+) -> After
+    requires { ⌜ Room how device (now tombstones) × (at + 26 ≤ length (now actions)) ⌝ }
+    ensures { λ r. ⌜ Stores how device tag s expiry at (now (tombstones .entry)) (now (actions .entry)) (r .device) (r .actions) (now (tombstones .exit)) (now (actions .exit)) × (r .actions ≤ 2) ⌝ }
+{
+    let row = new_tombstone(device, tag, s, expiry);
+    match how {
+        Storing::Nothing => After { device, actions: 0 },
+        Storing::Append => {
+            let d = append(device, row, tombstones);
+            answers::put_courier(actions, at, device.next_slot);
+            After {
+                device: d,
+                actions: 1,
+            }
+        }
+        Storing::Evict(i) => {
+            let slot = slot_at(tombstones, device.tombstones, i);
+            let d = evict(device, i, row, tombstones);
+            answers::delete_courier(actions, at, slot);
+            answers::put_courier(actions, at + 13, device.next_slot);
+            After {
+                device: d,
+                actions: 2,
+            }
+        }
+    }
+}
+
 // A tombstone to be stored: nothing if its tag has one, and at 1,024 or more the one of least expiry goes first.
 pub fn stored_tombstone(
     device: Device,
@@ -212,38 +230,27 @@ pub fn stored_tombstone(
     tombstones: &mut [u8],
     actions: &mut [u8],
 ) -> Outcome
-    ensures { λ r. ⌜ ((a : Areas) → a .device ≡ device → a .tombstones ≡ now (tombstones .entry) → Written storedSays
-        (step (view a) (storedTombstone (length (now (actions .entry))) tag s expiry)) (r .answer)
-        a (withTombstones a (r .device) (now (tombstones .exit)))
-        (actionsLent (now (actions .entry))) (actionsLent (now (actions .exit)))) ⌝ }
+    ensures { λ r. ⌜ Does saysStored (storedTombstone (length (now (actions .entry))) tag s expiry) (r .answer)
+        (tombstonesLent device (now (tombstones .entry))) (tombstonesLent (r .device) (now (tombstones .exit)))
+        (actionsLent (now (actions .entry))) (actionsLent (now (actions .exit))) ⌝ }
 {
-    let room = actions.len();
-    let row = new_tombstone(device, tag, s, expiry);
-    match stored_choice(device, tag, tombstones, room) {
+    if short_actions(actions.len(), tombstones.len()) {
+        return Outcome {
+            device,
+            answer: Stored::Refused(Refusal::ShortArea),
+        };
+    }
+    match store_choice(device, tag, tombstones) {
         Choice::Refused(why) => Outcome {
             device,
             answer: Stored::Refused(why),
         },
-        Choice::Nothing => Outcome {
-            device,
-            answer: Stored::Done(0),
-        },
-        Choice::Append => {
-            let d = append(device, row, tombstones);
-            put_courier(actions, 0, device.next_slot);
+        Choice::Store(how) => {
+            let after = store_tombstone(device, how, tag, s, expiry, tombstones, actions, 0);
+            let d = after.device;
             Outcome {
                 device: d,
-                answer: Stored::Done(1),
-            }
-        }
-        Choice::Evict(i) => {
-            let slot = slot_at(tombstones, device.tombstones, i);
-            let d = evict(device, i, row, tombstones);
-            delete_courier(actions, 0, slot);
-            put_courier(actions, 13, device.next_slot);
-            Outcome {
-                device: d,
-                answer: Stored::Done(2),
+                answer: Stored::Done(after.actions),
             }
         }
     }

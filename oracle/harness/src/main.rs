@@ -3,7 +3,11 @@
 mod checks;
 mod compare;
 mod drill;
+#[cfg(feature = "library")]
+mod garbage;
 mod generate;
+#[cfg(feature = "library")]
+mod spoiled;
 mod tally;
 mod variants;
 mod vectors;
@@ -12,7 +16,9 @@ use std::io::{Read, Write};
 use std::process::ExitCode;
 
 const USAGE: &str =
-    "usage: oracle compare --seeds FROM..TO --calls N [--profile P] [--against rules | wrong:NAME] [--tally] [--reach]
+    "usage: oracle compare --seeds FROM..TO --calls N [--profile P] [--against PARTY] [--tally] [--reach]
+       oracle garbage FROM..TO N    the library on garbage areas, by seeds
+       oracle spoiled               bytes that the library refuses, and the library with one thing wrong
        oracle drill                 a drill log on standard input
        oracle log SEED RECORDS      a random drill log
        oracle corners               document 01's corners, put to the source one by one
@@ -67,6 +73,11 @@ fn run_corners() -> ExitCode {
     status(failed == 0)
 }
 
+fn usage() -> ExitCode {
+    eprintln!("{USAGE}");
+    ExitCode::FAILURE
+}
+
 fn main() -> ExitCode {
     let arguments: Vec<String> = std::env::args().skip(1).collect();
     match arguments.split_first() {
@@ -75,13 +86,14 @@ fn main() -> ExitCode {
         Some((command, rest)) if command == "log" => print_log(rest),
         Some((command, rest)) if command == "variants" => print_variants(rest),
         Some((command, [])) if command == "corners" => run_corners(),
+        #[cfg(feature = "library")]
+        Some((command, rest)) if command == "garbage" => garbage::main(rest).unwrap_or_else(usage),
+        #[cfg(feature = "library")]
+        Some((command, [])) if command == "spoiled" => spoiled::main(),
         Some((command, [])) if command == "vectors" => {
             vectors::print();
             ExitCode::SUCCESS
         }
-        _ => {
-            eprintln!("{USAGE}");
-            ExitCode::FAILURE
-        }
+        _ => usage(),
     }
 }

@@ -1,7 +1,6 @@
 -- `is_verified`: the byte of the row at the place. Assumes nothing.
 use mathlib.Core.Path.{sym, _∙_}
 use native.Mathlib.Omega.{arith}
-use Rattle.table.specs.declared.Found.the-variants.{At, Nothing}
 use Rattle.contacts.proofs.FindLaws.{row-inside, verified-at, not-verified}
 use borrow.Author.Needs.{needs}
 use Rattle.contacts.proofs.is_verified.Statement.{statement}

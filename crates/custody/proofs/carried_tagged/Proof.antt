@@ -3,7 +3,7 @@ use borrow.Author.Needs.{needs}
 use mathlib.Core.Path.{_∙_}
 use Rattle.rows.specs.Rows.{carriedCodec, carriedOf}
 use Rattle.table.proofs.TableLaws.{table-any}
-use Rattle.custody.proofs.Laws.{key-run}
+use Rattle.table.proofs.FindLaws.{key-run}
 use Rattle.custody.proofs.carried_tagged.Statement.{statement}
 use Rattle.custody.proofs.carried_tagged.Tie as tie
 

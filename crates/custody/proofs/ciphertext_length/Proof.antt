@@ -1,7 +1,6 @@
 -- `custody::ciphertext_length`: cell and length are the row's. Assumes nothing.
 use borrow.Author.Needs.{needs}
 use mathlib.Core.Path.{ap₂, _∙_}
-use Prim.Native.Nat.{ℕ}
 use Rattle.model.specs.Cells.{cellLength}
 use Rattle.custody.proofs.ciphertext_length.Statement.{statement}
 use Rattle.custody.proofs.ciphertext_length.Tie as tie

@@ -1,9 +1,11 @@
 -- `custody::duplicate`: the first of the three tables that has the tag decides. Assumes nothing.
 use borrow.Author.Needs.{needs}
-use mathlib.Core.Path.{refl, sym, _∙_}
+use mathlib.Core.Path.{_≡_, refl, sym, _∙_}
 use mathlib.Core.Bool.{true, false}
-use Rattle.custody.proofs.Laws.{duplicate-of}
+use Rattle.table.specs.Codec.{tableOf}
+use Rattle.rows.specs.Rows.{tombstoneCodec}
 use Rattle.model.specs.Tombs.{tombstoned}
+use Rattle.custody.proofs.Laws.{duplicate-of}
 use Rattle.custody.proofs.duplicate.Statement.{statement}
 use Rattle.custody.proofs.duplicate.Tie as tie
 
@@ -16,11 +18,12 @@ returns-2 c =
     λ a ed eo ec et. sym (duplicate-of _ a ed eo ec et false true _ p (sym (c .before .carried-tagged .ensures) ∙ c .if2 .taken) refl)
 
 returns-3 : tie.Need-returns-3
-unfolding tombstoned
 returns-3 c =
     let p = sym (c .before .before .before .before .own-tagged .ensures) ∙ c .before .before .before .if1 .left in
     let q = sym (c .before .before .carried-tagged .ensures) ∙ c .before .if2 .left in
-    λ a ed eo ec et. sym (duplicate-of _ a ed eo ec et false false _ p q (sym (c .tombstoned .ensures)))
+    let x = c .before .before .before .before .before .before .before .before .args in
+    let t : tombstoned (tableOf tombstoneCodec (x .device .tombstones) (x .tombstones .now)) (x .tag) ≡ c .tombstoned .result = sym (c .tombstoned .ensures) in
+    λ a ed eo ec et. sym (duplicate-of _ a ed eo ec et false false _ p q t)
 
 pub duplicate-spec : {M : Type 1} → statement M
 duplicate-spec =

@@ -1,7 +1,7 @@
 -- A row's tag is the 16 bytes at offset 16, so that the search of bytes is the search of rows.
 use Rattle.rows.specs.Rows.{carriedCodec, carriedOf}
 use Rattle.table.proofs.TableLaws.{table-find}
-use Rattle.fetch.proofs.Laws.{key-run}
+use Rattle.table.proofs.FindLaws.{key-run}
 use borrow.Author.Needs.{needs}
 use Rattle.fetch.proofs.carried_of_tag.Statement.{statement}
 use Rattle.fetch.proofs.carried_of_tag.Tie as tie

@@ -2,7 +2,7 @@ use mathlib.Core.Path.{subst}
 use Rattle.hasher.specs.Taken.{Taken}
 use Rattle.hmac.specs.Hmac.{padded, ipad}
 use Rattle.kdf.specs.Kdf.{labelled}
-use Rattle.kdf.proofs.KdfLaws.{regroup}
+use Rattle.hmac.proofs.HkdfLaws.{regroup}
 use borrow.Author.Needs.{needs}
 use Rattle.kdf.proofs.keyed.Statement.{statement}
 use Rattle.kdf.proofs.keyed.Tie as tie

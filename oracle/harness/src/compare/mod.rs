@@ -16,6 +16,16 @@ pub type Maker = dyn Fn(Sizes) -> Box<dyn Post>;
 pub fn maker(name: &str) -> Option<Box<Maker>> {
     match name {
         "rules" => Some(Box::new(|sizes| Box::new(Rules::new(sizes)))),
+        "lent" => Some(Box::new(|sizes| Box::new(lent::Model::new(sizes)))),
+        #[cfg(feature = "library")]
+        "library" => Some(Box::new(|sizes| Box::new(library::Library::new(sizes)))),
+        #[cfg(feature = "library")]
+        _ if name.starts_with("library:") => {
+            let spoiled = library::Spoiled::named(name.strip_prefix("library:")?)?;
+            Some(Box::new(move |sizes| {
+                Box::new(library::Library::spoiled(sizes, spoiled))
+            }))
+        }
         _ => {
             let wrong = wrong_variant(name.strip_prefix("wrong:")?)?;
             Some(Box::new(move |sizes| Box::new(Rules::wrong_in(sizes, wrong))))
@@ -135,6 +145,8 @@ pub fn run(options: &Options, tally: &mut Tally) -> Option<bool> {
     let lists = options.to - options.from + 1;
     let (each, over) = (options.calls as u64 / lists, options.calls as u64 % lists);
     for seed in options.from..=options.to {
+        #[cfg(feature = "library")]
+        library::watch(seed);
         let count = each + u64::from(seed - options.from < over);
         let profile = options.profile.unwrap_or_else(|| Profile::of_seed(seed));
         if let Err(found) = run_list(seed, profile, count as usize, &make, &mut |seen| tally.count(seen)) {
@@ -165,6 +177,13 @@ pub fn main(arguments: &[String]) -> ExitCode {
     let missed = if options.reach { tally.missed() } else { Vec::new() };
     for what in &missed {
         println!("never reached: {what}");
+    }
+    #[cfg(feature = "library")]
+    if options.against == "library" {
+        print!(
+            "{} calls by the library, the others by the third statement; ",
+            tally.calls_of(library::CALLS)
+        );
     }
     println!("{} calls, 0 differences", options.calls);
     crate::status(missed.is_empty())

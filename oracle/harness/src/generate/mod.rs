@@ -131,6 +131,12 @@ impl Generator {
         self.call(kind, state)
     }
 
+    /// A call of this kind.
+    #[cfg(feature = "library")]
+    pub fn of_kind(&mut self, kind: Kind, state: &State) -> Call {
+        self.call(kind, state)
+    }
+
     fn kind(&mut self) -> Kind {
         let profile = self.profile;
         let total: usize = Kind::ALL.into_iter().map(|kind| profile.weight(kind)).sum();

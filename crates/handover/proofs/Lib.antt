@@ -1,0 +1,2 @@
+pub mod HandLaws
+pub mod CallLaws

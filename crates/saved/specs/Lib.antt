@@ -1,0 +1,2 @@
+pub mod Blobs
+pub mod Saving

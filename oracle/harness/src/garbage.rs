@@ -1,0 +1,238 @@
+//! The library on areas that no call left: garbage in every field. The third statement says what must come out.
+
+use crate::generate::{Generator, Profile, Rng};
+use lent::{Areas, BadTag, Carried, ContactRow, Offer, Own, Row, Tombstone, decoded, performed};
+use library::{CALLS, Library};
+use std::process::ExitCode;
+
+const COUNTS: [usize; 14] = [
+    0,
+    1,
+    2,
+    255,
+    256,
+    257,
+    511,
+    512,
+    513,
+    1_024,
+    1 << 32,
+    usize::MAX / 57 + 1,
+    usize::MAX - 1,
+    usize::MAX,
+];
+const CELLS: [u16; 8] = [0, 1, 2, 255, 256, 257, 65_280, 65_535];
+const LENGTHS: [u16; 9] = [0, 1, 47, 48, 2_063, 2_064, 2_065, 4_128, 65_535];
+const EXPIRIES: [u32; 5] = [0, 1, 10, u32::MAX - 1, u32::MAX];
+const SLOTS: [u64; 6] = [0, 1, 2, 5_000, u64::MAX - 1, u64::MAX];
+
+/// A row of an area changed, where it has a row.
+fn alter<R: Row>(area: &mut [u8], rng: &mut Rng, change: impl FnOnce(&mut R, &mut Rng)) {
+    let places = area.len() / R::WIDTH;
+    if places == 0 {
+        return;
+    }
+    // Mostly one of the first rows, which the counts reach.
+    let most = if rng.percent(80) { places.min(6) } else { places };
+    let at = rng.below(most) * R::WIDTH;
+    let mut row = R::read(&area[at..at + R::WIDTH]);
+    change(&mut row, rng);
+    area[at..at + R::WIDTH].copy_from_slice(&row.write());
+}
+
+/// A tag of some row, so that tags meet.
+fn tag(areas: &Areas, rng: &mut Rng) -> [u8; 16] {
+    let state = decoded(areas);
+    let mut tags: Vec<[u8; 16]> = state.held.iter().map(|row| *row.held.tag()).collect();
+    tags.extend(state.own.iter().map(|row| row.tag));
+    rng.pick_or(&tags, [0x11; 16])
+}
+
+fn contact(areas: &Areas, rng: &mut Rng) -> u64 {
+    let ids: Vec<u64> = lent::table(&areas.contacts, areas.device.contacts)
+        .iter()
+        .map(|row: &ContactRow| row.id)
+        .collect();
+    if rng.percent(70) {
+        rng.pick_or(&ids, 5)
+    } else {
+        rng.next()
+    }
+}
+
+fn spoil_counts(areas: &mut Areas, rng: &mut Rng) {
+    let count = rng.pick(&COUNTS);
+    let device = &mut areas.device;
+    match rng.below(5) {
+        0 => device.contacts = count,
+        1 => device.own = count,
+        2 => device.carried = count,
+        3 => device.tombstones = count,
+        _ => device.bad_tags = count,
+    }
+}
+
+fn spoil_device(areas: &mut Areas, rng: &mut Rng) {
+    let device = &mut areas.device;
+    match rng.below(5) {
+        0 => device.setting.copies = rng.next() as u8,
+        1 => device.setting.lifetime = rng.next() as u16,
+        2 => device.setting.enabled = !device.setting.enabled,
+        3 => device.clock = rng.pick(&[0, 599, 600, 60 * u64::from(u32::MAX), u64::MAX]),
+        _ => device.next_slot = rng.pick(&SLOTS),
+    }
+}
+
+fn spoil_exchange(areas: &mut Areas, rng: &mut Rng) {
+    let peer = contact(areas, rng);
+    let tag = tag(areas, rng);
+    let place = rng.below(areas.sessions.len());
+    let session = &mut areas.sessions[place];
+    match rng.below(6) {
+        0 => session.exchange.listed = rng.pick(&COUNTS),
+        1 => session.exchange.offered = rng.pick(&COUNTS),
+        2 => session.exchange.complete = !session.exchange.complete,
+        3 => session.exchange.peer = rng.pick(&[None, Some(peer)]),
+        4 => alter::<[u8; 8]>(&mut session.prefixes, rng, |row, _| *row = post::array(&tag, 0)),
+        _ => alter::<Offer>(&mut session.offers, rng, |row, rng| {
+            *row = Offer {
+                tag,
+                copies: rng.next() as u8,
+            }
+        }),
+    }
+}
+
+fn spoil_carried(areas: &mut Areas, rng: &mut Rng) {
+    let (tag, peer) = (tag(areas, rng), contact(areas, rng));
+    alter::<Carried>(&mut areas.carried, rng, |row, rng| match rng.below(7) {
+        0 => row.cell = rng.pick(&CELLS),
+        1 => row.len = rng.pick(&LENGTHS),
+        2 => row.slot = rng.pick(&SLOTS),
+        3 => row.tag = tag,
+        4 => row.depositor = peer,
+        5 => row.expiry = rng.pick(&EXPIRIES),
+        _ => row.copies = rng.next() as u8,
+    });
+}
+
+fn spoil_own(areas: &mut Areas, rng: &mut Rng) {
+    let (tag, peer) = (tag(areas, rng), contact(areas, rng));
+    alter::<Own>(&mut areas.own, rng, |row, rng| match rng.below(8) {
+        0 => row.cell = rng.pick(&CELLS),
+        1 => row.len = rng.pick(&LENGTHS),
+        2 => row.message = rng.pick(&[0, 1, u32::MAX]),
+        3 => row.tag = tag,
+        4 => row.contact = peer,
+        5 => row.expiry = rng.pick(&EXPIRIES),
+        6 => row.renewed = rng.next() as u8,
+        _ => row.copies = rng.next() as u8,
+    });
+}
+
+fn spoil_rest(areas: &mut Areas, rng: &mut Rng) {
+    let (tag, peer) = (tag(areas, rng), contact(areas, rng));
+    match rng.below(5) {
+        0 => alter::<Tombstone>(&mut areas.tombstones, rng, |row, rng| row.slot = rng.pick(&SLOTS)),
+        1 => alter::<Tombstone>(&mut areas.tombstones, rng, |row, _| row.tag = tag),
+        2 => alter::<Tombstone>(&mut areas.tombstones, rng, |row, rng| row.expiry = rng.pick(&EXPIRIES)),
+        3 => alter::<BadTag>(&mut areas.bad_tags, rng, |row, _| *row = BadTag { peer, tag }),
+        _ => alter::<ContactRow>(&mut areas.contacts, rng, |row, rng| {
+            *row = ContactRow {
+                id: if rng.percent(50) { row.id } else { peer },
+                verification: rng.next() as u8,
+            }
+        }),
+    }
+}
+
+/// An area of bytes that mean nothing.
+fn spoil_area(areas: &mut Areas, rng: &mut Rng) {
+    let area = match rng.below(5) {
+        0 => &mut areas.contacts,
+        1 => &mut areas.own,
+        2 => &mut areas.carried,
+        3 => &mut areas.tombstones,
+        _ => &mut areas.bad_tags,
+    };
+    area.iter_mut().for_each(|byte| *byte = rng.next() as u8);
+}
+
+fn spoil(areas: &mut Areas, rng: &mut Rng) {
+    for _ in 0..rng.between(1, 8) {
+        match rng.below(20) {
+            0..4 => spoil_counts(areas, rng),
+            4..6 => spoil_device(areas, rng),
+            6..9 => spoil_exchange(areas, rng),
+            9..13 => spoil_carried(areas, rng),
+            13..16 => spoil_own(areas, rng),
+            16..19 => spoil_rest(areas, rng),
+            _ => spoil_area(areas, rng),
+        }
+    }
+}
+
+/// Areas that hold something, of lengths that need not be whole rows or cells.
+fn warm(generator: &mut Generator, rng: &mut Rng) -> Areas {
+    let mut areas = Areas::fresh(&generator.sizes);
+    if rng.percent(60) {
+        areas.tombstones.resize(areas.tombstones.len() + rng.below(44), 0x5a);
+        areas.bad_tags.resize(areas.bad_tags.len() + rng.below(24), 0x5a);
+        areas
+            .own_cells
+            .resize(areas.own_cells.len() + rng.below(lent::CELL), 0x5a);
+        areas
+            .carried_cells
+            .resize(areas.carried_cells.len() + rng.below(lent::CELL), 0x5a);
+    }
+    for _ in 0..rng.between(10, 200) {
+        let call = generator.next(&decoded(&areas));
+        performed(&mut areas, &call);
+    }
+    areas
+}
+
+/// A list of one seed: areas, then garbage and a few calls in turn.
+fn run_list(seed: u64, count: usize) -> Result<(), String> {
+    let mut rng = Rng::new(seed ^ 0x6172_6561);
+    let mut made = 0;
+    while made < count {
+        let mut generator = Generator::new(rng.next(), Profile::of_seed(seed));
+        let mut areas = warm(&mut generator, &mut rng);
+        for _ in 0..40 {
+            spoil(&mut areas, &mut rng);
+            let mut library = Library::of(areas, rng.percent(50));
+            for _ in 0..rng.between(1, 6) {
+                let kind = rng.pick(CALLS);
+                let call = generator.of_kind(kind, &decoded(library.areas()));
+                library.outcome(&call);
+                made += 1;
+                if let Some(what) = library.differences().first() {
+                    return Err(format!("seed {seed}, call {made}, {call:?}: {what}"));
+                }
+            }
+            areas = library.into_areas();
+        }
+    }
+    Ok(())
+}
+
+/// `garbage FROM..TO CALLS`: so many calls at least, shared out among the seeds.
+pub fn main(arguments: &[String]) -> Option<ExitCode> {
+    let [seeds, calls] = arguments else {
+        return None;
+    };
+    let (from, to) = seeds.split_once("..")?;
+    let (from, to): (u64, u64) = (from.parse().ok()?, to.parse().ok()?);
+    let calls: usize = calls.parse().ok()?;
+    let lists = to.checked_sub(from)? + 1;
+    for seed in from..=to {
+        library::watch(seed);
+        if let Err(what) = run_list(seed, calls.div_ceil(lists as usize)) {
+            println!("first difference: {what}");
+            return Some(ExitCode::FAILURE);
+        }
+    }
+    println!("{calls} calls on garbage areas, 0 differences");
+    Some(ExitCode::SUCCESS)
+}
