@@ -713,6 +713,32 @@ pub extern "C" fn goosetable_save(
     }
 }
 
+// Replaces the held rows and the next slot by those of a saved file.
+#[no_mangle]
+pub extern "C" fn goosetable_load(
+    post: Post,
+    contacts: &[u8; 2304],
+    carried: &mut [u8; 14592],
+    tombstones: &mut [u8],
+    carried_cells: &mut [u8],
+    file: &[u8],
+) -> Answer {
+    let o = load::load(
+        device_of(post),
+        contacts,
+        carried,
+        tombstones,
+        carried_cells,
+        file,
+    );
+    let device = o.device;
+    let said = o.said;
+    match said {
+        load::Said::Done => answer_of(device, DONE, 0, 0, 0),
+        load::Said::Refused(why) => answer_of(device, core::refusal_number(why), 0, 0, 0),
+    }
+}
+
 // ---- functions of their inputs alone
 
 #[no_mangle]

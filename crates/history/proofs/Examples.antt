@@ -1,11 +1,11 @@
 -- Runs on fresh areas, computed: the theorem speaks of something.
 -- Assumes nothing.
-use mathlib.Core.Path.{_≡_, refl}
-use mathlib.Core.Bool.{true}
+use mathlib.Core.Path.{_≡_, refl, sym, ap, subst}
+use mathlib.Core.Bool.{Bool, true, cond}
 use mathlib.Core.List.{List, [], _∷_, _++_, map}
 use Prim.Native.Nat.{ℕ, zero, suc, _*_, _<_}
 use native.Mathlib.Omega.{arith}
-use lib.ListN.{replicate, getD, length-replicate}
+use lib.ListN.{replicate, getD, take, set, length-replicate}
 use Rattle.octets.specs.Bytes.{Bytes, splice, part, num, be, sameBytes}
 use Rattle.octets.proofs.Compare.{same-refl}
 use Rattle.core.specs.declared.ContactId.{ContactId}
@@ -15,18 +15,19 @@ use Rattle.table.specs.Rows as table
 use Rattle.table.specs.Lists as lists
 use Rattle.table.specs.Lists.{All, none, more}
 use Rattle.table.specs.Codec as codec
+use Rattle.table.proofs.ListLaws.{all-append}
 use Rattle.courier.specs.declared.Custody.{Custody}
 use Rattle.courier.specs.declared.Custody.the-variants as custody
 use Rattle.courier.specs.Courier as courier
 use Rattle.courier.specs.Tags.{commitmentOf, tombstoneMatches}
-use Rattle.state.specs.Config.{inRange, configDefault}
+use Rattle.state.specs.Config.{inRange}
 use Rattle.rows.specs.declared.Carried.{Carried}
 use Rattle.rows.specs.Rows as encoded
 use Rattle.rows.specs.Device.{freshDevice, closedExchange}
 use Rattle.rows.specs.Proper.{Run}
 use Rattle.rows.specs.declared.Reply.{Reply}
 use Rattle.rows.specs.declared.Action.{Action}
-use Rattle.model.specs.State.{apply}
+use Rattle.model.specs.State.{State, apply}
 use Rattle.model.specs.Calls
 use Rattle.model.specs.Calls.{Call, Result, stepOf, putCourier, custodyReply}
 use Rattle.model.specs.Contacts
@@ -35,10 +36,13 @@ use Rattle.model.specs.Cells
 use Rattle.model.specs.Custody as model
 use Rattle.model.specs.Exchange
 use Rattle.model.specs.Tombs
+use Rattle.model.specs.Tombs.{Met, carriedAt, wrong}
 use Rattle.model.specs.Areas.{PostAreas, SessionAreas, noSessionAreas, view, viewSession, viewPost, store, storeDevice, storeSession, areasFor, afterAreas, runAreas, Fresh}
 use Rattle.model.specs.Good.{Sized, ProperCall}
-use Rattle.model.specs.Step.{Post, Lent, emptyState, tests, perform, step, stateFor, answerTo, after, run}
+use Rattle.model.specs.Step.{Post, Lent, tests, perform, step, stateFor, answerTo, after, run}
+use Rattle.model.proofs.RunLaws.{freshPost, run-fresh}
 use Rattle.history.specs.History.{CustodyOnAreas}
+use Rattle.history.proofs.OfferLaws.{commitment-run}
 use Rattle.history.proofs.HistoryLaws.{custody-history-areas}
 
 sessionAreas : SessionAreas
@@ -65,21 +69,26 @@ areas cells = record {
 id : ℕ → ContactId
 id n = record { 0 = n }
 
-ofByte : ℕ → List ℕ
+unfoldable pub ofByte : ℕ → List ℕ
 ofByte b = replicate 16 b
 
 lend : ℕ → Call → Lent
 lend i c = record { session = i; call = c }
 
-send : ℕ → ℕ → Lent
+-- an envelope with the commitment c
+committing : List ℕ → ℕ → ℕ → Lent
 unfolding lend id ofByte
-send peer b = lend 0 (Calls.envelope 61440 6708 [] (id peer) (record { tag = ofByte b; c = ofByte 34; «expiry_min» = 100; copies = 9 }) (replicate 48 0))
+committing c peer b = lend 0 (Calls.envelope 61440 6708 [] (id peer) (record { tag = ofByte b; c = c; «expiry_min» = 100; copies = 9 }) (replicate 48 0))
 
-sends : ℕ → ℕ → List Lent
+unfoldable pub send : ℕ → ℕ → Lent
+unfolding committing
+send peer b = committing (ofByte 34) peer b
+
+unfoldable pub sends : ℕ → ℕ → List Lent
 sends peer zero = []
 sends peer (suc n) = send peer n ∷ sends peer n
 
-contact : ℕ → Verification → Lent
+unfoldable pub contact : ℕ → Verification → Lent
 unfolding lend id
 contact n v = lend 0 (Calls.contact (id n) v)
 
@@ -97,8 +106,8 @@ unfolding lend id ofByte
 code i peer said = lend i (Calls.custodyAnswer 6708 (id peer) (ofByte 17) said)
 
 -- the areas after a list of calls; who unfolds it unfolds all that a run computes with
-ran : ℕ → List Lent → PostAreas
-unfolding areas sessionAreas id ofByte lend send sends contact openFor terminator code runAreas afterAreas areasFor view viewSession store storeDevice storeSession apply step stepOf tests perform Contacts.contactTests Contacts.setContact Contacts.known Contacts.contactPlace Contacts.isVerified Contacts.putContact Contacts.settingTests Contacts.setConfig Contacts.openExchangeTests Contacts.openExchanged Contacts.openedFor Contacts.nowMin Contacts.lifetimeEnd inRange lists.any lists.positionFrom lists.countBy lists.filter lists.replaceAt lists.removeAt lists.insertAt table.ragged table.rows table.held table.join table.written codec.tableOf codec.withTable num encoded.carriedOf encoded.carriedBytes encoded.contactOf encoded.contactBytes encoded.offerOf encoded.offerBytes Window.windowRows Window.prefixRows Window.wrongWindow Window.keysRise Window.strangers Window.lookup Window.isBad sameBytes splice part courier.headerBytes courier.headerOf courier.envelopeValid courier.carriedLength be model.custodyOf model.duplicate model.full model.deposited model.carriedTotal model.newCarried model.carry model.accepts model.envelopeTests model.answerCustody model.receiveEnvelope Cells.cellLength Cells.cellCount Cells.freeFrom Cells.freeCell Cells.cellsUsed Cells.newCell Exchange.envelopes Exchange.ownEnvelopeOf Exchange.carriedEnvelopeOf Exchange.receiveInventoryTests Exchange.receiveInventory Exchange.tooMany Exchange.answerInventory Exchange.offers Exchange.isOffered Exchange.halved Exchange.insertOffer Exchange.insertOffers Exchange.custodyTests Exchange.receiveCustody Exchange.settle Exchange.handedActions Exchange.handedOver Exchange.lowered
+unfoldable pub ran : ℕ → List Lent → PostAreas
+unfolding areas sessionAreas id ofByte lend committing send sends contact openFor terminator code runAreas afterAreas areasFor view viewSession store storeDevice storeSession apply step stepOf tests perform Contacts.contactTests Contacts.setContact Contacts.known Contacts.contactPlace Contacts.isVerified Contacts.putContact Contacts.settingTests Contacts.setConfig Contacts.openExchangeTests Contacts.openExchanged Contacts.openedFor Contacts.nowMin Contacts.lifetimeEnd inRange lists.any lists.positionFrom lists.countBy lists.filter lists.replaceAt lists.removeAt lists.insertAt table.ragged table.rows table.held table.join table.written codec.tableOf codec.withTable num encoded.carriedOf encoded.carriedBytes encoded.contactOf encoded.contactBytes encoded.offerOf encoded.offerBytes Window.windowRows Window.prefixRows Window.wrongWindow Window.keysRise Window.strangers Window.lookup Window.isBad sameBytes splice part courier.headerBytes courier.headerOf courier.envelopeValid courier.carriedLength be model.custodyOf model.duplicate model.full model.deposited model.carriedTotal model.newCarried model.carry model.accepts model.envelopeTests model.answerCustody model.receiveEnvelope Cells.cellLength Cells.cellCount Cells.freeFrom Cells.freeCell Cells.cellsUsed Cells.newCell Exchange.envelopes Exchange.ownEnvelopeOf Exchange.carriedEnvelopeOf Exchange.receiveInventoryTests Exchange.receiveInventory Exchange.tooMany Exchange.answerInventory Exchange.offers Exchange.isOffered Exchange.halved Exchange.insertOffer Exchange.insertOffers Exchange.custodyTests Exchange.receiveCustody Exchange.settle Exchange.handedActions Exchange.handedOver Exchange.lowered
 ran cells ls = runAreas (areas cells) ls
 
 -- what a call answers there
@@ -131,19 +140,24 @@ eighth = refl
 
 -- ---- copies 4 are configured, three exchanges offer 2 each, and all three are accepted: 4, then 2, then 0, then 0 still
 
-offering : List Lent
-unfolding lend contact send openFor terminator
-offering =
-    lend 0 (Calls.setting true 4 1440) ∷ contact 5 verification.Verified ∷ send 5 17 ∷ openFor 0 6 ++ openFor 1 7 ++ openFor 2 8
+offering : List ℕ → List Lent
+unfolding lend contact committing openFor terminator
+offering c =
+    lend 0 (Calls.setting true 4 1440) ∷ contact 5 verification.Verified ∷ committing c 5 17 ∷ openFor 0 6 ++ openFor 1 7 ++ openFor 2 8
     ++ (terminator 0 6 ∷ terminator 1 7 ∷ terminator 2 8 ∷ [])
 
-handed-on :
-    (copies-after 1 offering ≡ 4 ∷ [])
-    × (copies-after 1 (offering ++ (code 0 6 custody.Accepted ∷ [])) ≡ 2 ∷ [])
-    × (copies-after 1 (offering ++ (code 0 6 custody.Full ∷ code 0 6 custody.Accepted ∷ [])) ≡ 4 ∷ [])
-    × (copies-after 1 (offering ++ (code 0 6 custody.Accepted ∷ code 1 7 custody.Accepted ∷ [])) ≡ 0 ∷ [])
-    × (copies-after 1 (offering ++ (code 0 6 custody.Accepted ∷ code 1 7 custody.Accepted ∷ code 2 8 custody.Accepted ∷ [])) ≡ 0 ∷ [])
-unfolding copies-after offering
+-- all three answer
+accepting : List Lent
+unfolding code
+accepting = code 0 6 custody.Accepted ∷ code 1 7 custody.Accepted ∷ code 2 8 custody.Accepted ∷ []
+
+handed-on : let offered : List Lent = offering (ofByte 34) in
+    (copies-after 1 offered ≡ 4 ∷ [])
+    × (copies-after 1 (offered ++ take 1 accepting) ≡ 2 ∷ [])
+    × (copies-after 1 (offered ++ (code 0 6 custody.Full ∷ code 0 6 custody.Accepted ∷ [])) ≡ 4 ∷ [])
+    × (copies-after 1 (offered ++ take 2 accepting) ≡ 0 ∷ [])
+    × (copies-after 1 (offered ++ accepting) ≡ 0 ∷ [])
+unfolding copies-after offering accepting
 handed-on = (refl, refl, refl, refl, refl)
 
 -- ---- demand 3 holds of that run on areas, with any number of cells
@@ -183,9 +197,9 @@ contact-proper : (n : ℕ) (v : Verification) → n < 256 → ProperCall (contac
 unfolding contact lend id
 contact-proper n v h = omega arith
 
-send-proper : (peer b : ℕ) → peer < 256 → b < 256 → ProperCall (send peer b .call)
-unfolding send lend id
-send-proper peer b h k = (omega arith, record { tag = of-byte b k; c = of-byte 34 (omega arith); «expiry_min» = omega arith; copies = omega arith })
+committing-proper : (c : List ℕ) (peer b : ℕ) → Run 16 c → peer < 256 → b < 256 → ProperCall (committing c peer b .call)
+unfolding committing lend id
+committing-proper c peer b r h k = (omega arith, record { tag = of-byte b k; c = r; «expiry_min» = omega arith; copies = omega arith })
 
 terminator-proper : (i peer : ℕ) → ProperCall (terminator i peer .call)
 unfolding terminator lend Bytes
@@ -195,31 +209,61 @@ terminator-proper i peer = none-listed
     none-listed zero = omega arith
     none-listed (suc i) = omega arith
 
-proper : All (λ (l : Lent). ProperCall (l .call)) offering
+proper : (c : List ℕ) → Run 16 c → All (λ (l : Lent). ProperCall (l .call)) (offering c)
 unfolding offering openFor lend
-proper =
-    more setting-proper (more (contact-proper 5 verification.Verified (omega arith)) (more (send-proper 5 17 (omega arith) (omega arith))
+proper c r =
+    more setting-proper (more (contact-proper 5 verification.Verified (omega arith)) (more (committing-proper c 5 17 r (omega arith) (omega arith))
     (more (contact-proper 6 verification.Unverified (omega arith)) (more tt (more (contact-proper 7 verification.Unverified (omega arith)) (more tt
     (more (contact-proper 8 verification.Unverified (omega arith)) (more tt (more (terminator-proper 0 6) (more (terminator-proper 1 7) (more (terminator-proper 2 8) none)))))))))))
 
-offering-history : (n : ℕ) → CustodyOnAreas (areas n) offering
+offering-history : (n : ℕ) (c : List ℕ) → Run 16 c → CustodyOnAreas (areas n) (offering c)
 unfolding areas
-offering-history n = custody-history-areas (areas n) (fresh n) (sized n) (omega arith) offering proper
+offering-history n c r = custody-history-areas (areas n) (fresh n) (sized n) (omega arith) (offering c) (proper c r)
 
--- ---- a tomb whose secret hashes to the commitment turns the row in its slot
+-- ---- the same row, handed on by all three, is turned by a tomb whose secret hashes to its commitment
 
 opens : (secret : List ℕ) → tombstoneMatches (commitmentOf secret) secret ≡ true
 unfolding tombstoneMatches
 opens secret = same-refl (commitmentOf secret)
 
-committed : List ℕ → Post
-unfolding ran run after answerTo stateFor
-committed secret =
-    run (record { state = emptyState 0 configDefault [] (replicate 2064 7) 4 4; sessions = [] })
-    (contact 5 verification.Verified
-    ∷ lend 0 (Calls.envelope 61440 6708 [] (id 5) (record { tag = ofByte 17; c = commitmentOf secret; «expiry_min» = 100; copies = 9 }) (replicate 48 0)) ∷ [])
+tomb : List ℕ → Lent
+unfolding lend
+tomb secret = lend 0 (Calls.tomb 6708 (id 5) (ofByte 17) secret)
 
-turned : (secret : List ℕ) → let p : Post = after (committed secret) (lend 0 (Calls.tomb 6708 (id 5) (ofByte 17) secret)) in
-    (p .state .carried ≡ []) × (p .state .tombstones ≡ (record { slot = 0; tag = ofByte 17; s = secret; «expiry_min» = 100 }) ∷ [])
-unfolding committed Tombs.meets Tombs.tombTests Tombs.noRowToMeet Tombs.noSlotToMeet Tombs.receiveTomb Tombs.turn Tombs.turned Tombs.insertBySlot
-turned secret = rw (opens secret) (refl, refl)
+tomb-proper : (secret : List ℕ) → Run 16 secret → ProperCall (tomb secret .call)
+unfolding tomb lend
+tomb-proper secret h = (of-byte 17 (omega arith), h)
+
+ended : List ℕ → List Lent
+ended secret = accepting ++ (tomb secret ∷ [])
+
+ended-proper : (secret : List ℕ) → Run 16 secret → All (λ (l : Lent). ProperCall (l .call)) (ended secret)
+unfolding ended accepting code lend
+ended-proper secret h = more tt (more tt (more tt (more (tomb-proper secret h) none)))
+
+-- no carried row is left, and its slot has the tombstone
+Turned : List ℕ → Post → Type 0
+Turned secret p = (p .state .carried ≡ []) × (p .state .tombstones ≡ (record { slot = 0; tag = ofByte 17; s = secret; «expiry_min» = 100 }) ∷ [])
+
+-- the post after a tomb that meets m
+meeting : List ℕ → Post → Met → Post
+meeting secret p m =
+    let s : State = stateFor p (tomb secret) in
+    let t : State = apply s (stepOf (Tombs.tombTests s 6708 (id 5) (ofByte 17) m) (Tombs.receiveTomb s (ofByte 17) secret m) .change) in
+    record { state = t; sessions = set (p .sessions) 0 (t .session) }
+
+-- computed on rows
+turned-rows : (secret : List ℕ) → Turned secret (run (freshPost (areas 1)) (offering (commitmentOf secret) ++ ended secret))
+unfolding Turned ran offering accepting tomb ended meeting run after answerTo stateFor Tombs.meets Tombs.tombTests Tombs.noRowToMeet Tombs.noSlotToMeet Tombs.receiveTomb Tombs.turn Tombs.turned Tombs.insertBySlot
+turned-rows secret =
+    subst (λ (m : Met). Turned secret (meeting secret (run (freshPost (areas 1)) (offering (commitmentOf secret) ++ accepting)) m))
+    (sym (ap (λ (b : Bool). cond b (carriedAt 0) wrong) (opens secret))) (refl, refl)
+
+-- the areas show those rows
+turned : (secret : List ℕ) → Run 16 secret → Turned secret (viewPost (runAreas (areas 1) (offering (commitmentOf secret) ++ ended secret)))
+unfolding areas
+turned secret h =
+    subst (Turned secret)
+    (sym (run-fresh (areas 1) (fresh 1) (sized 1) (omega arith) (offering (commitmentOf secret) ++ ended secret)
+    (all-append (offering (commitmentOf secret)) (ended secret) (proper (commitmentOf secret) (commitment-run secret)) (ended-proper secret h))))
+    (turned-rows secret)

@@ -15,3 +15,4 @@ pub mod OfferLaws
 pub mod OfferSteps
 pub mod HistoryLaws
 pub mod Examples
+pub mod ExamplesVerified

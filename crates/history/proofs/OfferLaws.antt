@@ -6,10 +6,11 @@ use mathlib.Core.List.{List, [], _∷_, _++_, map, flatMap}
 use mathlib.Core.Option as option
 use Prim.Native.Nat.{ℕ, suc, _+_}
 use native.Mathlib.Omega.{arith}
-use lib.ListN.{length, take, drop, getD, length-take, take-append-drop}
+use lib.ListN.{take, drop, getD, length-take, take-append-drop}
 use lib.Dec.{eqb}
 use Rattle.octets.specs.Bytes.{sameBytes}
 use Rattle.octets.proofs.Compare.{same-eq}
+use Rattle.octets.proofs.Numbers.{bytes-take}
 use Rattle.core.specs.declared.ContactId.{ContactId}
 use Rattle.table.specs.declared.Found.{Found}
 use Rattle.table.specs.declared.Found.the-variants.{At, Nothing}
@@ -211,12 +212,12 @@ tomb-kind ts prefix = go (find (hasPrefix prefix) ts)
 
 -- ---- the headers that are sent are whole
 
-commitment-size : (s : List ℕ) → length (commitmentOf s) ≡ 16
+pub commitment-run : (s : List ℕ) → Run 16 (commitmentOf s)
 unfolding commitmentOf hash
-commitment-size s = go (sha384-run _)
+commitment-run s = go (sha384-run _)
   where
-    go : {d : List ℕ} → Run 48 d → length (take 16 d) ≡ 16
-    go {d = d} r = omega (arith, length-take 16 d, r .size)
+    go : {d : List ℕ} → Run 48 d → Run 16 (take 16 d)
+    go {d = d} r = record { size = omega (arith, length-take 16 d, r .size); bytes = bytes-take 16 d (r .bytes) }
 
 module _ (s : State) (g : Good s) (peer : ContactId) where
   envelopes-whole : All (λ (e : Envelope). Proper (e .head)) (envelopes (s .own) (s .carried) peer)
@@ -224,7 +225,7 @@ module _ (s : State) (g : Good s) (peer : ContactId) where
   envelopes-whole =
       all-append (map ownEnvelopeOf (filter (notFor peer) (s .own))) (map carriedEnvelopeOf (s .carried))
       (all-map ownEnvelopeOf (filter (notFor peer) (s .own))
-      (all-imp (λ o p. record { tag = p .tag .size; c = commitment-size (o .s); expiry = p .«expiry_min»; copies = p .copies }) (filter (notFor peer) (s .own))
+      (all-imp (λ o p. record { tag = p .tag .size; c = commitment-run (o .s) .size; expiry = p .«expiry_min»; copies = p .copies }) (filter (notFor peer) (s .own))
       (all-filter (notFor peer) (s .own) (g .own))))
       (all-map carriedEnvelopeOf (s .carried)
       (all-imp (λ r p. record { tag = p .tag .size; c = p .c .size; expiry = p .«expiry_min»; copies = p .copies }) (s .carried) (g .carried)))

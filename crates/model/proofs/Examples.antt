@@ -23,12 +23,13 @@ use Rattle.rows.specs.declared.Carried.{Carried}
 use Rattle.rows.specs.declared.Tombstone.{Tombstone}
 use Rattle.rows.specs.Rows as encoded
 use Rattle.rows.specs.Device.{freshDevice, closedExchange}
+use Rattle.rows.specs.declared.Reachable.{Reachable}
 use Rattle.rows.specs.declared.Reply.{Reply}
 use Rattle.rows.specs.declared.Action.{Action}
 use Rattle.model.specs.Basics.{merge}
 use Rattle.model.specs.State.{State, Session, nobody, now, upd, apply, carriedNow, tombstonesNow, nextSlotNow, _and_}
 use Rattle.model.specs.Calls
-use Rattle.model.specs.Calls.{Call, Result, stepOf, putCourier, deleteCourier, custodyReply}
+use Rattle.model.specs.Calls.{Call, Result, stepOf, putCourier, deleteCourier, fetchReply, custodyReply}
 use Rattle.model.specs.Contacts
 use Rattle.model.specs.Window
 use Rattle.model.specs.Cells
@@ -120,7 +121,7 @@ pub copies-after : List Lent → List ℕ
 unfolding carried-after offered
 copies-after ls = map (λ (r : Carried). r .copies) (carried-after offered ls)
 
--- 4, then 2, then 0, and 0 still; a second code of one peer, or one that is not Accepted, takes nothing
+-- 4, then 2, then 0, and 0 still; a second code of one peer, one that is not Accepted, or one in another peer's exchange takes nothing
 abbrev pub ThreePeers : Type 0
 ThreePeers =
     (copies-after [] ≡ 4 ∷ [])
@@ -129,10 +130,11 @@ ThreePeers =
     × (copies-after (code 0 6 custody.Full ∷ code 0 6 custody.Accepted ∷ []) ≡ 4 ∷ [])
     × (copies-after (code 0 6 custody.Accepted ∷ code 1 7 custody.Accepted ∷ []) ≡ 0 ∷ [])
     × (copies-after (code 0 6 custody.Accepted ∷ code 1 7 custody.Accepted ∷ code 2 8 custody.Accepted ∷ []) ≡ 0 ∷ [])
+    × (copies-after (code 0 7 custody.Accepted ∷ []) ≡ 4 ∷ [])
 
 pub three-peers : ThreePeers
 unfolding copies-after code
-three-peers = (refl, refl, refl, refl, refl, refl)
+three-peers = (refl, refl, refl, refl, refl, refl, refl)
 
 -- ---- a tomb whose secret hashes to the commitment turns the row in its slot; a maintenance at its expiry takes it, not before
 
@@ -230,6 +232,23 @@ duplicates rs ts = model.duplicate (apply (emptyState 0 configDefault [] [] 4 4)
 tombstone-duplicate : (duplicates [] (tombs 100 1) ≡ true) × (duplicates (rowsFrom 5 3) [] ≡ false)
 unfolding duplicates
 tombstone-duplicate = (refl, refl)
+
+-- ---- a bad window row
+
+-- a window row of contact n, and two tags of one prefix
+reach : ℕ → List ℕ → Reachable
+unfolding id
+reach n tag = record { contact = id n; dir = 73; generation = 0; idx = 0; tag = tag }
+
+twin : ℕ → List ℕ
+twin b = replicate 8 17 ++ replicate 8 b
+
+-- the first row with the prefix is met; if it is bad for the peer there is no fetch, though the next has the prefix too
+first-row-met :
+    (Exchange.fetchFor [] (reach 1 (twin 1) ∷ reach 2 (twin 2) ∷ []) (id 5) (replicate 8 17) ≡ fetchReply (twin 1) ∷ [])
+    × (Exchange.fetchFor ((record { peer = id 5; tag = twin 1 }) ∷ []) (reach 1 (twin 1) ∷ reach 2 (twin 2) ∷ []) (id 5) (replicate 8 17) ≡ [])
+unfolding rows-of reach twin Exchange.fetchFor
+first-row-met = (refl, refl)
 
 -- ---- the worked example on areas of any bytes, through view and store
 

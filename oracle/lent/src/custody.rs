@@ -3,7 +3,7 @@
 use crate::rows::Carried;
 use crate::settings::{custody_reply, put};
 use crate::state::{Change, Lent, Outcome, Said, State, Step, refused, said};
-use crate::{CELL, cell_count, ciphertext};
+use crate::{cell_count, ciphertext};
 use post::{ChainRow, Custody, Envelope, SkippedRow, Tag, WindowRow};
 
 pub const LAST_SLOT: u64 = u64::MAX;
@@ -127,7 +127,6 @@ impl State<'_> {
         if self.next_slot == LAST_SLOT {
             return refused(6);
         }
-        debug_assert!(envelope.ciphertext.len() <= CELL);
         outcome.actions.push(put(self.next_slot));
         (outcome, self.carry(peer, envelope, cell))
     }

@@ -1,8 +1,8 @@
 //! The third statement as a post, and areas and outcomes as the other posts say them.
 
-use crate::rows::{Row, table};
+use crate::rows::table;
 use crate::state::{Outcome, Said, performed};
-use crate::{Areas, CELL, ciphertext};
+use crate::{Areas, ciphertext};
 use post::{
     Action, Answer, Bytes, Call, Contact, Custody, Dir, Envelope, Exchange, Held, HeldRow, Kind, OwnRow, Post, Reply,
     Sizes, SkippedRow, State, Verification, array,
@@ -200,5 +200,3 @@ impl Outcome {
         }
     }
 }
-
-const _: () = assert!(CELL == 2_064 && <crate::Own as Row>::WIDTH == 54);

@@ -84,7 +84,7 @@ impl State<'_> {
         (Outcome::wrote(file.len(), file), Change::default())
     }
 
-    /// The next slot and the rows by slot, or nothing where number 8 refuses.
+    /// The next slot and the rows in the file's order, or nothing where number 8 refuses.
     fn readable(&self, file: &[u8]) -> Option<(u64, Vec<(u64, Held)>)> {
         let mut records = post::records(file)?.into_iter();
         let Some(FileRecord::NextSlot(next)) = records.next() else {
@@ -107,7 +107,6 @@ impl State<'_> {
             }
             rows.push((slot, held));
         }
-        rows.sort_by_key(|(slot, _)| *slot);
         let deposited = |id: u64| {
             rows.iter()
                 .filter(|(_, held)| matches!(held, Held::Carried { depositor, .. } if *depositor == id))
@@ -119,7 +118,7 @@ impl State<'_> {
         (tags.len() <= 256 && !many).then_some((next, rows))
     }
 
-    /// A load replaces held rows and next slot; cells are given out from the first.
+    /// A load replaces held rows and next slot; cells are given out from the first, in the file's order.
     pub fn load(&self, file: &[u8]) -> Step {
         let Some((next, rows)) = self.readable(file) else {
             return refused(8);
@@ -155,6 +154,8 @@ impl State<'_> {
         if tombstones.len() > self.tombstone_rows {
             return refused(5);
         }
+        carried.sort_by_key(|row| row.slot);
+        tombstones.sort_by_key(|row| row.slot);
         let change = Change {
             carried: Some(carried),
             tombstones: Some(tombstones),

@@ -260,6 +260,17 @@ unsafe extern "C" {
         file: Area,
         file_len: usize,
     ) -> Count;
+    pub fn goosetable_load(
+        post: Post,
+        contacts: Bytes,
+        carried: Area,
+        tombstones: Area,
+        tombstones_len: usize,
+        carried_cells: Area,
+        carried_cells_len: usize,
+        file: Bytes,
+        file_len: usize,
+    ) -> Answer;
     pub fn goosetable_tomb(
         post: Post,
         peer: u64,

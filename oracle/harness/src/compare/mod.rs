@@ -180,10 +180,7 @@ pub fn main(arguments: &[String]) -> ExitCode {
     }
     #[cfg(feature = "library")]
     if options.against == "library" {
-        print!(
-            "{} calls by the library, the others by the third statement; ",
-            tally.calls_of(library::CALLS)
-        );
+        print!("{} by the library of ", tally.calls_of(library::CALLS));
     }
     println!("{} calls, 0 differences", options.calls);
     crate::status(missed.is_empty())

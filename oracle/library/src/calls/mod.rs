@@ -29,6 +29,7 @@ pub const CALLS: &[Kind] = &[
     Kind::Window,
     Kind::RowBlob,
     Kind::Save,
+    Kind::Load,
     Kind::RowRead,
 ];
 
@@ -125,6 +126,7 @@ impl Library {
             Call::Maintenance { .. } => self.maintenance(),
             Call::RowBlob { slot, .. } => self.row_blob(*slot),
             Call::Save { .. } => self.save(),
+            Call::Load { file } => self.load(file),
             Call::InventoryOfOurs { peer, .. } => self.inventory_of_ours(*peer),
             Call::StoredTombstone {
                 tag, secret, expiry, ..

@@ -65,6 +65,26 @@ impl Library {
         self.wrote(count, 1)
     }
 
+    pub(super) fn load(&mut self, file: &[u8]) -> Outcome {
+        let (length, file) = (file.len(), self.input(0, file));
+        let (tombstones, carried_cells) = (self.tombstones.bytes_mut(), self.carried_cells.bytes_mut());
+        // SAFETY: each pointer goes with its length; the tables have their fixed ones, and no two areas are the same.
+        let answer = unsafe {
+            ffi::goosetable_load(
+                self.device.into(),
+                self.contacts.bytes().as_ptr(),
+                self.carried.bytes_mut().as_mut_ptr(),
+                tombstones.as_mut_ptr(),
+                tombstones.len(),
+                carried_cells.as_mut_ptr(),
+                carried_cells.len(),
+                file,
+                length,
+            )
+        };
+        self.answered(answer)
+    }
+
     pub(super) fn window(&mut self, skipped: &[u8], chains: &[u8]) -> Outcome {
         let lengths = (skipped.len(), chains.len());
         let (skipped, chains) = (self.input(0, skipped), self.input(1, chains));

@@ -1,0 +1,6 @@
+pub mod InsertLaws
+pub mod LoadLaws
+pub mod CallLaws
+pub mod OrderLaws
+pub mod SavedLaws
+pub mod FineLaws

@@ -1,0 +1,510 @@
+-- What a post saves and then loads: the file read back record by record, and the same held rows.
+-- Assumes nothing.
+use mathlib.Core.Path.{_≡_, refl, sym, ap, ap₂, _∙_, subst}
+use mathlib.Core.Bool.{Bool, true, false, cond, not}
+use mathlib.Core.List.{List, [], _∷_, _++_, map, append-assoc, append-nil, map-append}
+use mathlib.Core.Option.{Option, none, some}
+use Prim.Native.Nat.{ℕ, zero, suc, _+_, _-_, _*_, _/_, _^_, _≤_, _<_, min}
+use native.Mathlib.Nat.{zero-add}
+use native.Mathlib.Omega.{arith}
+use lib.ListN.{length, take, drop, length-append, length-take, length-map, drop-of-length-le}
+use lib.Seq.{take-at, drop-at, take-all}
+use lib.Dec.{leb, ltb}
+use borrow.Author.Tests.{le-leb, lt-leb, le-ltb}
+use Rattle.octets.specs.Bytes.{part, splice, num, be}
+use Rattle.octets.proofs.Parts.{part-left, part-hit, part-whole, read-same, read-before, length-splice, length-part}
+use Rattle.octets.proofs.Numbers.{length-be, num-be}
+use Rattle.table.specs.declared.Found.{Found}
+use Rattle.table.specs.declared.Found.the-variants.{At, Nothing}
+use Rattle.table.specs.Lists.{All, filter, insertAt, positionFrom, position, unwrapOr}
+use Rattle.table.specs.Lists as lists
+use Rattle.table.specs.Rows.{join}
+use Rattle.table.proofs.ListLaws.{all-imp, all-push, all-map}
+use Rattle.table.proofs.RowLaws.{mul-le, next-row}
+use Rattle.history.specs.Order.{Sorted, empty, next, InCell}
+use Rattle.history.proofs.SortedLaws.{all-unmap}
+use Rattle.state.specs.declared.Carried.{Carried as HeldCarried}
+use Rattle.state.specs.declared.Tombstone.{Tombstone as HeldTombstone}
+use Rattle.state.specs.Held.{Held, heldRow, heldDecode}
+use Rattle.state.specs.Held as held
+use Rattle.rows.specs.declared.Carried.{Carried}
+use Rattle.rows.specs.declared.Tombstone.{Tombstone}
+use Rattle.model.specs.Basics.{matchSome, merge}
+use Rattle.model.specs.Cells.{ciphertext, cellStart, cellLength, cellCount}
+use Rattle.model.specs.Saved.{Slotted, carriedHeld, tombstoneHeld, heldMark, savedRecord, savedFile, savedRows, saveHeld, heldRows}
+use Rattle.load_tests.specs.Records.{recordSize, recordsIn, recordsAt, records, slotIn}
+use Rattle.core.specs.declared.Refusal.{Refusal}
+use Rattle.model.specs.Calls.{Result, refused, done, stepOf}
+use Rattle.load_tests.specs.declared.Tested.{Tested}
+use Rattle.load_tests.specs.declared.Tested.the-variants as tested
+use Rattle.load.proofs.CallLaws.{after, step-tested}
+use Rattle.load_tests.specs.Tests.{nextIn, loadTests, testedAs}
+use Rattle.load_tests.proofs.RecordLaws.{size-least}
+use Rattle.courier.specs.Courier.{carriedLength}
+use Rattle.state.proofs.RowLaws.{ProperTombstone as ProperHeldTombstone}
+use Rattle.state.proofs.HeldLaws.{ProperCarried as ProperHeld, length-row, carried-back, tombstone-back}
+use Rattle.rows.specs.Proper.{ProperCarried, ProperTombstone}
+use Rattle.model.specs.State.{State, apply}
+use Rattle.load.specs.Reload.{ReadBack, Savable}
+use Rattle.load.specs.Load.{insertBy, carriedSlot, tombstoneSlot, carriedRow, tombstoneRow, Rows, loadHeld, loadRecord, loadRecords, noRows, loaded, loadHeldRows, loadStep}
+
+-- ---- the records of a saved file are those of its rows
+
+-- a row that is read back: its slot and length fit their bytes, and `decode` takes its blob
+pub record Back (h : Slotted) : Type 0 where
+  pub slot : h .slot < 2 ^ 64
+  pub short : length (heldRow (h .held)) < 65536
+  pub read : heldDecode (heldRow (h .held)) ≡ some (h .held)
+
+length-mark : (h : Held) → length (heldMark h) ≡ 2
+length-mark (held.carried r ct) = refl
+length-mark (held.tombstone t) = refl
+
+module _ (h : Slotted) (B : Back h) where
+  abbrev row : List ℕ
+  row = heldRow (h .held)
+
+  abbrev head : List ℕ
+  head = heldMark (h .held) ++ be 8 (h .slot)
+
+  length-head : length head ≡ 10
+  length-head = omega (arith, length-append (heldMark (h .held)) (be 8 (h .slot)), length-mark (h .held), length-be 8 (h .slot))
+
+  length-front : length (head ++ be 2 (length row)) ≡ 12
+  length-front = omega (arith, length-append head (be 2 (length row)), length-head, length-be 2 (length row))
+
+  length-saved : length (savedRecord h) ≡ 12 + length row
+  unfolding savedRecord
+  length-saved = omega (arith, length-append (head ++ be 2 (length row)) row, length-front)
+
+  size-saved : (x : List ℕ) → recordSize (savedRecord h ++ x) ≡ length (savedRecord h)
+  unfolding recordSize savedRecord
+  size-saved x =
+      let e : part (head ++ be 2 (length row) ++ row ++ x) 10 2 ≡ be 2 (length row) =
+      part-left (head ++ be 2 (length row) ++ row) x 10 2 (omega (arith, length-saved))
+      ∙ part-left (head ++ be 2 (length row)) row 10 2 (omega (arith, length-front)) ∙ part-hit head (be 2 (length row)) 10 2 length-head (length-be 2 (length row)) in
+      ap (λ (k : List ℕ). 12 + num k) e ∙ ap (λ (k : ℕ). 12 + k) (num-be 2 (length row) (omega (arith, B .short))) ∙ sym length-saved
+
+  -- what stands in it
+  pub mark-saved : part (savedRecord h) 0 2 ≡ heldMark (h .held)
+  unfolding savedRecord
+  mark-saved =
+      part-left (head ++ be 2 (length row)) row 0 2 (omega (arith, length-front)) ∙ part-left head (be 2 (length row)) 0 2 (omega (arith, length-head))
+      ∙ part-left (heldMark (h .held)) (be 8 (h .slot)) 0 2 (omega (arith, length-mark (h .held))) ∙ part-whole (heldMark (h .held)) 2 (length-mark (h .held))
+
+  pub slot-saved : slotIn (savedRecord h) ≡ be 8 (h .slot)
+  unfolding savedRecord
+  slot-saved =
+      part-left (head ++ be 2 (length row)) row 2 8 (omega (arith, length-front)) ∙ part-left head (be 2 (length row)) 2 8 (omega (arith, length-head))
+      ∙ part-hit (heldMark (h .held)) (be 8 (h .slot)) 2 8 (length-mark (h .held)) (length-be 8 (h .slot))
+
+  pub blob-saved : drop 12 (savedRecord h) ≡ row
+  unfolding savedRecord
+  blob-saved = drop-at (head ++ be 2 (length row)) row 12 length-front
+
+  -- one record is one row
+  pub record-loaded : (l : Rows) → loadRecord l (savedRecord h) ≡ loadHeld l (h .slot) (h .held)
+  unfolding loadRecord
+  record-loaded l =
+      ap₂ (λ (d : Option Held) (n : ℕ). matchSome d (λ (k : Held). loadHeld l n k) l) (ap heldDecode blob-saved ∙ B .read) (ap num slot-saved ∙ num-be 8 (h .slot) (B .slot))
+
+abbrev bytesOf : List Slotted → List ℕ
+bytesOf hs = join (map savedRecord hs)
+
+records-in : (n : ℕ) (hs : List Slotted) → All Back hs → length (bytesOf hs) ≤ n → recordsIn n (bytesOf hs) ≡ map savedRecord hs
+unfolding recordsIn join
+records-in zero [] a k = refl
+records-in (suc n) [] a k = ap (λ (t : Bool). cond t (take (recordSize []) [] ∷ recordsIn n (drop (recordSize []) [])) []) (lt-leb (recordSize []) 0 (omega (arith, size-least [])))
+records-in zero (h ∷ hs) (lists.more B a) k = absurd (omega (arith, length-append (savedRecord h) (bytesOf hs), length-saved h B))
+records-in (suc n) (h ∷ hs) (lists.more B a) k =
+    let x : List ℕ = bytesOf hs in
+    let b : List ℕ = savedRecord h ++ x in
+    let l = length-append (savedRecord h) x in
+    let z : recordSize b ≡ length (savedRecord h) = size-saved h B x in
+    ap (λ (t : Bool). cond t (take (recordSize b) b ∷ recordsIn n (drop (recordSize b) b)) []) (le-leb (recordSize b) (length b) (omega arith))
+    ∙ ap (λ (m : ℕ). take m b ∷ recordsIn n (drop m b)) z
+    ∙ ap₂ (λ (p q : List ℕ). p ∷ recordsIn n q) (take-at (savedRecord h) x (length (savedRecord h)) refl) (drop-at (savedRecord h) x (length (savedRecord h)) refl)
+    ∙ ap (λ (r : List (List ℕ)). savedRecord h ∷ r) (records-in n hs a (omega (arith, length-saved h B)))
+
+pub records-saved : (slot : ℕ) (hs : List Slotted) → All Back hs → records (savedFile slot hs) ≡ map savedRecord hs
+unfolding recordsAt savedFile
+records-saved slot hs a =
+    let head : List ℕ = (72 ∷ 78 ∷ []) ++ be 8 slot in
+    let lh : length head ≡ 10 = omega (arith, length-be 8 slot) in
+    let e : drop 10 (head ++ bytesOf hs) ≡ bytesOf hs = drop-at head (bytesOf hs) 10 lh in
+    let n : ℕ = length (head ++ bytesOf hs) - 10 in
+    ap (recordsIn n) e ∙ records-in n hs a (omega (arith, length-append head (bytesOf hs)))
+
+-- ---- loading the rows of a saved file
+
+unfoldable pub loadRows : Rows → List Slotted → Rows
+loadRows l [] = l
+loadRows l (h ∷ hs) = loadRows (loadHeld l (h .slot) (h .held)) hs
+
+rows-loaded : (l : Rows) (hs : List Slotted) → All Back hs → loadRecords l (map savedRecord hs) ≡ loadRows l hs
+unfolding loadRecords loadRows
+rows-loaded l [] a = refl
+rows-loaded l (h ∷ hs) (lists.more B a) = ap (λ (k : Rows). loadRecords k (map savedRecord hs)) (record-loaded h B l) ∙ rows-loaded (loadHeld l (h .slot) (h .held)) hs a
+
+pub loaded-saved : (cells : List ℕ) (slot : ℕ) (hs : List Slotted) → All Back hs → loaded cells (savedFile slot hs) ≡ loadRows (noRows cells) hs
+unfolding loaded
+loaded-saved cells slot hs a = ap (loadRecords (noRows cells)) (records-saved slot hs a) ∙ rows-loaded (noRows cells) hs a
+
+-- ---- rows that come by slot are put in at the end
+
+not-found : {A : Type 0} (p : A → Bool) (i : ℕ) (xs : List A) → All (λ (x : A). p x ≡ false) xs → positionFrom i p xs ≡ Nothing
+unfolding positionFrom
+not-found p i [] a = refl
+not-found p i (x ∷ xs) (lists.more e a) = ap (λ (t : Bool). cond t (At i) (positionFrom (suc i) p xs)) e ∙ not-found p (suc i) xs a
+
+insert-last : {A : Type 0} (key : A → ℕ) (t : A) (ts : List A) → All (λ (r : A). key r < key t) ts → insertBy key t ts ≡ ts ++ (t ∷ [])
+unfolding insertBy insertAt
+insert-last key t ts a =
+    let e : position (λ (r : _). ltb (key t) (key r)) ts ≡ Nothing =
+    not-found (λ (r : _). ltb (key t) (key r)) 0 ts (all-imp (λ r k. le-ltb (key t) (key r) (omega (arith, k))) ts a) in
+    ap (λ (f : Found). take (unwrapOr (length ts) f) ts ++ (t ∷ drop (unwrapOr (length ts) f) ts)) e
+    ∙ ap₂ (λ (x y : List _). x ++ (t ∷ y)) (take-all (length ts) ts (omega arith)) (drop-of-length-le ts {i = length ts} (omega arith))
+
+map-same : {A B : Type 0} (f g : A → B) (xs : List A) → All (λ (x : A). f x ≡ g x) xs → map f xs ≡ map g xs
+map-same f g [] a = refl
+map-same f g (x ∷ xs) (lists.more e a) = ap₂ (λ (y : _) (ys : List _). y ∷ ys) e (map-same f g xs a)
+
+low-carried : (cells : List ℕ) (slot : ℕ) (rows : List Carried) → All (λ (h : Slotted). h .slot < slot) (map (carriedHeld cells) rows) → All (λ (c : Carried). c .slot < slot) rows
+unfolding carriedHeld
+low-carried cells slot rows a = all-unmap (carriedHeld cells) rows a
+
+low-tombstones : (slot : ℕ) (rows : List Tombstone) → All (λ (h : Slotted). h .slot < slot) (map tombstoneHeld rows) → All (λ (t : Tombstone). t .slot < slot) rows
+unfolding tombstoneHeld
+low-tombstones slot rows a = all-unmap tombstoneHeld rows a
+
+-- ---- the rows so far, as they were saved
+
+pub record Kept (size : ℕ) (l : Rows) (cs ts : List Slotted) : Type 0 where
+  pub carried : map (carriedHeld (l .cells)) (l .carried) ≡ cs
+  pub tombstones : map tombstoneHeld (l .tombstones) ≡ ts
+  pub inCells : All (λ (r : Carried). (r .cell < length (l .carried)) × (r .len ≤ 2064)) (l .carried)
+  pub sized : length (l .cells) ≡ size
+
+module _ (size : ℕ) (l : Rows) (cs ts : List Slotted) (K : Kept size l cs ts) (slot : ℕ) where
+  abbrev at : ℕ
+  at = length (l .carried) * 2064
+
+  module _ (r : HeldCarried) (ct : List ℕ) (short : length ct ≤ 2064) (room : (length (l .carried) + 1) * 2064 ≤ size) (low : All (λ (h : Slotted). h .slot < slot) cs) where
+    abbrev cells : List ℕ
+    cells = splice (l .cells) at ct
+
+    inside : at + length ct ≤ length (l .cells)
+    inside = omega (arith, room, K .sized, next-row (length (l .carried)) 2064)
+
+    same-size : length cells ≡ length (l .cells)
+    same-size = length-splice (l .cells) at ct inside
+
+    -- the ciphertexts before it stay, and its own is there
+    before : (c : Carried) → (c .cell < length (l .carried)) × (c .len ≤ 2064) → carriedHeld cells c ≡ carriedHeld (l .cells) c
+    unfolding carriedHeld ciphertext cellStart cellLength
+    before c h =
+        let k : (c .cell + 1) * 2064 ≤ at = mul-le 2064 (omega (arith, h .0)) in
+        let n = next-row (c .cell) 2064 in
+        let e : part cells (min (c .cell * 2064) (length cells)) (min (min (c .len) 2064) (length cells - c .cell * 2064))
+        ≡ part (l .cells) (min (c .cell * 2064) (length (l .cells))) (min (min (c .len) 2064) (length (l .cells) - c .cell * 2064)) =
+        ap (λ (m : ℕ). part cells (min (c .cell * 2064) m) (min (min (c .len) 2064) (m - c .cell * 2064))) same-size
+        ∙ read-before (l .cells) at ct (min (c .cell * 2064) (length (l .cells))) (min (min (c .len) 2064) (length (l .cells) - c .cell * 2064)) inside (omega arith) in
+        ap (λ (x : List ℕ). record {
+          slot = c .slot;
+          held = held.carried (record { depositor = c .depositor; header = record { tag = c .tag; c = c .c; «expiry_min» = c .«expiry_min»; copies = c .copies } }) x;
+        }) e
+
+    abbrev new : Carried
+    new = carriedRow slot (length ct) (length (l .carried)) r
+
+    own : carriedHeld cells new ≡ record { slot = slot; held = held.carried r ct }
+    unfolding carriedHeld ciphertext cellStart cellLength
+    own =
+        let z = same-size in
+        let i = inside in
+        let a : min at (length cells) ≡ at = omega arith in
+        let b : min (min (length ct) 2064) (length cells - at) ≡ length ct = omega arith in
+        ap (λ (x : List ℕ). record { slot = slot; held = held.carried r x }) (ap₂ (part cells) a b ∙ read-same (l .cells) at ct inside)
+
+    pub kept-carried : Kept size (loadHeld l slot (held.carried r ct)) (cs ++ (record { slot = slot; held = held.carried r ct } ∷ [])) ts
+    unfolding loadHeld
+    kept-carried =
+        let rises : All (λ (c : Carried). c .slot < slot) (l .carried) = low-carried (l .cells) slot (l .carried) (subst (All (λ (h : Slotted). h .slot < slot)) (sym (K .carried)) low) in
+        let e : insertBy carriedSlot new (l .carried) ≡ l .carried ++ (new ∷ []) = insert-last carriedSlot new (l .carried) rises in
+        let n : length (insertBy carriedSlot new (l .carried)) ≡ length (l .carried) + 1 = ap length e ∙ length-append (l .carried) (new ∷ []) in
+        record {
+          carried = ap (map (carriedHeld cells)) e ∙ map-append (carriedHeld cells) (l .carried) (new ∷ [])
+              ∙ ap₂ (λ (x : List Slotted) (y : Slotted). x ++ (y ∷ [])) (map-same (carriedHeld cells) (carriedHeld (l .cells)) (l .carried) (all-imp before (l .carried) (K .inCells)) ∙ K .carried) own;
+          tombstones = K .tombstones;
+          inCells = subst (All (λ (c : Carried). (c .cell < length (insertBy carriedSlot new (l .carried))) × (c .len ≤ 2064))) (sym e)
+              (all-push (l .carried) new (all-imp (λ c h. (omega (arith, h .0, n), h .1)) (l .carried) (K .inCells)) (omega (arith, n), short));
+          sized = same-size ∙ K .sized;
+        }
+
+  module _ (t : HeldTombstone) (low : All (λ (h : Slotted). h .slot < slot) ts) where
+    pub kept-tombstone : Kept size (loadHeld l slot (held.tombstone t)) cs (ts ++ (record { slot = slot; held = held.tombstone t } ∷ []))
+    unfolding loadHeld tombstoneHeld
+    kept-tombstone =
+        let new : Tombstone = tombstoneRow slot t in
+        let rises : All (λ (c : Tombstone). c .slot < slot) (l .tombstones) = low-tombstones slot (l .tombstones) (subst (All (λ (h : Slotted). h .slot < slot)) (sym (K .tombstones)) low) in
+        record {
+          carried = K .carried;
+          tombstones = ap (map tombstoneHeld) (insert-last tombstoneSlot new (l .tombstones) rises) ∙ map-append tombstoneHeld (l .tombstones) (new ∷ [])
+              ∙ ap (λ (x : List Slotted). x ++ (record { slot = slot; held = held.tombstone t } ∷ [])) (K .tombstones);
+          inCells = K .inCells;
+          sized = K .sized;
+        }
+
+-- ---- the rows of each kind
+
+abbrev pub carriedKind : Held → Bool
+carriedKind (held.carried r ct) = true
+carriedKind (held.tombstone t) = false
+
+abbrev pub ofCarried : Slotted → Bool
+ofCarried h = carriedKind (h .held)
+
+abbrev pub ofTombstone : Slotted → Bool
+ofTombstone h = not (carriedKind (h .held))
+
+-- a ciphertext fits its cell
+abbrev Fits : Held → Type 0
+Fits (held.carried r ct) = length ct ≤ 2064
+Fits (held.tombstone t) = Unit {0}
+
+abbrev Before : Slotted → Slotted → Type 0
+Before a b = a .slot < b .slot
+
+before-one : (xs ys : List Slotted) (y : Slotted) → Sorted Before (xs ++ (y ∷ ys)) → All (λ (x : Slotted). x .slot < y .slot) xs
+before-one [] ys y s = lists.none
+before-one (x ∷ xs) ys y (next a s) = lists.more (middle xs ys a) (before-one xs ys y s)
+  where
+    middle : (us vs : List Slotted) → All (Before x) (us ++ (y ∷ vs)) → x .slot < y .slot
+    middle [] vs (lists.more p q) = p
+    middle (u ∷ us) vs (lists.more p q) = middle us vs q
+
+loads-kept : (size : ℕ) (hs : List Slotted) (l : Rows) (cs ts : List Slotted) → Kept size l cs ts → All (λ (h : Slotted). Fits (h .held)) hs
+    → (length cs + length (filter ofCarried hs)) * 2064 ≤ size → Sorted Before (cs ++ filter ofCarried hs) → Sorted Before (ts ++ filter ofTombstone hs)
+    → Kept size (loadRows l hs) (cs ++ filter ofCarried hs) (ts ++ filter ofTombstone hs)
+unfolding loadRows filter
+loads-kept size [] l cs ts K f room sc st =
+    subst (λ (x : List Slotted). Kept size l x (ts ++ [])) (sym (append-nil cs)) (subst (Kept size l cs) (sym (append-nil ts)) K)
+loads-kept size (h ∷ hs) l cs ts K (lists.more f fs) room sc st = go (h .slot) (h .held) f room sc st (λ m us vs k r a b. loads-kept size hs m us vs k fs r a b)
+  where
+    count : length (l .carried) ≡ length cs
+    count = sym (length-map (l .carried) (carriedHeld (l .cells))) ∙ ap length (K .carried)
+
+    go : (s : ℕ) (x : Held) → Fits x
+        → (length cs + length (cond (carriedKind x) (record { slot = s; held = x } ∷ filter ofCarried hs) (filter ofCarried hs))) * 2064 ≤ size
+        → Sorted Before (cs ++ cond (carriedKind x) (record { slot = s; held = x } ∷ filter ofCarried hs) (filter ofCarried hs))
+        → Sorted Before (ts ++ cond (not (carriedKind x)) (record { slot = s; held = x } ∷ filter ofTombstone hs) (filter ofTombstone hs))
+        → ((m : Rows) (us vs : List Slotted) → Kept size m us vs → (length us + length (filter ofCarried hs)) * 2064 ≤ size
+        → Sorted Before (us ++ filter ofCarried hs) → Sorted Before (vs ++ filter ofTombstone hs) → Kept size (loadRows m hs) (us ++ filter ofCarried hs) (vs ++ filter ofTombstone hs))
+        → Kept size (loadRows (loadHeld l s x) hs) (cs ++ cond (carriedKind x) (record { slot = s; held = x } ∷ filter ofCarried hs) (filter ofCarried hs))
+        (ts ++ cond (not (carriedKind x)) (record { slot = s; held = x } ∷ filter ofTombstone hs) (filter ofTombstone hs))
+    go s (held.carried r ct) fit rm a b rec =
+        let n : Slotted = record { slot = s; held = held.carried r ct } in
+        let e : (cs ++ (n ∷ [])) ++ filter ofCarried hs ≡ cs ++ (n ∷ filter ofCarried hs) = append-assoc cs (n ∷ []) (filter ofCarried hs) in
+        let len : length (cs ++ (n ∷ [])) ≡ length cs + 1 = length-append cs (n ∷ []) in
+        let k : Kept size (loadHeld l s (held.carried r ct)) (cs ++ (n ∷ [])) ts =
+        kept-carried size l cs ts K s r ct fit (omega (arith, mul-le {i = length cs + 1} {n = length cs + suc (length (filter ofCarried hs))} 2064 (omega arith), rm, ap (λ (j : ℕ). (j + 1) * 2064) count)) (before-one cs (filter ofCarried hs) n a) in
+        let more : length cs + suc (length (filter ofCarried hs)) ≡ length (cs ++ (n ∷ [])) + length (filter ofCarried hs) = omega arith in
+        subst (λ (x : List Slotted). Kept size (loadRows (loadHeld l s (held.carried r ct)) hs) x (ts ++ filter ofTombstone hs)) e
+        (rec (loadHeld l s (held.carried r ct)) (cs ++ (n ∷ [])) ts k (omega (arith, ap (λ (j : ℕ). j * 2064) more, rm)) (subst (Sorted Before) (sym e) a) b)
+    go s (held.tombstone t) fit rm a b rec =
+        let n : Slotted = record { slot = s; held = held.tombstone t } in
+        let e : (ts ++ (n ∷ [])) ++ filter ofTombstone hs ≡ ts ++ (n ∷ filter ofTombstone hs) = append-assoc ts (n ∷ []) (filter ofTombstone hs) in
+        subst (λ (x : List Slotted). Kept size (loadRows (loadHeld l s (held.tombstone t)) hs) (cs ++ filter ofCarried hs) x) e
+        (rec (loadHeld l s (held.tombstone t)) cs (ts ++ (n ∷ [])) (kept-tombstone size l cs ts K s t (before-one ts (filter ofTombstone hs) n b)) rm a (subst (Sorted Before) (sym e) b))
+
+-- the rows of one kind among merged ones
+module _ (p : Slotted → Bool) (key : Slotted → ℕ) where
+  filter-all : (xs : List Slotted) → All (λ (x : Slotted). p x ≡ true) xs → filter p xs ≡ xs
+  unfolding filter
+  filter-all [] a = refl
+  filter-all (x ∷ xs) (lists.more e a) = ap (λ (t : Bool). cond t (x ∷ filter p xs) (filter p xs)) e ∙ ap (λ (l : List Slotted). x ∷ l) (filter-all xs a)
+
+  filter-none : (xs : List Slotted) → All (λ (x : Slotted). p x ≡ false) xs → filter p xs ≡ []
+  unfolding filter
+  filter-none [] a = refl
+  filter-none (x ∷ xs) (lists.more e a) = ap (λ (t : Bool). cond t (x ∷ filter p xs) (filter p xs)) e ∙ filter-none xs a
+
+  merged-first : (xs ys : List Slotted) → All (λ (x : Slotted). p x ≡ true) xs → All (λ (x : Slotted). p x ≡ false) ys → filter p (merge key xs ys) ≡ xs
+  unfolding merge filter
+  merged-first [] ys a b = filter-none ys b
+  merged-first (x ∷ xs) [] a b = filter-all (x ∷ xs) a
+  merged-first (x ∷ xs) (y ∷ ys) (lists.more e a) (lists.more f b) =
+      go (leb (key x) (key y)) (merged-first xs (y ∷ ys) a (lists.more f b)) (merged-first (x ∷ xs) ys (lists.more e a) b)
+    where
+      go : (t : Bool) → filter p (merge key xs (y ∷ ys)) ≡ xs → filter p (merge key (x ∷ xs) ys) ≡ x ∷ xs
+          → filter p (cond t (x ∷ merge key xs (y ∷ ys)) (y ∷ merge key (x ∷ xs) ys)) ≡ x ∷ xs
+      go true q r = ap (λ (s : Bool). cond s (x ∷ filter p (merge key xs (y ∷ ys))) (filter p (merge key xs (y ∷ ys)))) e ∙ ap (λ (l : List Slotted). x ∷ l) q
+      go false q r = ap (λ (s : Bool). cond s (y ∷ filter p (merge key (x ∷ xs) ys)) (filter p (merge key (x ∷ xs) ys))) f ∙ r
+
+  merged-second : (xs ys : List Slotted) → All (λ (x : Slotted). p x ≡ false) xs → All (λ (x : Slotted). p x ≡ true) ys → filter p (merge key xs ys) ≡ ys
+  unfolding merge filter
+  merged-second [] ys a b = filter-all ys b
+  merged-second (x ∷ xs) [] a b = filter-none (x ∷ xs) a
+  merged-second (x ∷ xs) (y ∷ ys) (lists.more e a) (lists.more f b) =
+      go (leb (key x) (key y)) (merged-second xs (y ∷ ys) a (lists.more f b)) (merged-second (x ∷ xs) ys (lists.more e a) b)
+    where
+      go : (t : Bool) → filter p (merge key xs (y ∷ ys)) ≡ y ∷ ys → filter p (merge key (x ∷ xs) ys) ≡ ys
+          → filter p (cond t (x ∷ merge key xs (y ∷ ys)) (y ∷ merge key (x ∷ xs) ys)) ≡ y ∷ ys
+      go true q r = ap (λ (s : Bool). cond s (x ∷ filter p (merge key xs (y ∷ ys))) (filter p (merge key xs (y ∷ ys)))) e ∙ q
+      go false q r = ap (λ (s : Bool). cond s (y ∷ filter p (merge key (x ∷ xs) ys)) (filter p (merge key (x ∷ xs) ys))) f ∙ ap (λ (l : List Slotted). y ∷ l) r
+
+-- ---- the theorem
+
+sorted-map : {A B : Type 0} {R : A → A → Type 0} {S : B → B → Type 0} (f : A → B) → ((x y : A) → R x y → S (f x) (f y)) → (xs : List A) → Sorted R xs → Sorted S (map f xs)
+sorted-map f k [] s = empty
+sorted-map f k (x ∷ xs) (next a s) = next (all-map f xs (all-imp (k x) xs a)) (sorted-map f k xs s)
+
+pub all-merge : {P : Slotted → Type 0} (key : Slotted → ℕ) (xs ys : List Slotted) → All P xs → All P ys → All P (merge key xs ys)
+unfolding merge
+all-merge key [] ys a b = b
+all-merge key (x ∷ xs) [] a b = a
+all-merge {P} key (x ∷ xs) (y ∷ ys) (lists.more p a) (lists.more q b) =
+    go (leb (key x) (key y)) (all-merge key xs (y ∷ ys) a (lists.more q b)) (all-merge key (x ∷ xs) ys (lists.more p a) b)
+  where
+    go : (t : Bool) → All P (merge key xs (y ∷ ys)) → All P (merge key (x ∷ xs) ys) → All P (cond t (x ∷ merge key xs (y ∷ ys)) (y ∷ merge key (x ∷ xs) ys))
+    go true u v = lists.more p u
+    go false u v = lists.more q v
+
+module _ (s : State) (W : Savable s) where
+  abbrev pub carriedRows : List Slotted
+  carriedRows = map (carriedHeld (s .carriedCells)) (s .carried)
+
+  abbrev pub tombstoneRows : List Slotted
+  tombstoneRows = map tombstoneHeld (s .tombstones)
+
+  abbrev slotted : Slotted → ℕ
+  slotted h = h .slot
+
+  pub same-saved : savedRows s ≡ merge slotted carriedRows tombstoneRows
+  unfolding savedRows
+  same-saved =
+      ap (λ (l : List Carried). merge slotted (map (carriedHeld (s .carriedCells)) l) tombstoneRows)
+      (take-all (cellCount (length (s .carriedCells))) (s .carried) (W .fits))
+
+  -- a ciphertext has its row's length
+  length-text : (r : Carried) → InCell (length (s .carriedCells)) (r .cell) (r .len) → length (ciphertext (s .carriedCells) (r .cell) (r .len)) ≡ r .len
+  unfolding ciphertext cellStart cellLength cellCount
+  length-text r h =
+      let n = mul-le {i = r .cell + 1} {n = length (s .carriedCells) / 2064} 2064 (omega (arith, h .0)) in
+      let m = next-row (r .cell) 2064 in
+      let d : length (s .carriedCells) / 2064 * 2064 ≤ length (s .carriedCells) = omega arith in
+      let b : min (min (r .len) 2064) (length (s .carriedCells) - r .cell * 2064) ≡ r .len = omega (arith, h .1) in
+      length-part (s .carriedCells) (min (r .cell * 2064) (length (s .carriedCells))) (min (min (r .len) 2064) (length (s .carriedCells) - r .cell * 2064)) (omega arith) ∙ b
+
+  carried-back-row : (r : Carried) → ProperCarried r → InCell (length (s .carriedCells)) (r .cell) (r .len) → ReadBack r
+      → Back (carriedHeld (s .carriedCells) r) × Fits (carriedHeld (s .carriedCells) r .held)
+  unfolding carriedHeld
+  carried-back-row r p h b =
+      let ct : List ℕ = ciphertext (s .carriedCells) (r .cell) (r .len) in
+      let c : HeldCarried = record { depositor = r .depositor; header = record { tag = r .tag; c = r .c; «expiry_min» = r .«expiry_min»; copies = r .copies } } in
+      let q : ProperHeld c = record { depositor = p .depositor; header = record { tag = p .tag .size; c = p .c .size; expiry = p .«expiry_min»; copies = p .copies } } in
+      let l : length ct ≡ r .len = length-text r h in (
+        record {
+          slot = p .slot;
+          short = omega (arith, length-row c q ct, length-take 2064 ct);
+          read = carried-back c q ct (ap carriedLength l ∙ b .len) (b .copies) (b .expiry);
+        },
+        omega (arith, l, h .1),
+      )
+
+  tombstone-short : (c : HeldTombstone) → ProperHeldTombstone c → length (heldRow (held.tombstone c)) < 65536
+  unfolding heldRow
+  tombstone-short c q =
+      omega (arith, length-append ((1 ∷ []) ++ c .tag ++ c .s) (be 4 (c .«expiry_min»)), length-append ((1 ∷ []) ++ c .tag) (c .s), length-append (1 ∷ []) (c .tag), q .tag, q .s, length-be 4 (c .«expiry_min»))
+
+  tombstone-back-row : (t : Tombstone) → ProperTombstone t → Back (tombstoneHeld t)
+  unfolding tombstoneHeld
+  tombstone-back-row t p =
+      let c : HeldTombstone = record { tag = t .tag; s = t .s; «expiry_min» = t .«expiry_min» } in
+      let q : ProperHeldTombstone c = record { tag = p .tag .size; s = p .s .size; expiry = p .«expiry_min» } in
+      record { slot = p .slot; short = tombstone-short c q; read = tombstone-back c q }
+
+  all-carried : All (λ (h : Slotted). Back h × Fits (h .held)) carriedRows
+  all-carried = go (s .carried) (W .good .carried) (W .order .inCells) (W .back)
+    where
+      go : (rs : List Carried) → All ProperCarried rs → All (λ (r : Carried). InCell (length (s .carriedCells)) (r .cell) (r .len)) rs → All ReadBack rs
+          → All (λ (h : Slotted). Back h × Fits (h .held)) (map (carriedHeld (s .carriedCells)) rs)
+      go [] a b c = lists.none
+      go (r ∷ rs) (lists.more p a) (lists.more h b) (lists.more k c) = lists.more (carried-back-row r p h k) (go rs a b c)
+
+  all-tombstones : All (λ (h : Slotted). Back h × Fits (h .held)) tombstoneRows
+  unfolding tombstoneHeld
+  all-tombstones = all-map tombstoneHeld (s .tombstones) (all-imp (λ t p. (tombstone-back-row t p, tt)) (s .tombstones) (W .good .tombstones))
+
+  pub all-rows : All (λ (h : Slotted). Back h × Fits (h .held)) (merge slotted carriedRows tombstoneRows)
+  all-rows = all-merge slotted carriedRows tombstoneRows all-carried all-tombstones
+
+  -- the rows of each kind, in their order
+  carried-kept : filter ofCarried (merge slotted carriedRows tombstoneRows) ≡ carriedRows
+  unfolding carriedHeld tombstoneHeld
+  carried-kept =
+      merged-first ofCarried slotted carriedRows tombstoneRows (all-map (carriedHeld (s .carriedCells)) (s .carried) (all-imp (λ r p. refl) (s .carried) (W .good .carried)))
+      (all-map tombstoneHeld (s .tombstones) (all-imp (λ t p. refl) (s .tombstones) (W .good .tombstones)))
+
+  tombstones-kept : filter ofTombstone (merge slotted carriedRows tombstoneRows) ≡ tombstoneRows
+  unfolding carriedHeld tombstoneHeld
+  tombstones-kept =
+      merged-second ofTombstone slotted carriedRows tombstoneRows (all-map (carriedHeld (s .carriedCells)) (s .carried) (all-imp (λ r p. refl) (s .carried) (W .good .carried)))
+      (all-map tombstoneHeld (s .tombstones) (all-imp (λ t p. refl) (s .tombstones) (W .good .tombstones)))
+
+  carried-rise : Sorted Before carriedRows
+  unfolding carriedHeld
+  carried-rise = sorted-map (carriedHeld (s .carriedCells)) (λ x y k. k) (s .carried) (W .order .carriedRise)
+
+  tombstones-rise : Sorted Before tombstoneRows
+  unfolding tombstoneHeld
+  tombstones-rise = sorted-map tombstoneHeld (λ x y k. k) (s .tombstones) (W .order .tombstonesRise)
+
+  abbrev file : List ℕ
+  file = savedFile (s .nextSlot) (savedRows s)
+
+  pub next-saved : nextIn file ≡ s .nextSlot
+  unfolding savedFile
+  next-saved =
+      ap num (part-left ((72 ∷ 78 ∷ []) ++ be 8 (s .nextSlot)) (bytesOf (savedRows s)) 2 8 (omega (arith, length-be 8 (s .nextSlot)))
+      ∙ part-hit (72 ∷ 78 ∷ []) (be 8 (s .nextSlot)) 2 8 refl (length-be 8 (s .nextSlot))) ∙ num-be 8 (s .nextSlot) (W .good .nextSlot)
+
+  -- what is loaded from it has the rows that were saved
+  pub rows-saved : (cells : List ℕ) → length (s .carried) ≤ cellCount (length cells) → Kept (length cells) (loaded cells file) carriedRows tombstoneRows
+  unfolding cellCount
+  rows-saved cells room =
+      let hs : List Slotted = merge slotted carriedRows tombstoneRows in
+      let e : loaded cells file ≡ loadRows (noRows cells) hs =
+      ap (λ (k : List Slotted). loaded cells (savedFile (s .nextSlot) k)) same-saved ∙ loaded-saved cells (s .nextSlot) hs (all-imp (λ h p. p .0) hs all-rows) in
+      let n : length (filter ofCarried hs) ≡ length (s .carried) = ap length carried-kept ∙ length-map (s .carried) (carriedHeld (s .carriedCells)) in
+      let k : length (s .carried) * 2064 ≤ length cells = omega (arith, room) in
+      let K : Kept (length cells) (loadRows (noRows cells) hs) (filter ofCarried hs) (filter ofTombstone hs) =
+      loads-kept (length cells) hs (noRows cells) [] [] (record { carried = refl; tombstones = refl; inCells = lists.none; sized = refl }) (all-imp (λ h p. p .1) hs all-rows)
+      (omega (arith, k, ap (λ (j : ℕ). (0 + j) * 2064) n, zero-add (length (s .carried)), ap (λ (j : ℕ). j * 2064) (zero-add (length (s .carried)))))
+      (subst (Sorted Before) (sym carried-kept) carried-rise) (subst (Sorted Before) (sym tombstones-kept) tombstones-rise) in
+      subst (λ (l : Rows). Kept (length cells) l carriedRows tombstoneRows) (sym e)
+      (subst (λ (x : List Slotted). Kept (length cells) (loadRows (noRows cells) hs) x tombstoneRows) carried-kept
+      (subst (Kept (length cells) (loadRows (noRows cells) hs) (filter ofCarried hs)) tombstones-kept K))
+
+-- What a post saves and another, or the same, then loads, if that is not refused: the same held rows, with their ciphertexts, and next slot.
+pub saved-loaded : (s t : State) → Savable s → length (s .carried) ≤ cellCount (length (t .carriedCells)) → loadStep t (saveHeld s .bytes) .answer ≡ done
+    → let u : State = apply t (loadStep t (saveHeld s .bytes) .change) in (heldRows u ≡ heldRows s) × (u .nextSlot ≡ s .nextSlot)
+unfolding loadStep loadHeldRows saveHeld apply heldRows
+saved-loaded s t w room e = go (testedAs ts) refl (step-tested (loadHeldRows t f) ts)
+  where
+    f : List ℕ
+    f = savedFile (s .nextSlot) (savedRows s)
+
+    ts : List (Bool × Refusal)
+    ts = loadTests (t .contacts) (length (t .carriedCells)) (t .tombstoneRows) f
+
+    Same : Result → Type 0
+    Same o = (heldRows (apply t (o .change)) ≡ heldRows s) × (apply t (o .change) .nextSlot ≡ s .nextSlot)
+
+    go : (r : Tested) → testedAs ts ≡ r → stepOf ts (loadHeldRows t f) ≡ after (loadHeldRows t f) (testedAs ts) → Same (stepOf ts (loadHeldRows t f))
+    go (tested.Refused why) g q =
+        let k : refused why ≡ done = sym (ap (λ (o : Result). o .answer) (q ∙ ap (after (loadHeldRows t f)) g)) ∙ e in
+        let z : _≡_ {A = ℕ} 0 1 = cc in absurd (omega arith)
+    go tested.Fine g q =
+        let K = rows-saved s w (t .carriedCells) room in
+        subst Same (sym (q ∙ ap (after (loadHeldRows t f)) g)) (ap₂ (λ (x y : List Slotted). x ++ y) (K .carried) (K .tombstones), next-saved s w)
