@@ -6,6 +6,9 @@ program="$oracle/target/release/oracle"
 export CAIRN_SRC="${CAIRN_SRC:-$oracle/../../shared/docs/src}"
 export CARGO_NET_OFFLINE=true
 
+# What crates/replay/stdin was made of.
+sample_seeds=3,5,26,27,33,37,40,43,74 sample_calls=300
+
 # $1: "pass over" where a run without the source is passed over, unless it is the gate's.
 find_source() {
   if [ -d "$CAIRN_SRC/core/cairn-proto/src" ]; then

@@ -588,7 +588,7 @@ fn receive(
 }
 
 fn fail(device: Device, contacts: &[u8; 2304], bad_tags: &mut [u8; 48]) -> Device {
-    let r = tombs::report_failed(device, ContactId(5), twin(0x41, 1), contacts, bad_tags);
+    let r = reports::report_failed(device, ContactId(5), twin(0x41, 1), contacts, bad_tags);
     r.device
 }
 

@@ -3,6 +3,7 @@ ghost use Prim.Native.Nat.{_+_, _<_, _≤_};
 ghost use mathlib.Core.Path.{_≡_};
 ghost use lib.ListN.{length};
 ghost use Rattle.drill.specs.Turn.{Steady, Filling};
+use libc::STDERR_FILENO;
 use libc::STDIN_FILENO;
 use libc::STDOUT_FILENO;
 use rows::Device;
@@ -59,14 +60,39 @@ fn refill(input: &mut [u8], from: usize, have: usize) -> Filled
 }
 
 // Where the program stands between two turns: input[from..have] is not done. why: 0 more input is wanted, 1 the lines had no
-// room, 3 stop.
+// room, 3 stop. So many records stand before input[from], and so many bytes of the log before input[0].
 struct State {
     device: Device,
     exchange: Exchange,
     from: usize,
     have: usize,
     why: u8,
+    records: u64,
+    bytes: u64,
 }
+
+// ---- where number 13 stands: the lines do not say it, so standard error does
+
+fn further(total: u64, more: usize) -> u64 {
+    std::num::wrapping_add_u64(total, more as u64)
+}
+
+fn write_number(n: u64) {
+    let mut text = [0u8; 20];
+    let k = io::decimal(n, &mut text);
+    io::write_all(STDERR_FILENO, &text[..k]);
+}
+
+// The first record has number 1, and the log's first byte is byte 0.
+fn tell(record: u64, byte: u64) {
+    io::write_all(STDERR_FILENO, b"record ");
+    write_number(record);
+    io::write_all(STDERR_FILENO, b" at byte ");
+    write_number(byte);
+    io::write_all(STDERR_FILENO, b": refused 13\n");
+}
+
+// ---- a turn
 
 fn stopped(state: State) -> State
     ensures { λ r. ⌜ Steady (r .from) (r .have) (r .why) ⌝ }
@@ -79,6 +105,8 @@ fn stopped(state: State) -> State
         from: 0,
         have: 0,
         why: 3,
+        records: 0,
+        bytes: 0,
     }
 }
 
@@ -90,6 +118,7 @@ fn fill(state: State, input: &mut [u8; 65536]) -> State
     if state.why > 0 {
         return state;
     }
+    let bytes = further(state.bytes, state.from);
     let f = refill(input, state.from, state.have);
     if f.said == 2 {
         os::fail(b"standard input");
@@ -98,6 +127,7 @@ fn fill(state: State, input: &mut [u8; 65536]) -> State
     if f.said == 1 {
         if f.have > 0 {
             io::write_all(STDOUT_FILENO, b"refused 13\n");
+            tell(further(state.records, 1), bytes);
         }
         return stopped(state);
     }
@@ -109,6 +139,8 @@ fn fill(state: State, input: &mut [u8; 65536]) -> State
         from: 0,
         have: f.have,
         why: 0,
+        records: state.records,
+        bytes,
     }
 }
 
@@ -165,7 +197,9 @@ fn advance(
         out,
     );
     if emit(out, p.put) {
+        let records = further(state.records, p.count);
         if p.why == 2 {
+            tell(further(records, 1), further(state.bytes, p.used));
             return stopped(state);
         }
         let device = p.device;
@@ -176,6 +210,8 @@ fn advance(
             from: p.used,
             have: state.have,
             why: p.why,
+            records,
+            bytes: state.bytes,
         };
     }
     stopped(state)
@@ -190,6 +226,8 @@ fn start() -> State
         from: 0,
         have: 0,
         why: 0,
+        records: 0,
+        bytes: 0,
     }
 }
 

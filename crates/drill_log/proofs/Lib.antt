@@ -1,2 +1,3 @@
-pub mod LineLaws
 pub mod RunLaws
+pub mod PerformLaws
+pub mod WholeLaws

@@ -199,18 +199,18 @@ fn session_of(exchange: Exchange) -> Session {
     }
 }
 
-fn session_answer(exchange: Exchange, said: u8, replies: usize) -> SessionAnswer {
+fn session_answer(session: Session, said: u8, replies: usize) -> SessionAnswer {
     SessionAnswer {
-        session: session_of(exchange),
+        session,
         replies,
         said,
     }
 }
 
-fn code_answer(device: Device, exchange: Exchange, said: u8, actions: usize) -> CodeAnswer {
+fn code_answer(device: Device, session: Session, said: u8, actions: usize) -> CodeAnswer {
     CodeAnswer {
         post: post_of(device),
-        session: session_of(exchange),
+        session,
         actions,
         said,
     }
@@ -280,8 +280,8 @@ pub extern "C" fn goosetable_fresh_exchange(
     offers: &[u8],
 ) -> SessionAnswer {
     match contacts::fresh_exchange(device_of(post), ContactId(peer), contacts, prefixes, offers) {
-        Opened::As(exchange) => session_answer(exchange, DONE, 0),
-        Opened::Refused(why) => session_answer(exchange_of(session), core::refusal_number(why), 0),
+        Opened::As(exchange) => session_answer(session_of(exchange), DONE, 0),
+        Opened::Refused(why) => session_answer(session, core::refusal_number(why), 0),
     }
 }
 
@@ -483,9 +483,9 @@ pub extern "C" fn goosetable_inventory(
     let exchange = r.exchange;
     let said = r.said;
     match said {
-        inventory::Said::Done(replied) => session_answer(exchange, DONE, replied),
-        inventory::Said::Malformed => session_answer(exchange, MALFORMED, 0),
-        inventory::Said::Refused(why) => session_answer(exchange, core::refusal_number(why), 0),
+        inventory::Said::Done(replied) => session_answer(session_of(exchange), DONE, replied),
+        inventory::Said::Malformed => session_answer(session, MALFORMED, 0),
+        inventory::Said::Refused(why) => session_answer(session, core::refusal_number(why), 0),
     }
 }
 
@@ -506,13 +506,12 @@ pub extern "C" fn goosetable_custody_code(
     actions: &mut [u8],
 ) -> CodeAnswer {
     let device = device_of(post);
-    let exchange = exchange_of(session);
     let CustodyRead::Known(k) = Custody::from_code(code) else {
-        return code_answer(device, exchange, 13, 0);
+        return code_answer(device, session, 13, 0);
     };
     let o = handover::handed_over(
         device,
-        exchange,
+        exchange_of(session),
         ContactId(peer),
         *tag,
         k,
@@ -528,8 +527,8 @@ pub extern "C" fn goosetable_custody_code(
     let left = o.exchange;
     let said = o.said;
     match said {
-        handover::Said::Done(acted) => code_answer(after, left, DONE, acted),
-        handover::Said::Refused(why) => code_answer(after, left, core::refusal_number(why), 0),
+        handover::Said::Done(acted) => code_answer(after, session_of(left), DONE, acted),
+        handover::Said::Refused(why) => code_answer(after, session, core::refusal_number(why), 0),
     }
 }
 
@@ -614,7 +613,7 @@ pub extern "C" fn goosetable_opened(
     let device = device_of(post);
     let id = ContactId(peer);
     tombed(
-        tombs::report_opened(
+        reports::report_opened(
             device,
             id,
             *tag,
@@ -639,7 +638,7 @@ pub extern "C" fn goosetable_failed(
 ) -> Answer {
     let device = device_of(post);
     tombed(
-        tombs::report_failed(device, ContactId(peer), *tag, contacts, bad_tags),
+        reports::report_failed(device, ContactId(peer), *tag, contacts, bad_tags),
         0,
     )
 }

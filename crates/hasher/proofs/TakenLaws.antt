@@ -2,12 +2,11 @@
 use mathlib.Core.Path.{_≡_, refl, sym, ap, ap₂, _∙_}
 use mathlib.Core.List.{List, [], _∷_, _++_, append-nil, append-assoc}
 use Prim.Native.Nat.{ℕ, zero, suc, _+_, _-_, _*_, _/_, _%_, _≤_, _<_}
-use native.Mathlib.Numerals.{add-one}
 use native.Mathlib.Omega.{arith}
 use lib.ListN.{length, getD, take, drop, set, length-append, length-drop, length-take, length-set, take-append-drop, drop-of-length-le}
 use lib.Seq.{drop-drop, drop-append-le, take-suc-set, length-take-le, take-all, take-add}
-use Rattle.octets.specs.Bytes.{part}
-use Rattle.octets.proofs.Parts.{part-whole, length-part, part-cons, part-nil}
+use Rattle.octets.specs.Bytes.{part, splice}
+use Rattle.octets.proofs.Parts.{part-whole, length-part, length-splice, take-written}
 use Rattle.sha_block.specs.Loop.{turns}
 use Rattle.sha_block.specs.Block.{compress}
 use Rattle.sha384.specs.Padding.{padding, padded}
@@ -81,44 +80,36 @@ module _ (s r : Hasher) (x y : List ℕ) (t : Taken s x) where
       let n : length (x ++ y) % 128 ≡ 0 = omega (arith, length-append x y, length-append (take (length x % 128) (s .block)) y, ap length (t .held), length-behind x) in
       taken (p ∙ sym (hashed-block (s .state) now h)) (ap (λ (k : ℕ). take k (r .block)) n ∙ sym (behind-block now h)) l
 
--- ---- one byte, and one block
+-- ---- a run of bytes, and one block
 
 -- where x ends, by the hasher's count
 at-end : (s : Hasher) (x : List ℕ) → Taken s x → s .len % 128 ≡ length x % 128
 at-end s x t = ap (λ (n : ℕ). n % 128) (t .len)
 
--- what was held, with a byte behind it
-with-byte : (block : List ℕ) (at b : ℕ) → length block ≡ 128 → at < 128 → take at block ++ (b ∷ []) ≡ take (at + 1) (set block at b)
-with-byte block at b l h = sym (ap (λ (n : ℕ). take n (set block at b)) (add-one at) ∙ take-suc-set block at b (omega arith))
-
-module _ (s : Hasher) (b : ℕ) (room : length (s .block) ≡ 128) where
+-- b is the block with m behind what is held
+module _ (s : Hasher) (m b : List ℕ) (room : length (s .block) ≡ 128) (fits : s .len % 128 + length m ≤ 128) (e : b ≡ splice (s .block) (s .len % 128) m) where
   abbrev at : ℕ
   at = s .len % 128
 
-  held-byte : (x : List ℕ) → Taken s x → take (length x % 128) (s .block) ++ (b ∷ []) ≡ take (at + 1) (set (s .block) at b)
-  held-byte x t =
-      ap (λ (n : ℕ). take n (s .block) ++ (b ∷ [])) (sym (at-end s x t)) ∙ with-byte (s .block) at b room (omega arith)
+  held-run : (x : List ℕ) → Taken s x → take (length x % 128) (s .block) ++ m ≡ take (at + length m) b
+  held-run x t =
+      ap (λ (n : ℕ). take n (s .block) ++ m) (sym (at-end s x t)) ∙ sym (take-written (s .block) at m (omega arith)) ∙ ap (take (at + length m)) (sym e)
 
-  length-held-byte : (x : List ℕ) → Taken s x → length (take (length x % 128) (s .block) ++ (b ∷ [])) ≡ at + 1
-  length-held-byte x t =
-      ap length (held-byte x t) ∙ length-take-le (at + 1) (set (s .block) at b) (omega (arith, length-set (s .block) at b))
+  length-held-run : (x : List ℕ) → Taken s x → length (take (length x % 128) (s .block) ++ m) ≡ at + length m
+  length-held-run x t =
+      ap length (held-run x t) ∙ length-take-le (at + length m) b (omega (arith, ap length e, length-splice (s .block) at m (omega arith)))
 
-  pub push-held : (at ≡ 127 → ⊥) → (x : List ℕ) → Taken s x
-      → Taken (record { state = s .state; block = set (s .block) at b; len = s .len + 1 }) (x ++ (b ∷ []))
+  pub push-held : (at + length m ≡ 128 → ⊥) → (x : List ℕ) → Taken s x → Taken (record { state = s .state; block = b; len = s .len + length m }) (x ++ m)
   push-held h x t =
-      let n = length-held-byte x t in
-      let l : at + 1 < 128 = below h in
-      taken-short s _ x (b ∷ []) t (omega arith) refl (ap (λ (k : ℕ). take k (set (s .block) at b)) n ∙ sym (held-byte x t)) refl
-    where
-      below : (at ≡ 127 → ⊥) → at + 1 < 128
-      below h = omega (arith, h)
+      let n = length-held-run x t in
+      let l : at + length m < 128 = omega (arith, h) in
+      taken-short s _ x m t (omega arith) refl (ap (λ (k : ℕ). take k b) n ∙ sym (held-run x t)) refl
 
-  pub push-full : (h : List ℕ) → at ≡ 127 → h ≡ compress (s .state) (part (set (s .block) at b) 0 128) → (x : List ℕ) → Taken s x
-      → Taken (record { state = h; block = set (s .block) at b; len = s .len + 1 }) (x ++ (b ∷ []))
+  pub push-full : (h : List ℕ) → at + length m ≡ 128 → h ≡ compress (s .state) (part b 0 128) → (x : List ℕ) → Taken s x
+      → Taken (record { state = h; block = b; len = s .len + length m }) (x ++ m)
   unfolding part
-  push-full h e eh x t =
-      let n : at + 1 ≡ 128 = omega arith in
-      taken-block s _ x (b ∷ []) t (length-held-byte x t ∙ n) (eh ∙ ap (compress (s .state)) (sym (held-byte x t ∙ ap (λ (k : ℕ). take k (set (s .block) at b)) n))) refl
+  push-full h n eh x t =
+      taken-block s _ x m t (length-held-run x t ∙ n) (eh ∙ ap (compress (s .state)) (sym (held-run x t ∙ ap (λ (k : ℕ). take k b) n))) refl
 
 pub push-whole : (s : Hasher) (m : List ℕ) (from : ℕ) (h : List ℕ) → from + 128 ≤ length m → s .len % 128 ≡ 0
     → h ≡ compress (s .state) (part m from 128) → (x : List ℕ) → Taken s x
@@ -144,6 +135,10 @@ pub more-part : (x m : List ℕ) (at n : ℕ) → (x ++ take at m) ++ part m at 
 unfolding part
 more-part x m at n = append-assoc x (take at m) (take n (drop at m)) ∙ ap (λ (l : List ℕ). x ++ l) (sym (take-add at n m))
 
-pub more-byte : (x m : List ℕ) (at : ℕ) → at < length m → (x ++ take at m) ++ (getD m at 0 ∷ []) ≡ x ++ take (at + 1) m
-more-byte x m at h =
-    ap (λ (l : List ℕ). (x ++ take at m) ++ l) (sym (part-cons m at 0 h ∙ ap (λ (l : List ℕ). getD m at 0 ∷ l) (part-nil m (at + 1)))) ∙ more-part x m at 1
+-- the same, where the part is lent as a slice
+pub length-lent : (m : List ℕ) (at n : ℕ) → at + n ≤ length m → length (take (at + n - at) (drop at m)) ≡ n
+length-lent m at n h = length-take-le (at + n - at) (drop at m) (omega (arith, length-drop at m)) ∙ omega arith
+
+pub more-lent : (x m : List ℕ) (at n : ℕ) → (x ++ take at m) ++ take (at + n - at) (drop at m) ≡ x ++ take (at + n) m
+unfolding part
+more-lent x m at n = let k : at + n - at ≡ n = omega arith in ap (λ (j : ℕ). (x ++ take at m) ++ take j (drop at m)) k ∙ more-part x m at n

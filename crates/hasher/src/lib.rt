@@ -1,7 +1,7 @@
 // SHA-384 of a message that comes in parts, none of which is copied but for less than a block at each end.
 ghost use mathlib.Core.Path.{_≡_};
-ghost use mathlib.Core.List.{List, [], _∷_, _++_};
-ghost use Prim.Native.Nat.{ℕ, _+_, _%_, _^_, _≤_, _<_};
+ghost use mathlib.Core.List.{List, [], _++_};
+ghost use Prim.Native.Nat.{ℕ, _+_, _%_, _^_, _≤_, _<_, min};
 ghost use lib.ListN.{length};
 ghost use Rattle.octets.specs.Bytes.{part};
 ghost use Rattle.sha_block.specs.Constants.{K};
@@ -26,19 +26,20 @@ pub fn start() -> Hasher
     }
 }
 
-// One byte more. k are the constants of SHA-384, which a caller makes once for a message.
-fn push(k: &[u64; 80], s: Hasher, b: u8) -> Hasher
+// Puts m behind what s holds: a block at most, with what is held. k are the constants of SHA-384, which a caller makes once for a
+// message.
+fn push(k: &[u64; 80], s: Hasher, m: &[u8]) -> Hasher
     requires { ⌜ now k ≡ K ⌝ }
-    requires { ⌜ s .len + 1 < 2 ^ 64 ⌝ }
-    ensures { λ r. ⌜ ((x : List ℕ) → Taken s x → Taken r (x ++ (b ∷ []))) ⌝ }
-    ensures { λ r. ⌜ r .len ≡ s .len + 1 ⌝ }
+    requires { ⌜ (s .len % 128 + length (now m) ≤ 128) × (s .len + length (now m) < 2 ^ 64) ⌝ }
+    ensures { λ r. ⌜ ((x : List ℕ) → Taken s x → Taken r (x ++ now (m .entry))) ⌝ }
+    ensures { λ r. ⌜ r .len ≡ s .len + length (now (m .entry)) ⌝ }
 {
     let at = s.len % 128;
-    let len = s.len + 1;
+    let len = s.len + m.len();
     let state = s.state;
     let mut block = s.block;
-    block[at] = b;
-    if at == 127 {
+    octets::copy_in(&mut block, at, m);
+    if at + m.len() == 128 {
         let next = sha_block::block(k, state, &block, 0);
         return Hasher {
             state: next,
@@ -67,6 +68,13 @@ fn push_block(k: &[u64; 80], s: Hasher, m: &[u8], at: usize) -> Hasher
     }
 }
 
+// How many of n bytes go into the room.
+fn room_for(room: usize, n: usize) -> usize
+    ensures { λ r. ⌜ r ≡ min room n ⌝ }
+{
+    if n < room { n } else { room }
+}
+
 // The bytes of m, after those that s has taken.
 pub fn update(k: &[u64; 80], s: Hasher, m: &[u8]) -> Hasher
     requires { ⌜ now k ≡ K ⌝ }
@@ -82,9 +90,10 @@ pub fn update(k: &[u64; 80], s: Hasher, m: &[u8]) -> Hasher
             h = next;
             at += 128;
         } else {
-            let next = push(k, h, m[at]);
+            let n = room_for(128 - h.len % 128, m.len() - at);
+            let next = push(k, h, &m[at..at + n]);
             h = next;
-            at += 1;
+            at += n;
         }
     }
     h

@@ -68,7 +68,7 @@ limits-empty contacts carried e f = rw (e, f) (record {
   contactsApart = empty;
 })
 
-kept-empty : (p : Post) → Empty p → Kept (p .state)
+pub kept-empty : (p : Post) → Empty p → Kept (p .state)
 kept-empty p e = record {
   held = held-empty (p .state .carried) (p .state .tombstones) (p .state .nextSlot) (p .state .carriedCells) (e .carried) (e .tombstones);
   own = own-empty (p .state .contacts) (p .state .own) (p .state .ownCells) (e .own);
@@ -88,7 +88,7 @@ session-empty e q = (
   subst (λ (x : OpenExchange). OffersDiffer (x .offered)) (sym q) empty,
 )
 
-sound-empty : (p : Post) → Empty p → p .state .courier .copies < 2 ^ 8 → Sound p
+pub sound-empty : (p : Post) → Empty p → p .state .courier .copies < 2 ^ 8 → Sound p
 sound-empty p e c = record {
   good = record {
     contacts = subst (All ProperContact) (sym (e .contacts)) none;
@@ -200,7 +200,7 @@ lent-seen p l =
     ap (withSession (view (p .areas)))
     (sym (List·getD-map viewSession (p .sessions) (l .session) noSessionAreas) ∙ ap (getD (map viewSession (p .sessions)) (l .session)) no-session)
 
-fresh-empty : (p : PostAreas) → Empty (freshPost p)
+pub fresh-empty : (p : PostAreas) → Empty (freshPost p)
 fresh-empty p = record {
   contacts = refl;
   own = refl;

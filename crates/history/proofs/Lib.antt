@@ -14,5 +14,3 @@ pub mod ShareLaws
 pub mod OfferLaws
 pub mod OfferSteps
 pub mod HistoryLaws
-pub mod Examples
-pub mod ExamplesVerified

@@ -50,7 +50,7 @@ from id r = sameContact (r .depositor) id
 
 -- ---- a call
 
-known-kept : (s : State) {ρ : Role} {contacts : List Contact} (id : ContactId) → ContactStep s ρ contacts → known (s .contacts) id ≡ true → known contacts id ≡ true
+pub known-kept : (s : State) {ρ : Role} {contacts : List Contact} (id : ContactId) → ContactStep s ρ contacts → known (s .contacts) id ≡ true → known contacts id ≡ true
 known-kept s id (Effects.same t) h = h
 known-kept s id (Effects.puts who v e) h = known-put who v id (s .contacts) h
 known-kept s id (Effects.shut who v k l) h = h

@@ -1,6 +1,6 @@
 -- Laws of the load call: refused, and performed.
 -- Assumes nothing.
-use mathlib.Core.Path.{_≡_, refl, sym, ap, _∙_}
+use mathlib.Core.Path.{_≡_, refl, sym, ap, _∙_, subst}
 use mathlib.Core.Bool.{Bool, true, false, cond}
 use mathlib.Core.List.{List, [], _∷_}
 use Prim.Native.Nat.{ℕ, _/_, _≤_, min}
@@ -12,6 +12,7 @@ use Rattle.table.specs.Codec.{tableOf}
 use Rattle.rows.specs.declared.Contact.{Contact}
 use Rattle.rows.specs.declared.Device.{Device}
 use Rattle.rows.specs.Rows.{contactCodec}
+use Rattle.model.specs.State.{State}
 use Rattle.model.specs.Calls.{Result, refused, only, done, stepOf}
 use Rattle.model.specs.Cells.{cellCount}
 use Rattle.model.specs.Areas.{Areas, Written, view, store, storeDevice, storeSession}
@@ -39,6 +40,22 @@ step-tested p (t ∷ ts) = go (t .0) (step-tested p ts)
     go : (b : Bool) → stepOf ts p ≡ after p (testedAs ts) → cond b (only (refused (t .1))) (stepOf ts p) ≡ after p (cond b (tested.Refused (t .1)) (testedAs ts))
     go true e = refl
     go false e = e
+
+-- what holds of a refusal, and of what is performed where no test holds, holds of a load
+pub load-cases : (s : State) (file : List ℕ) (P : Result → Type 0) → ((why : Refusal) → P (only (refused why)))
+    → (tested.Fine ≡ testedAs (loadTests (s .contacts) (length (s .carriedCells)) (s .tombstoneRows) file) → P (loadHeldRows s file)) → P (loadStep s file)
+unfolding loadStep
+load-cases s file P f g = subst P (sym (step-tested (loadHeldRows s file) ts)) (go (testedAs ts) refl)
+  where
+    ts : List (Bool × Refusal)
+    ts = loadTests (s .contacts) (length (s .carriedCells)) (s .tombstoneRows) file
+
+    go : (r : Tested) → testedAs ts ≡ r → P (after (loadHeldRows s file) r)
+    go (tested.Refused why) e = f why
+    go tested.Fine e = g (sym e)
+
+pub not-done : (why : Refusal) → refused why ≡ done → ⊥
+not-done why e = let z : _≡_ {A = ℕ} 0 1 = cc in omega arith
 
 -- a file that is fine, and room for it in the areas
 module _ (cs : List Contact) (file : List ℕ) where

@@ -1,41 +1,43 @@
--- Conditions of number 8 that do not hold of a saved file: length, place of `HN`, mark, blob and kind, slot past the next or twice, unknown
--- depositor; and how many rows of each kind it has.
+-- Conditions of number 8 that do not hold of a saved file: length, place of `HN`, mark, blob and kind, slot past the next or twice, carried
+-- tag twice, unknown depositor, over 32 of one.
 -- Assumes nothing.
-use mathlib.Core.Path.{_≡_, refl, sym, ap, ap₂, _∙_}
-use mathlib.Core.Bool.{Bool, true, false, cond, not, _&&_, _||_}
+use mathlib.Core.Path.{_≡_, refl, sym, ap, ap₂, _∙_, subst}
+use mathlib.Core.Bool.{Bool, true, false, cond, not, _&&_, _||_, false≢true}
 use mathlib.Core.List.{List, [], _∷_, _++_, map, append-nil}
+use mathlib.Core.Option.{some}
 use Prim.Native.Nat.{ℕ, suc, _+_, _≤_, _<_}
 use native.Mathlib.Omega.{arith}
-use lib.ListN.{length, take, drop, length-append, length-map}
+use lib.ListN.{length, take, drop, length-append}
 use lib.Seq.{drop-drop}
-use lib.Dec.{leb}
-use mathlib.Core.Option.{some}
-use borrow.Author.Tests.{lt-leb, le-ltb}
+use lib.Dec.{eqb, leb}
+use borrow.Author.Tests.{eq-eqb, lt-leb, le-ltb}
 use Rattle.octets.specs.Bytes.{part, num, be, sameBytes}
 use Rattle.octets.proofs.Compare.{same-eq}
 use Rattle.octets.proofs.Numbers.{length-be, num-be}
+use Rattle.octets.proofs.Parts.{length-part, part-part}
 use Rattle.table.specs.Lists.{All, any, countBy}
 use Rattle.table.specs.Lists as lists
 use Rattle.table.specs.Rows.{join, hasKey}
-use Rattle.table.proofs.ListLaws.{all-imp, all-map, count-append}
+use Rattle.table.proofs.ListLaws.{all-imp, count-append, count-map}
+use Rattle.table.proofs.FindLaws.{key-run}
+use Rattle.courier.specs.Courier.{headerOf}
 use Rattle.state.specs.Held.{Held, heldRow, heldDecode, carriedOf}
 use Rattle.state.specs.Held as held
 use Rattle.state.specs.declared.Carried.{Carried as HeldCarried}
-use Rattle.state.proofs.HeldLaws.{ProperCarried as ProperHeld, head-back}
 use Rattle.rows.specs.declared.Contact.{Contact}
 use Rattle.model.specs.Contacts.{known}
 use Rattle.model.specs.Basics.{matchSome, merge}
-use Rattle.model.specs.State.{State}
-use Rattle.model.specs.Saved.{Slotted, carriedHeld, tombstoneHeld, heldMark, savedRecord, savedFile, savedRows}
-use Rattle.load.specs.Reload.{Savable}
+use Rattle.model.specs.Saved.{Slotted, heldMark, savedRecord, savedFile}
 use Rattle.history.specs.Order.{Sorted, empty, next}
-use Rattle.load_tests.specs.Records.{records, slotIn, depositorIn, isCarried, isTombstone, counted}
-use Rattle.load_tests.specs.Tests.{strangeMark, refusedBlob, otherKind, slotPast, slotTwice, kindTests, fails, shortNext, nextNotFirst, cutShort, unknownDepositor, carriedCount, tombstoneCount}
-use Rattle.load.proofs.SavedLaws.{carriedRows, tombstoneRows, same-saved, all-rows, carriedKind, ofCarried, ofTombstone, Back, records-saved, all-merge, slot-saved, blob-saved, mark-saved}
+use Rattle.history.proofs.EffectLaws.{and-true}
+use Rattle.load_tests.specs.Records.{records, slotIn, depositorIn, tagIn, isCarried, isTombstone, counted}
+use Rattle.load_tests.specs.Tests.{strangeMark, refusedBlob, otherKind, slotPast, slotTwice, tagTwice, unknownDepositor, manyOfOne, kindTests, fails, cutShort}
+use Rattle.load_tests.proofs.BlobLaws.{Decoded, decoded}
+use Rattle.load.proofs.SavedLaws.{carriedKind, ofCarried, ofTombstone, Back, Short, records-saved, all-merge, length-saved, slot-saved, blob-saved, mark-saved}
 
 -- ---- at most one
 
-at-most-one : {A : Type 0} (p : A → Bool) (xs : List A) → Sorted (λ (a b : A). p a ≡ true → p b ≡ true → ⊥) xs → countBy p xs ≤ 1
+pub at-most-one : {A : Type 0} (p : A → Bool) (xs : List A) → Sorted (λ (a b : A). p a ≡ true → p b ≡ true → ⊥) xs → countBy p xs ≤ 1
 unfolding countBy
 at-most-one p [] s = omega arith
 at-most-one p (x ∷ xs) (next a s) = go (p x) refl (at-most-one p xs s)
@@ -53,7 +55,7 @@ at-most-one p (x ∷ xs) (next a s) = go (p x) refl (at-most-one p xs s)
     go false e h = h
 
 -- two lists whose elements differ, and differ from each other's, merged
-sorted-merge : {R : Slotted → Slotted → Type 0} (key : Slotted → ℕ) → ((a b : Slotted) → R a b → R b a) → (xs ys : List Slotted) → Sorted R xs → Sorted R ys
+pub sorted-merge : {R : Slotted → Slotted → Type 0} (key : Slotted → ℕ) → ((a b : Slotted) → R a b → R b a) → (xs ys : List Slotted) → Sorted R xs → Sorted R ys
     → All (λ (x : Slotted). All (R x) ys) xs → Sorted R (merge key xs ys)
 unfolding merge
 sorted-merge key turn [] ys s t c = t
@@ -78,7 +80,7 @@ sorted-merge {R} key turn (x ∷ xs) (y ∷ ys) (next a s) (next b t) (lists.mor
 module _ (h : Slotted) (B : Back h) where
   pub kind-saved : fails kindTests (savedRecord h) ≡ false
   unfolding fails any strangeMark refusedBlob otherKind isCarried isTombstone hasKey sameBytes
-  kind-saved = go (h .held) (mark-saved h B) (ap heldDecode (blob-saved h B) ∙ B .read)
+  kind-saved = go (h .held) (mark-saved h) (ap heldDecode (blob-saved h) ∙ B .read)
     where
       go : (x : Held) → part (savedRecord h) 0 2 ≡ heldMark x → heldDecode (drop 12 (savedRecord h)) ≡ some x
           → (not (sameBytes (part (savedRecord h) 0 2) (72 ∷ 67 ∷ []) || sameBytes (part (savedRecord h) 0 2) (72 ∷ 84 ∷ []))
@@ -93,86 +95,175 @@ module _ (h : Slotted) (B : Back h) where
 
   pub past-saved : (limit : ℕ) → h .slot < limit → slotPast limit (savedRecord h) ≡ false
   unfolding slotPast
-  past-saved limit k = lt-leb limit (num (slotIn (savedRecord h))) (omega (arith, k, ap num (slot-saved h B) ∙ num-be 8 (h .slot) (B .slot)))
+  past-saved limit k = lt-leb limit (num (slotIn (savedRecord h))) (omega (arith, k, ap num (slot-saved h) ∙ num-be 8 (h .slot) (B .slot)))
 
   pub same-slot : (k : Slotted) → Back k → counted false 2 (slotIn (savedRecord h)) (savedRecord k) ≡ true → be 8 (k .slot) ≡ slotIn (savedRecord h)
   unfolding counted hasKey
   same-slot k K e =
-      let l : length (slotIn (savedRecord h)) ≡ 8 = ap length (slot-saved h B) ∙ length-be 8 (h .slot) in
-      sym (slot-saved k K) ∙ same-eq (part (savedRecord k) 2 8) (slotIn (savedRecord h))
+      let l : length (slotIn (savedRecord h)) ≡ 8 = ap length (slot-saved h) ∙ length-be 8 (h .slot) in
+      sym (slot-saved k) ∙ same-eq (part (savedRecord k) 2 8) (slotIn (savedRecord h))
       (ap (λ (n : ℕ). sameBytes (part (savedRecord k) 2 n) (slotIn (savedRecord h))) (sym l) ∙ e)
+
+-- what holds between rows, and shows that a test holds of no two of their records
+sorted-records : {R : Slotted → Slotted → Type 0} (p : List ℕ → Bool)
+    → ((x y : Slotted) → Back x → Back y → R x y → p (savedRecord x) ≡ true → p (savedRecord y) ≡ true → ⊥)
+    → (hs : List Slotted) → All Back hs → Sorted R hs → Sorted (λ (c d : List ℕ). p c ≡ true → p d ≡ true → ⊥) (map savedRecord hs)
+sorted-records p f [] b t = empty
+sorted-records {R} p f (h ∷ hs) (lists.more H b) (next n t) = next (away hs b n) (sorted-records p f hs b t)
+  where
+    away : (ks : List Slotted) → All Back ks → All (R h) ks → All (λ (c : List ℕ). p (savedRecord h) ≡ true → p c ≡ true → ⊥) (map savedRecord ks)
+    away [] b n = lists.none
+    away (k ∷ ks) (lists.more K b) (lists.more m n) = lists.more (f h k H K m) (away ks b n)
 
 -- each slot is there once
 pub once-saved : (hs : List Slotted) → All Back hs → Sorted (λ (a b : Slotted). a .slot ≡ b .slot → ⊥) hs → (h : Slotted) → Back h
     → slotTwice (map savedRecord hs) (savedRecord h) ≡ false
 unfolding slotTwice
-once-saved hs a s h B = le-ltb 1 (countBy (counted false 2 (slotIn (savedRecord h))) (map savedRecord hs)) (at-most-one (counted false 2 (slotIn (savedRecord h))) (map savedRecord hs) (go hs a s))
+once-saved hs a s h B = le-ltb 1 (countBy is (map savedRecord hs)) (at-most-one is (map savedRecord hs) (sorted-records is apart hs a s))
   where
-    slot-is : (k : Slotted) → Back k → counted false 2 (slotIn (savedRecord h)) (savedRecord k) ≡ true → be 8 (k .slot) ≡ slotIn (savedRecord h)
-    slot-is k K e = same-slot h B k K e
+    is : List ℕ → Bool
+    is = counted false 2 (slotIn (savedRecord h))
 
     apart : (x y : Slotted) → Back x → Back y → (x .slot ≡ y .slot → ⊥) → counted false 2 (slotIn (savedRecord h)) (savedRecord x) ≡ true
         → counted false 2 (slotIn (savedRecord h)) (savedRecord y) ≡ true → ⊥
-    apart x y X Y ne p q = ne (sym (num-be 8 (x .slot) (X .slot)) ∙ ap num (slot-is x X p ∙ sym (slot-is y Y q)) ∙ num-be 8 (y .slot) (Y .slot))
-
-    away : (x : Slotted) → Back x → (ks : List Slotted) → All Back ks → All (λ (y : Slotted). x .slot ≡ y .slot → ⊥) ks
-        → All (λ (c : List ℕ). counted false 2 (slotIn (savedRecord h)) (savedRecord x) ≡ true → counted false 2 (slotIn (savedRecord h)) c ≡ true → ⊥) (map savedRecord ks)
-    away x X [] b n = lists.none
-    away x X (k ∷ ks) (lists.more K b) (lists.more m n) = lists.more (apart x k X K m) (away x X ks b n)
-
-    go : (ks : List Slotted) → All Back ks → Sorted (λ (x y : Slotted). x .slot ≡ y .slot → ⊥) ks
-        → Sorted (λ (c d : List ℕ). counted false 2 (slotIn (savedRecord h)) c ≡ true → counted false 2 (slotIn (savedRecord h)) d ≡ true → ⊥) (map savedRecord ks)
-    go [] b t = empty
-    go (k ∷ ks) (lists.more K b) (next n t) = next (away k K ks b n) (go ks b t)
+    apart x y X Y ne p q =
+        ne (sym (num-be 8 (x .slot) (X .slot)) ∙ ap num (same-slot h B x X p ∙ sym (same-slot h B y Y q)) ∙ num-be 8 (y .slot) (Y .slot))
 
 -- ---- the file
 
--- it starts with its mark, and is whole records
-module _ (slot : ℕ) (hs : List Slotted) (a : All Back hs) where
-  abbrev file : List ℕ
-  file = savedFile slot hs
+-- it starts with its mark and a next slot, and is whole records
+pub record Begins (file : List ℕ) : Type 0 where
+  pub long : 10 ≤ length file
+  pub mark : true ≡ sameBytes (part file 0 2) (part (72 ∷ 78 ∷ []) 0 2)
+  pub whole : false ≡ cutShort file
 
-  length-file : length file ≡ 10 + length (join (map savedRecord hs))
-  unfolding savedFile
-  length-file = omega (arith, length-append ((72 ∷ 78 ∷ []) ++ be 8 slot) (join (map savedRecord hs)), length-be 8 slot)
+length-file : (slot : ℕ) (hs : List Slotted) → length (savedFile slot hs) ≡ 10 + length (join (map savedRecord hs))
+unfolding savedFile
+length-file slot hs = omega (arith, length-append ((72 ∷ 78 ∷ []) ++ be 8 slot) (join (map savedRecord hs)), length-be 8 slot)
 
-  pub long-saved : shortNext file ≡ false
-  unfolding shortNext
-  long-saved = le-ltb (length file) 10 (omega (arith, length-file))
+mark-file : (slot : ℕ) (hs : List Slotted) → true ≡ sameBytes (part (savedFile slot hs) 0 2) (part (72 ∷ 78 ∷ []) 0 2)
+unfolding savedFile sameBytes part
+mark-file slot hs = refl
 
-  pub first-saved : nextNotFirst file ≡ false
-  unfolding nextNotFirst savedFile sameBytes part
-  first-saved = refl
+pub begins-saved : (slot : ℕ) (hs : List Slotted) → All Short hs → Begins (savedFile slot hs)
+unfolding cutShort
+begins-saved slot hs a =
+    let file : List ℕ = savedFile slot hs in
+    record {
+      long = omega (arith, length-file slot hs);
+      mark = mark-file slot hs;
+      whole = sym (le-ltb (10 + length (join (records file))) (length file)
+          (omega (arith, length-file slot hs, ap (λ (r : List (List ℕ)). length (join r)) (records-saved slot hs a))));
+    }
 
-  pub whole-saved : cutShort file ≡ false
-  unfolding cutShort
-  whole-saved = le-ltb (10 + length (join (records file))) (length file) (omega (arith, length-file, ap (λ (r : List (List ℕ)). length (join r)) (records-saved slot hs a)))
+-- ---- marks
+
+-- a mark that a saved record has, and the one it has not
+pub marked-saved : (h : Slotted) → isCarried (savedRecord h) ≡ ofCarried h
+unfolding isCarried hasKey sameBytes
+marked-saved h = ap (λ (l : List ℕ). sameBytes l (72 ∷ 67 ∷ [])) (mark-saved h) ∙ go (h .held)
+  where
+    go : (x : Held) → sameBytes (heldMark x) (72 ∷ 67 ∷ []) ≡ carriedKind x
+    go (held.carried r ct) = refl
+    go (held.tombstone t) = refl
+
+pub marked-tomb : (h : Slotted) → isTombstone (savedRecord h) ≡ ofTombstone h
+unfolding isTombstone hasKey sameBytes
+marked-tomb h = ap (λ (l : List ℕ). sameBytes l (72 ∷ 84 ∷ [])) (mark-saved h) ∙ go (h .held)
+  where
+    go : (x : Held) → sameBytes (heldMark x) (72 ∷ 84 ∷ []) ≡ not (carriedKind x)
+    go (held.carried r ct) = refl
+    go (held.tombstone t) = refl
 
 -- ---- the depositor and the tag of a carried record
 
-module _ (slot : ℕ) (c : HeldCarried) (p : ProperHeld c) (ct : List ℕ) (B : Back (record { slot = slot; held = held.carried c ct })) where
+abbrev pub depositorOf : Held → ℕ
+depositorOf (held.carried r ct) = r .depositor .0
+depositorOf (held.tombstone t) = 0
+
+abbrev pub tagOf : Held → List ℕ
+tagOf (held.carried r ct) = r .header .tag
+tagOf (held.tombstone t) = t .tag
+
+and-no : (x y : Bool) → (x ≡ true → y ≡ false) → (x && y) ≡ false
+and-no true y f = f refl
+and-no false y f = refl
+
+module _ (h : Slotted) (B : Back h) where
   abbrev b : List ℕ
-  b = savedRecord (record { slot = slot; held = held.carried c ct })
+  b = savedRecord h
 
-  read-saved : carriedOf (drop 12 b) ≡ c
-  unfolding heldRow
-  read-saved = ap carriedOf (blob-saved (record { slot = slot; held = held.carried c ct }) B) ∙ head-back c p (take 2064 ct)
+  is-carried : isCarried b ≡ true → ofCarried h ≡ true
+  is-carried m = sym (marked-saved h) ∙ m
 
-  pub depositor-saved : num (depositorIn b) ≡ c .depositor .0
+  -- what is read of its blob is the row
+  seen : (r : HeldCarried) (ct : List ℕ) → h .held ≡ held.carried r ct → (carriedOf (drop 12 b) ≡ r) × (58 ≤ length b)
+  seen r ct e =
+      let D : Decoded (heldRow (h .held)) (some (held.carried r ct)) =
+      subst (Decoded (heldRow (h .held))) (B .read ∙ ap (λ (x : Held). some x) e) (decoded (heldRow (h .held))) in
+      (ap carriedOf (blob-saved h) ∙ sym (D .0), omega (arith, D .1 .1 .0, length-saved h))
+
+  depositor-saved : ofCarried h ≡ true → num (depositorIn b) ≡ depositorOf (h .held)
   unfolding carriedOf part
-  depositor-saved = ap (λ (l : List ℕ). num (take 8 l)) (sym (drop-drop 1 12 b)) ∙ ap (λ (k : HeldCarried). k .depositor .0) read-saved
-
-  pub known-saved : (cs : List Contact) → known cs (c .depositor) ≡ true → unknownDepositor cs b ≡ false
-  unfolding unknownDepositor
-  known-saved cs k = ap (λ (i : ℕ). isCarried b && not (known cs (record { 0 = i }))) depositor-saved ∙ ap (λ (t : Bool). isCarried b && not t) k ∙ ends (isCarried b)
+  depositor-saved c = go (h .held) refl c
     where
-      ends : (t : Bool) → (t && false) ≡ false
-      ends true = refl
-      ends false = refl
+      go : (x : Held) → h .held ≡ x → carriedKind x ≡ true → num (part b 13 8) ≡ depositorOf x
+      go (held.carried r ct) e c = ap (λ (l : List ℕ). num (take 8 l)) (sym (drop-drop 1 12 b)) ∙ ap (λ (k : HeldCarried). k .depositor .0) (seen r ct e .0)
+      go (held.tombstone t) e c = absurd (false≢true c)
+
+  tag-saved : ofCarried h ≡ true → tagIn b ≡ tagOf (h .held)
+  unfolding carriedOf headerOf part
+  tag-saved c = go (h .held) refl c
+    where
+      go : (x : Held) → h .held ≡ x → carriedKind x ≡ true → part b 21 16 ≡ tagOf x
+      go (held.carried r ct) e c =
+          ap (λ (l : List ℕ). take 16 l) (sym (drop-drop 9 12 b)) ∙ sym (part-part (drop 12 b) 9 37 0 16 (omega arith)) ∙ ap (λ (k : HeldCarried). k .header .tag) (seen r ct e .0)
+      go (held.tombstone t) e c = absurd (false≢true c)
+
+  long-saved-row : ofCarried h ≡ true → 58 ≤ length b
+  long-saved-row c = go (h .held) refl c
+    where
+      go : (x : Held) → h .held ≡ x → carriedKind x ≡ true → 58 ≤ length b
+      go (held.carried r ct) e c = seen r ct e .1
+      go (held.tombstone t) e c = absurd (false≢true c)
+
+  pub known-saved : (cs : List Contact) → (ofCarried h ≡ true → known cs (record { 0 = depositorOf (h .held) }) ≡ true) → unknownDepositor cs b ≡ false
+  unfolding unknownDepositor
+  known-saved cs k = and-no (isCarried b) _ (λ m. ap (λ (i : ℕ). not (known cs (record { 0 = i }))) (depositor-saved (is-carried m)) ∙ ap not (k (is-carried m)))
+
+  -- a carried record with bytes of this one at their place: they are its own there
+  shares : (k : Slotted) → Back k → (o n : ℕ) → o + n ≤ 58 → ofCarried h ≡ true → counted true o (part b o n) (savedRecord k) ≡ true
+      → (ofCarried k ≡ true) × (part (savedRecord k) o n ≡ part b o n)
+  unfolding counted
+  shares k K o n le c e =
+      let q = and-true (isCarried (savedRecord k)) (hasKey o (part b o n) (savedRecord k)) e in
+      let l : length (part b o n) ≡ n = length-part b o n (omega (arith, long-saved-row c)) in
+      (sym (marked-saved k) ∙ q .0, same-eq (part (savedRecord k) o n) (part b o n) (sym (key-run o n (part b o n) (savedRecord k) l) ∙ q .1))
+
+-- of two rows that are both carried: their tags differ
+abbrev pub TagsApart : Slotted → Slotted → Type 0
+TagsApart x y = ofCarried x ≡ true → ofCarried y ≡ true → tagOf (x .held) ≡ tagOf (y .held) → ⊥
+
+-- each carried tag is there once
+pub tag-once-saved : (hs : List Slotted) → All Back hs → Sorted TagsApart hs → (h : Slotted) → Back h → tagTwice (map savedRecord hs) (savedRecord h) ≡ false
+unfolding tagTwice
+tag-once-saved hs a s h B =
+    and-no (isCarried (savedRecord h)) _
+    (λ m. le-ltb 1 (countBy is (map savedRecord hs)) (at-most-one is (map savedRecord hs) (sorted-records is (apart (is-carried h B m)) hs a s)))
+  where
+    is : List ℕ → Bool
+    is = counted true 21 (tagIn (savedRecord h))
+
+    apart : ofCarried h ≡ true → (x y : Slotted) → Back x → Back y → TagsApart x y → counted true 21 (tagIn (savedRecord h)) (savedRecord x) ≡ true
+        → counted true 21 (tagIn (savedRecord h)) (savedRecord y) ≡ true → ⊥
+    apart c x y X Y ne p q =
+        let u = shares h B x X 21 16 (omega arith) c p in
+        let v = shares h B y Y 21 16 (omega arith) c q in
+        ne (u .0) (v .0) (sym (tag-saved x X (u .0)) ∙ u .1 ∙ sym (v .1) ∙ tag-saved y Y (v .0))
 
 -- ---- counts
 
-count-merge : (p : Slotted → Bool) (key : Slotted → ℕ) (xs ys : List Slotted) → countBy p (merge key xs ys) ≡ countBy p xs + countBy p ys
+pub count-merge : (p : Slotted → Bool) (key : Slotted → ℕ) (xs ys : List Slotted) → countBy p (merge key xs ys) ≡ countBy p xs + countBy p ys
 unfolding merge
 count-merge p key [] ys = refl-zero
   where
@@ -186,32 +277,15 @@ count-merge p key (x ∷ xs) (y ∷ ys) = go (leb (key x) (key y)) (count-merge 
     go true q r = omega (arith, q, count-append p (x ∷ []) (merge key xs (y ∷ ys)), count-append p (x ∷ []) xs)
     go false q r = omega (arith, r, count-append p (y ∷ []) (merge key (x ∷ xs) ys), count-append p (y ∷ []) ys)
 
-count-none : {A : Type 0} (p : A → Bool) (xs : List A) → All (λ (x : A). p x ≡ false) xs → countBy p xs ≡ 0
+pub count-none : {A : Type 0} (p : A → Bool) (xs : List A) → All (λ (x : A). p x ≡ false) xs → countBy p xs ≡ 0
 unfolding countBy
 count-none p [] a = refl
 count-none p (x ∷ xs) (lists.more e a) = ap (λ (t : Bool). cond t (suc (countBy p xs)) (countBy p xs)) e ∙ count-none p xs a
 
-count-all : {A : Type 0} (p : A → Bool) (xs : List A) → All (λ (x : A). p x ≡ true) xs → countBy p xs ≡ length xs
+pub count-all : {A : Type 0} (p : A → Bool) (xs : List A) → All (λ (x : A). p x ≡ true) xs → countBy p xs ≡ length xs
 unfolding countBy
 count-all p [] a = refl
 count-all p (x ∷ xs) (lists.more e a) = ap (λ (t : Bool). cond t (suc (countBy p xs)) (countBy p xs)) e ∙ ap suc (count-all p xs a)
-
--- a mark that a saved record has, and the one it has not
-pub marked-saved : (h : Slotted) → Back h → isCarried (savedRecord h) ≡ ofCarried h
-unfolding isCarried hasKey sameBytes
-marked-saved h B = ap (λ (l : List ℕ). sameBytes l (72 ∷ 67 ∷ [])) (mark-saved h B) ∙ go (h .held)
-  where
-    go : (x : Held) → sameBytes (heldMark x) (72 ∷ 67 ∷ []) ≡ carriedKind x
-    go (held.carried r ct) = refl
-    go (held.tombstone t) = refl
-
-pub marked-tomb : (h : Slotted) → Back h → isTombstone (savedRecord h) ≡ ofTombstone h
-unfolding isTombstone hasKey sameBytes
-marked-tomb h B = ap (λ (l : List ℕ). sameBytes l (72 ∷ 84 ∷ [])) (mark-saved h B) ∙ go (h .held)
-  where
-    go : (x : Held) → sameBytes (heldMark x) (72 ∷ 84 ∷ []) ≡ not (carriedKind x)
-    go (held.carried r ct) = refl
-    go (held.tombstone t) = refl
 
 -- so many records of a kind as rows
 pub counts-saved : (p : List ℕ → Bool) (q : Slotted → Bool) (hs : List Slotted) → All (λ (h : Slotted). p (savedRecord h) ≡ q h) hs → countBy p (map savedRecord hs) ≡ countBy q hs
@@ -219,45 +293,40 @@ unfolding countBy
 counts-saved p q [] a = refl
 counts-saved p q (h ∷ hs) (lists.more e a) = ap₂ (λ (t : Bool) (n : ℕ). cond t (suc n) n) e (counts-saved p q hs a)
 
--- ---- over 256, over the cells, over the R rows: as many records of a kind as rows
+pub count-imp : {A : Type 0} (p q : A → Bool) (xs : List A) → All (λ (x : A). p x ≡ true → q x ≡ true) xs → countBy p xs ≤ countBy q xs
+unfolding countBy
+count-imp p q [] a = omega arith
+count-imp p q (x ∷ xs) (lists.more f a) = go (p x) (q x) refl refl (count-imp p q xs a)
+  where
+    go : (u v : Bool) → p x ≡ u → q x ≡ v → countBy p xs ≤ countBy q xs → cond u (suc (countBy p xs)) (countBy p xs) ≤ cond v (suc (countBy q xs)) (countBy q xs)
+    go true true i j le = omega arith
+    go true false i j le = absurd (false≢true (sym j ∙ f i))
+    go false true i j le = omega arith
+    go false false i j le = omega arith
 
-module _ (s : State) (W : Savable s) where
-  abbrev xs : List Slotted
-  xs = carriedRows s W
+-- a carried row of the depositor
+abbrev pub ofDepositor : ℕ → Slotted → Bool
+ofDepositor id k = ofCarried k && eqb (depositorOf (k .held)) id
 
-  abbrev ys : List Slotted
-  ys = tombstoneRows s W
+-- no more than 32 are of one depositor
+pub few-of-one-saved : (hs : List Slotted) → All Back hs → (h : Slotted) → Back h → countBy (ofDepositor (depositorOf (h .held))) hs ≤ 32
+    → manyOfOne (map savedRecord hs) (savedRecord h) ≡ false
+unfolding manyOfOne
+few-of-one-saved hs a h B n =
+    and-no (isCarried (savedRecord h)) _
+    (λ m. le-ltb 32 (countBy is (map savedRecord hs)) (omega (
+      arith,
+      n,
+      count-map savedRecord (λ (k : Slotted). is (savedRecord k)) is (λ k. refl) hs,
+      count-imp (λ (k : Slotted). is (savedRecord k)) (ofDepositor (depositorOf (h .held))) hs (all-imp (one (is-carried h B m)) hs a),
+    )))
+  where
+    is : List ℕ → Bool
+    is = counted true 13 (depositorIn (savedRecord h))
 
-  abbrev hs : List Slotted
-  hs = merge (λ (h : Slotted). h .slot) xs ys
-
-  backs : All Back hs
-  backs = all-imp (λ h p. p .0) hs (all-rows s W)
-
-  counted-saved : (p : List ℕ → Bool) (q : Slotted → Bool) → ((h : Slotted) → Back h → p (savedRecord h) ≡ q h)
-      → countBy p (records (savedFile (s .nextSlot) (savedRows s))) ≡ countBy q xs + countBy q ys
-  counted-saved p q k =
-      ap (λ (l : List Slotted). countBy p (records (savedFile (s .nextSlot) l))) (same-saved s W) ∙ ap (countBy p) (records-saved (s .nextSlot) hs backs)
-      ∙ counts-saved p q hs (all-imp k hs backs) ∙ count-merge q (λ (h : Slotted). h .slot) xs ys
-
-  pub carried-counted : carriedCount (savedFile (s .nextSlot) (savedRows s)) ≡ length (s .carried)
-  unfolding carriedHeld tombstoneHeld
-  carried-counted =
-      counted-saved isCarried ofCarried marked-saved
-      ∙ omega (
-        arith,
-        count-all ofCarried xs (all-map (carriedHeld (s .carriedCells)) (s .carried) (all-imp (λ r p. refl) (s .carried) (W .good .carried))),
-        length-map (s .carried) (carriedHeld (s .carriedCells)),
-        count-none ofCarried ys (all-map tombstoneHeld (s .tombstones) (all-imp (λ t p. refl) (s .tombstones) (W .good .tombstones))),
-      )
-
-  pub tombstones-counted : tombstoneCount (savedFile (s .nextSlot) (savedRows s)) ≡ length (s .tombstones)
-  unfolding carriedHeld tombstoneHeld
-  tombstones-counted =
-      counted-saved isTombstone ofTombstone marked-tomb
-      ∙ omega (
-        arith,
-        count-none ofTombstone xs (all-map (carriedHeld (s .carriedCells)) (s .carried) (all-imp (λ r p. refl) (s .carried) (W .good .carried))),
-        length-map (s .tombstones) tombstoneHeld,
-        count-all ofTombstone ys (all-map tombstoneHeld (s .tombstones) (all-imp (λ t p. refl) (s .tombstones) (W .good .tombstones))),
-      )
+    one : ofCarried h ≡ true → (k : Slotted) → Back k → counted true 13 (depositorIn (savedRecord h)) (savedRecord k) ≡ true
+        → (ofCarried k && eqb (depositorOf (k .held)) (depositorOf (h .held))) ≡ true
+    one c k K p =
+        let u = shares h B k K 13 8 (omega arith) c p in
+        let e : depositorOf (k .held) ≡ depositorOf (h .held) = sym (depositor-saved k K (u .0)) ∙ ap num (u .1) ∙ depositor-saved h B c in
+        ap₂ (λ (x y : Bool). x && y) (u .0) (eq-eqb (depositorOf (k .held)) (depositorOf (h .held)) e)

@@ -4,3 +4,5 @@ pub mod CallLaws
 pub mod OrderLaws
 pub mod SavedLaws
 pub mod FineLaws
+pub mod ReloadLaws
+pub mod RefusedLaws

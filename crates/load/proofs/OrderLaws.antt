@@ -26,9 +26,8 @@ use Rattle.rows.specs.declared.Contact.{Contact}
 use Rattle.rows.specs.declared.Carried.{Carried}
 use Rattle.rows.specs.declared.Tombstone.{Tombstone}
 use Rattle.model.specs.Basics.{matchSome}
-use Rattle.core.specs.declared.Refusal.{Refusal}
 use Rattle.model.specs.State.{State, apply}
-use Rattle.model.specs.Calls.{Result, refused, done, stepOf}
+use Rattle.model.specs.Calls.{Result, done}
 use Rattle.model.specs.Cells.{cellCount}
 use Rattle.history.specs.Order.{Sorted, empty, next, HeldOrder}
 use Rattle.history.proofs.SortedLaws.{sorted-insert, sorted-insertAt}
@@ -37,41 +36,52 @@ use Rattle.load_tests.specs.Tests.{strangeMark, refusedBlob, otherKind, slotPas
 use Rattle.load_tests.proofs.BlobLaws.{Decoded, decoded}
 use Rattle.load_tests.proofs.TestLaws.{left-no, right-no, fine-records, fine-none}
 use Rattle.load_tests.proofs.RecordLaws.{size-least}
-use Rattle.load_tests.specs.declared.Tested.{Tested}
 use Rattle.load_tests.specs.declared.Tested.the-variants as tested
 use Rattle.load.specs.Load.{insertBy, carriedSlot, tombstoneSlot, carriedRow, tombstoneRow, Rows, loadHeld, loadRecord, loadRecords, noRows, loaded, loadHeldRows, loadStep}
-use Rattle.load.proofs.CallLaws.{after, step-tested}
-use Rattle.load.proofs.LoadLaws.{some-kind, marked-carried, marked-tombstone, tombstone-alone, one}
+use Rattle.load.proofs.CallLaws.{load-cases, not-done}
+use Rattle.load.proofs.LoadLaws.{some-kind, marked-carried, marked-tombstone, tombstone-alone}
 
-abbrev slotOf : List ℕ → ℕ
+abbrev pub slotOf : List ℕ → ℕ
 slotOf b = num (slotIn b)
 
 -- ---- what the tests leave of the slots of a file
 
--- all that is used of a record that passed
-pub record Passed (limit : ℕ) (rs : List (List ℕ)) (b : List ℕ) : Type 0 where
+-- a record that passed
+pub record Passed (limit : ℕ) (cs : List Contact) (rs : List (List ℕ)) (b : List ℕ) : Type 0 where
   pub kinds : fails kindTests b ≡ false
   pub below : slotOf b < limit
   pub once : countBy (counted false 2 (slotIn b)) rs ≤ 1
+  pub depositor : unknownDepositor cs b ≡ false
+  pub tagOnce : tagTwice rs b ≡ false
+  pub few : manyOfOne rs b ≡ false
 
-pub passed : (limit : ℕ) (cs : List Contact) (rs : List (List ℕ)) (b : List ℕ) → fails (recordTests limit cs rs) b ≡ false → Passed limit rs b
+pub passed : (limit : ℕ) (cs : List Contact) (rs : List (List ℕ)) (b : List ℕ) → fails (recordTests limit cs rs) b ≡ false → Passed limit cs rs b
 unfolding fails any slotPast slotTwice
-passed limit cs rs b e = go (strangeMark b) (refusedBlob b) (otherKind b) (leb limit (slotOf b)) (ltb 1 (countBy (counted false 2 (slotIn b)) rs)) (unknownDepositor cs b || (tagTwice rs b || (manyOfOne rs b || false))) refl refl refl refl refl e
+passed limit cs rs b e =
+    go (strangeMark b) (refusedBlob b) (otherKind b) (leb limit (slotOf b)) (ltb 1 (countBy (counted false 2 (slotIn b)) rs)) (unknownDepositor cs b) (tagTwice rs b) (manyOfOne rs b)
+    refl refl refl refl refl refl refl refl e
   where
     ends : (u v w : Bool) → u ≡ false → v ≡ false → w ≡ false → (u || (v || (w || false))) ≡ false
     ends u v w p q r = λ j. p j || (q j || (r j || false))
 
-    go : (u v w x y z : Bool) → strangeMark b ≡ u → refusedBlob b ≡ v → otherKind b ≡ w → leb limit (slotOf b) ≡ x → ltb 1 (countBy (counted false 2 (slotIn b)) rs) ≡ y
-        → (u || (v || (w || (x || (y || z))))) ≡ false → Passed limit rs b
-    go u v w x y z eu ev ew ex ey f =
-        let f1 = right-no u (v || (w || (x || (y || z)))) f in
-        let f2 = right-no v (w || (x || (y || z))) f1 in
-        let f3 = right-no w (x || (y || z)) f2 in
-        let f4 = right-no x (y || z) f3 in
+    go : (u v w x y k t m : Bool) → strangeMark b ≡ u → refusedBlob b ≡ v → otherKind b ≡ w → leb limit (slotOf b) ≡ x → ltb 1 (countBy (counted false 2 (slotIn b)) rs) ≡ y
+        → unknownDepositor cs b ≡ k → tagTwice rs b ≡ t → manyOfOne rs b ≡ m
+        → (u || (v || (w || (x || (y || (k || (t || (m || false)))))))) ≡ false → Passed limit cs rs b
+    go u v w x y k t m eu ev ew ex ey ek et em f0 =
+        let f1 = right-no u (v || (w || (x || (y || (k || (t || (m || false))))))) f0 in
+        let f2 = right-no v (w || (x || (y || (k || (t || (m || false)))))) f1 in
+        let f3 = right-no w (x || (y || (k || (t || (m || false))))) f2 in
+        let f4 = right-no x (y || (k || (t || (m || false)))) f3 in
+        let f5 = right-no y (k || (t || (m || false))) f4 in
+        let f6 = right-no k (t || (m || false)) f5 in
+        let f7 = right-no t (m || false) f6 in
         record {
-          kinds = (λ j. eu j || (ev j || (ew j || false))) ∙ ends u v w (left-no u (v || (w || (x || (y || z)))) f) (left-no v (w || (x || (y || z))) f1) (left-no w (x || (y || z)) f2);
-          below = leb-false limit (slotOf b) (ex ∙ left-no x (y || z) f3);
-          once = ltb-false 1 (countBy (counted false 2 (slotIn b)) rs) (ey ∙ left-no y z f4);
+          kinds = (λ j. eu j || (ev j || (ew j || false))) ∙ ends u v w (left-no u _ f0) (left-no v _ f1) (left-no w _ f2);
+          below = leb-false limit (slotOf b) (ex ∙ left-no x _ f3);
+          once = ltb-false 1 (countBy (counted false 2 (slotIn b)) rs) (ey ∙ left-no y _ f4);
+          depositor = ek ∙ left-no k _ f5;
+          tagOnce = et ∙ left-no t _ f6;
+          few = em ∙ left-no m _ f7;
         }
 
 -- a slot that is counted once is no other record's
@@ -110,19 +120,41 @@ differ b c w v e q =
     sym (same-refl (part c 2 8)) ∙ ap₂ (λ (k : ℕ) (l : List ℕ). sameBytes (part c 2 k) l) (sym (length-part b 2 8 (omega (arith, w .1)))) (sym s) ∙ e in
     let z : _≡_ {A = ℕ} 0 1 = cc in omega arith
 
+-- each of some records is like itself, and at most one of all is like it: of two that follow each other the second is not like the first
+under : {A X : Type 0} {P : A → Type 0} (ds : List A) → (X → All P ds) → All (λ (d : A). X → P d) ds
+under [] f = lists.none
+under {A} {X} {P} (d ∷ ds) f = lists.more (λ q. head-of (f q)) (under ds (λ q. rest-of (f q)))
+  where
+    head-of : All P (d ∷ ds) → P d
+    head-of (lists.more p a) = p
+
+    rest-of : All P (d ∷ ds) → All P ds
+    rest-of (lists.more p a) = a
+
+pub counted-apart : (like : List ℕ → List ℕ → Bool) (Q : List ℕ → Type 0) (rs : List (List ℕ)) → All (λ (b : List ℕ). Q b → like b b ≡ true) rs
+    → All (λ (b : List ℕ). Q b → countBy (like b) rs ≤ 1) rs → Sorted (λ (a b : List ℕ). Q a → like a b ≡ false) rs
+unfolding countBy
+counted-apart like Q [] w c = empty
+counted-apart like Q (b ∷ rs) (lists.more v w) (lists.more h c) =
+    next (under rs (λ q. none-counted (like b) rs (omega (arith, own q, h q))))
+    (counted-apart like Q rs w (all-imp (λ d k q. omega (arith, k q, fewer (like d) b rs)) rs c))
+  where
+    own : Q b → countBy (like b) (b ∷ rs) ≡ suc (countBy (like b) rs)
+    own q = ap (λ (x : Bool). cond x (suc (countBy (like b) rs)) (countBy (like b) rs)) (v q)
+
+pub sorted-with : {A : Type 0} {W : A → Type 0} {R S : A → A → Type 0} → ((x y : A) → W x → W y → R x y → S x y) → (xs : List A) → All W xs → Sorted R xs → Sorted S xs
+sorted-with f [] w s = empty
+sorted-with {A} {W} {R} {S} f (x ∷ xs) (lists.more v w) (next a s) = next (each xs w a) (sorted-with f xs w s)
+  where
+    each : (ys : List A) → All W ys → All (R x) ys → All (S x) ys
+    each [] b c = lists.none
+    each (y ∷ ys) (lists.more u b) (lists.more r c) = lists.more (f x y v u r) (each ys b c)
+
 pub slots-differ : (rs : List (List ℕ)) → All Whole rs → All (λ (b : List ℕ). countBy (counted false 2 (slotIn b)) rs ≤ 1) rs
     → Sorted (λ (a b : List ℕ). slotOf a ≡ slotOf b → ⊥) rs
-unfolding countBy
-slots-differ [] w c = empty
-slots-differ (b ∷ rs) (lists.more v w) (lists.more h c) =
-    let f : countBy (counted false 2 (slotIn b)) (b ∷ rs) ≡ suc (countBy (counted false 2 (slotIn b)) rs) =
-    ap (λ (x : Bool). cond x (suc (countBy (counted false 2 (slotIn b)) rs)) (countBy (counted false 2 (slotIn b)) rs)) (has-own b v) in
-    next (away rs w (none-counted (counted false 2 (slotIn b)) rs (omega (arith, f, h))))
-    (slots-differ rs w (all-imp (λ d k. omega (arith, k, fewer (counted false 2 (slotIn d)) b rs)) rs c))
-  where
-    away : (ds : List (List ℕ)) → All Whole ds → All (λ (d : List ℕ). counted false 2 (slotIn b) d ≡ false) ds → All (λ (d : List ℕ). slotOf b ≡ slotOf d → ⊥) ds
-    away [] u k = lists.none
-    away (d ∷ ds) (lists.more x u) (lists.more e k) = lists.more (λ q. differ b d v x e q) (away ds u k)
+slots-differ rs w c =
+    sorted-with (λ a b v x e. differ a b v x (e tt)) rs w
+    (counted-apart (λ (b : List ℕ). counted false 2 (slotIn b)) (λ (b : List ℕ). Unit {0}) rs (all-imp (λ b v q. has-own b v) rs w) (all-imp (λ b k q. k) rs c))
 
 -- ---- the order so far
 
@@ -144,11 +176,11 @@ pub record Ordered (limit size total : ℕ) (l : Rows) (rs : List (List ℕ)) : 
   pub below : All (λ (b : List ℕ). slotOf b < limit) rs
 
 module _ {A : Type 0} (key : A → ℕ) where
-  length-by : (t : A) (ts : List A) → length (insertBy key t ts) ≡ length ts + 1
+  pub length-by : (t : A) (ts : List A) → length (insertBy key t ts) ≡ length ts + 1
   unfolding insertBy
   length-by t ts = length-insertAt ts (unwrapOr (length ts) (position (λ (r : A). ltb (key t) (key r)) ts)) t (position-le (λ (r : A). ltb (key t) (key r)) ts)
 
-  all-by : {P : A → Type 0} (t : A) (ts : List A) → P t → All P ts → All P (insertBy key t ts)
+  pub all-by : {P : A → Type 0} (t : A) (ts : List A) → P t → All P ts → All P (insertBy key t ts)
   unfolding insertBy
   all-by t ts p q = all-insertAt _ t ts q p
 
@@ -167,7 +199,7 @@ module _ {A : Type 0} (key : A → ℕ) where
           go true e = ltb-true x y e
           go false e = let k = ltb-false x y e in let q : x ≡ y = omega arith in absurd (ne q)
 
-  differ-by : (R : A → A → Type 0) (t : A) (ts : List A) → All (λ (r : A). R r t) ts → All (R t) ts → Sorted R ts → Sorted R (insertBy key t ts)
+  pub differ-by : (R : A → A → Type 0) (t : A) (ts : List A) → All (λ (r : A). R r t) ts → All (R t) ts → Sorted R ts → Sorted R (insertBy key t ts)
   unfolding insertBy
   differ-by R t ts a b s = sorted-insertAt _ t ts a b s
 
@@ -276,61 +308,65 @@ whole-in (suc n) b w = go (leb (recordSize b) (length b)) refl (whole-in n (drop
         lists.more (bytes-take (recordSize b) b w, omega (arith, length-take-le (recordSize b) b (leb-true (recordSize b) (length b) e), size-least b)) r
     go false e r = lists.none
 
-records-whole : (file : List ℕ) → Bytes file → All Whole (records file)
+pub records-whole : (file : List ℕ) → Bytes file → All Whole (records file)
 unfolding recordsAt
 records-whole file w = whole-in (length file - 10) (drop 10 file) (bytes-drop 10 file w)
 
--- what is loaded from a file that is fine is in order
-pub loaded-order : (cs : List Contact) (cells : List ℕ) (room : ℕ) (file : List ℕ) → Bytes file → tested.Fine ≡ testedAs (loadTests cs (length cells) room file)
-    → HeldOrder (loaded cells file .carried) (loaded cells file .tombstones) (nextIn file) (loaded cells file .cells)
-unfolding loaded cellCount countBy
-loaded-order cs cells room file w e =
-    let n = fine-none cs file (length cells) room e in
-    let c : carriedCount file ≤ min 256 (length cells / 2064) = ltb-false (cellCount (length cells)) (carriedCount file) (n .1 .0) in
-    let rs : List (List ℕ) = records file in
-    let v : All Whole rs = records-whole file w in
-    let p : All (Passed (nextIn file) rs) rs = all-imp (passed (nextIn file) cs rs) rs (any-none (fails (recordTests (nextIn file) cs rs)) rs (fine-records cs file (n .0))) in
-    let O : Ordered (nextIn file) (length cells) (carriedCount file) (loadRecords (noRows cells) rs) [] =
-    ordered-all (nextIn file) (length cells) (carriedCount file) (omega arith) (noRows cells) rs (record {
-      carriedRise = empty;
-      carriedBelow = lists.none;
-      tombstonesRise = empty;
-      tombstonesBelow = lists.none;
-      apart = lists.none;
-      cellsDiffer = empty;
-      inCells = lists.none;
-      sized = refl;
-      count = zero-add (carriedCount file);
-      freshCarried = all-imp (λ d k. lists.none) rs v;
-      freshTombstones = all-imp (λ d k. lists.none) rs v;
-      slots = slots-differ rs v (all-imp (λ d k. k .once) rs p);
-      kinds = all-imp (λ d k. k .kinds) rs p;
-      below = all-imp (λ d k. k .below) rs p;
-    }) in
-    record {
-      carriedRise = O .carriedRise;
-      carriedBelow = O .carriedBelow;
-      tombstonesRise = O .tombstonesRise;
-      tombstonesBelow = O .tombstonesBelow;
-      apart = O .apart;
-      cellsDiffer = O .cellsDiffer;
-      inCells = all-imp (λ r k. (omega (arith, k .0, O .count, c, O .sized), k .1)) (loadRecords (noRows cells) rs .carried) (O .inCells);
-    }
+module _ (cs : List Contact) (cells : List ℕ) (room : ℕ) (file : List ℕ) (e : tested.Fine ≡ testedAs (loadTests cs (length cells) room file)) where
+  pub fine-cells : carriedCount file ≤ cellCount (length cells)
+  fine-cells = ltb-false (cellCount (length cells)) (carriedCount file) (fine-none cs file (length cells) room e .1 .0)
+
+  pub fine-passed : All (Passed (nextIn file) cs (records file)) (records file)
+  fine-passed =
+      all-imp (passed (nextIn file) cs (records file)) (records file)
+      (any-none (fails (recordTests (nextIn file) cs (records file))) (records file) (fine-records cs file (fine-none cs file (length cells) room e .0)))
+
+  -- what is loaded from a file that is fine is in order
+  pub loaded-ordered : Bytes file → Ordered (nextIn file) (length cells) (carriedCount file) (loaded cells file) []
+  unfolding loaded cellCount
+  loaded-ordered w =
+      let rs : List (List ℕ) = records file in
+      let v : All Whole rs = records-whole file w in
+      let p : All (Passed (nextIn file) cs rs) rs = fine-passed in
+      let c : carriedCount file ≤ min 256 (length cells / 2064) = fine-cells in
+      ordered-all (nextIn file) (length cells) (carriedCount file) (omega arith) (noRows cells) rs (record {
+        carriedRise = empty;
+        carriedBelow = lists.none;
+        tombstonesRise = empty;
+        tombstonesBelow = lists.none;
+        apart = lists.none;
+        cellsDiffer = empty;
+        inCells = lists.none;
+        sized = refl;
+        count = zero-add (carriedCount file);
+        freshCarried = all-imp (λ d k. lists.none) rs v;
+        freshTombstones = all-imp (λ d k. lists.none) rs v;
+        slots = slots-differ rs v (all-imp (λ d k. k .once) rs p);
+        kinds = all-imp (λ d k. k .kinds) rs p;
+        below = all-imp (λ d k. k .below) rs p;
+      })
+
+  pub loaded-order : Bytes file → HeldOrder (loaded cells file .carried) (loaded cells file .tombstones) (nextIn file) (loaded cells file .cells)
+  unfolding countBy
+  loaded-order w =
+      let O = loaded-ordered w in
+      let size : cellCount (length (loaded cells file .cells)) ≡ cellCount (length cells) = ap cellCount (O .sized) in
+      record {
+        carriedRise = O .carriedRise;
+        carriedBelow = O .carriedBelow;
+        tombstonesRise = O .tombstonesRise;
+        tombstonesBelow = O .tombstonesBelow;
+        apart = O .apart;
+        cellsDiffer = O .cellsDiffer;
+        inCells = all-imp (λ r k. (omega (arith, k .0, O .count, fine-cells, size), k .1)) (loaded cells file .carried) (O .inCells);
+      }
 
 -- After a load that is not refused the tables of the state are in order, whatever they were.
 pub load-order : (s : State) (file : List ℕ) → Bytes file → loadStep s file .answer ≡ done
     → let t : State = apply s (loadStep s file .change) in HeldOrder (t .carried) (t .tombstones) (t .nextSlot) (t .carriedCells)
-unfolding loadStep loadHeldRows apply
-load-order s file w e = go (testedAs ts) refl (step-tested (loadHeldRows s file) ts)
+unfolding loadHeldRows apply
+load-order s file w =
+    load-cases s file Done (λ why e. absurd (not-done why e)) (λ f e. loaded-order (s .contacts) (s .carriedCells) (s .tombstoneRows) file f w)
   where
-    ts : List (Bool × Refusal)
-    ts = loadTests (s .contacts) (length (s .carriedCells)) (s .tombstoneRows) file
-
     Done : Result → Type 0
-    Done o = HeldOrder (apply s (o .change) .carried) (apply s (o .change) .tombstones) (apply s (o .change) .nextSlot) (apply s (o .change) .carriedCells)
-
-    go : (r : Tested) → testedAs ts ≡ r → stepOf ts (loadHeldRows s file) ≡ after (loadHeldRows s file) (testedAs ts) → Done (stepOf ts (loadHeldRows s file))
-    go (tested.Refused why) f q =
-        let k : refused why ≡ done = sym (ap (λ (o : Result). o .answer) (q ∙ ap (after (loadHeldRows s file)) f)) ∙ e in
-        let z : _≡_ {A = ℕ} 0 1 = cc in absurd (omega arith)
-    go tested.Fine f q = subst Done (sym (q ∙ ap (after (loadHeldRows s file)) f)) (loaded-order (s .contacts) (s .carriedCells) (s .tombstoneRows) file w (sym f))
+    Done o = o .answer ≡ done → HeldOrder (apply s (o .change) .carried) (apply s (o .change) .tombstones) (apply s (o .change) .nextSlot) (apply s (o .change) .carriedCells)

@@ -33,12 +33,9 @@ use Rattle.model.specs.Basics.{matchSome, merge}
 use Rattle.model.specs.Cells.{ciphertext, cellStart, cellLength, cellCount}
 use Rattle.model.specs.Saved.{Slotted, carriedHeld, tombstoneHeld, heldMark, savedRecord, savedFile, savedRows, saveHeld, heldRows}
 use Rattle.load_tests.specs.Records.{recordSize, recordsIn, recordsAt, records, slotIn}
-use Rattle.core.specs.declared.Refusal.{Refusal}
-use Rattle.model.specs.Calls.{Result, refused, done, stepOf}
-use Rattle.load_tests.specs.declared.Tested.{Tested}
-use Rattle.load_tests.specs.declared.Tested.the-variants as tested
-use Rattle.load.proofs.CallLaws.{after, step-tested}
-use Rattle.load_tests.specs.Tests.{nextIn, loadTests, testedAs}
+use Rattle.model.specs.Calls.{Result, done}
+use Rattle.load.proofs.CallLaws.{load-cases, not-done}
+use Rattle.load_tests.specs.Tests.{nextIn}
 use Rattle.load_tests.proofs.RecordLaws.{size-least}
 use Rattle.courier.specs.Courier.{carriedLength}
 use Rattle.state.proofs.RowLaws.{ProperTombstone as ProperHeldTombstone}
@@ -60,7 +57,11 @@ length-mark : (h : Held) → length (heldMark h) ≡ 2
 length-mark (held.carried r ct) = refl
 length-mark (held.tombstone t) = refl
 
-module _ (h : Slotted) (B : Back h) where
+-- the length of its blob fits two bytes
+abbrev pub Short : Slotted → Type 0
+Short h = length (heldRow (h .held)) < 65536
+
+module _ (h : Slotted) where
   abbrev row : List ℕ
   row = heldRow (h .held)
 
@@ -73,17 +74,17 @@ module _ (h : Slotted) (B : Back h) where
   length-front : length (head ++ be 2 (length row)) ≡ 12
   length-front = omega (arith, length-append head (be 2 (length row)), length-head, length-be 2 (length row))
 
-  length-saved : length (savedRecord h) ≡ 12 + length row
+  pub length-saved : length (savedRecord h) ≡ 12 + length row
   unfolding savedRecord
   length-saved = omega (arith, length-append (head ++ be 2 (length row)) row, length-front)
 
-  size-saved : (x : List ℕ) → recordSize (savedRecord h ++ x) ≡ length (savedRecord h)
+  size-saved : Short h → (x : List ℕ) → recordSize (savedRecord h ++ x) ≡ length (savedRecord h)
   unfolding recordSize savedRecord
-  size-saved x =
+  size-saved s x =
       let e : part (head ++ be 2 (length row) ++ row ++ x) 10 2 ≡ be 2 (length row) =
       part-left (head ++ be 2 (length row) ++ row) x 10 2 (omega (arith, length-saved))
       ∙ part-left (head ++ be 2 (length row)) row 10 2 (omega (arith, length-front)) ∙ part-hit head (be 2 (length row)) 10 2 length-head (length-be 2 (length row)) in
-      ap (λ (k : List ℕ). 12 + num k) e ∙ ap (λ (k : ℕ). 12 + k) (num-be 2 (length row) (omega (arith, B .short))) ∙ sym length-saved
+      ap (λ (k : List ℕ). 12 + num k) e ∙ ap (λ (k : ℕ). 12 + k) (num-be 2 (length row) (omega (arith, s))) ∙ sym length-saved
 
   -- what stands in it
   pub mark-saved : part (savedRecord h) 0 2 ≡ heldMark (h .held)
@@ -103,19 +104,19 @@ module _ (h : Slotted) (B : Back h) where
   blob-saved = drop-at (head ++ be 2 (length row)) row 12 length-front
 
   -- one record is one row
-  pub record-loaded : (l : Rows) → loadRecord l (savedRecord h) ≡ loadHeld l (h .slot) (h .held)
+  pub record-loaded : Back h → (l : Rows) → loadRecord l (savedRecord h) ≡ loadHeld l (h .slot) (h .held)
   unfolding loadRecord
-  record-loaded l =
+  record-loaded B l =
       ap₂ (λ (d : Option Held) (n : ℕ). matchSome d (λ (k : Held). loadHeld l n k) l) (ap heldDecode blob-saved ∙ B .read) (ap num slot-saved ∙ num-be 8 (h .slot) (B .slot))
 
 abbrev bytesOf : List Slotted → List ℕ
 bytesOf hs = join (map savedRecord hs)
 
-records-in : (n : ℕ) (hs : List Slotted) → All Back hs → length (bytesOf hs) ≤ n → recordsIn n (bytesOf hs) ≡ map savedRecord hs
+records-in : (n : ℕ) (hs : List Slotted) → All Short hs → length (bytesOf hs) ≤ n → recordsIn n (bytesOf hs) ≡ map savedRecord hs
 unfolding recordsIn join
 records-in zero [] a k = refl
 records-in (suc n) [] a k = ap (λ (t : Bool). cond t (take (recordSize []) [] ∷ recordsIn n (drop (recordSize []) [])) []) (lt-leb (recordSize []) 0 (omega (arith, size-least [])))
-records-in zero (h ∷ hs) (lists.more B a) k = absurd (omega (arith, length-append (savedRecord h) (bytesOf hs), length-saved h B))
+records-in zero (h ∷ hs) (lists.more B a) k = absurd (omega (arith, length-append (savedRecord h) (bytesOf hs), length-saved h))
 records-in (suc n) (h ∷ hs) (lists.more B a) k =
     let x : List ℕ = bytesOf hs in
     let b : List ℕ = savedRecord h ++ x in
@@ -124,9 +125,9 @@ records-in (suc n) (h ∷ hs) (lists.more B a) k =
     ap (λ (t : Bool). cond t (take (recordSize b) b ∷ recordsIn n (drop (recordSize b) b)) []) (le-leb (recordSize b) (length b) (omega arith))
     ∙ ap (λ (m : ℕ). take m b ∷ recordsIn n (drop m b)) z
     ∙ ap₂ (λ (p q : List ℕ). p ∷ recordsIn n q) (take-at (savedRecord h) x (length (savedRecord h)) refl) (drop-at (savedRecord h) x (length (savedRecord h)) refl)
-    ∙ ap (λ (r : List (List ℕ)). savedRecord h ∷ r) (records-in n hs a (omega (arith, length-saved h B)))
+    ∙ ap (λ (r : List (List ℕ)). savedRecord h ∷ r) (records-in n hs a (omega (arith, length-saved h)))
 
-pub records-saved : (slot : ℕ) (hs : List Slotted) → All Back hs → records (savedFile slot hs) ≡ map savedRecord hs
+pub records-saved : (slot : ℕ) (hs : List Slotted) → All Short hs → records (savedFile slot hs) ≡ map savedRecord hs
 unfolding recordsAt savedFile
 records-saved slot hs a =
     let head : List ℕ = (72 ∷ 78 ∷ []) ++ be 8 slot in
@@ -148,7 +149,7 @@ rows-loaded l (h ∷ hs) (lists.more B a) = ap (λ (k : Rows). loadRecords k (ma
 
 pub loaded-saved : (cells : List ℕ) (slot : ℕ) (hs : List Slotted) → All Back hs → loaded cells (savedFile slot hs) ≡ loadRows (noRows cells) hs
 unfolding loaded
-loaded-saved cells slot hs a = ap (loadRecords (noRows cells)) (records-saved slot hs a) ∙ rows-loaded (noRows cells) hs a
+loaded-saved cells slot hs a = ap (loadRecords (noRows cells)) (records-saved slot hs (all-imp (λ h B. B .short) hs a)) ∙ rows-loaded (noRows cells) hs a
 
 -- ---- rows that come by slot are put in at the end
 
@@ -355,7 +356,7 @@ module _ (p : Slotted → Bool) (key : Slotted → ℕ) where
 
 -- ---- the theorem
 
-sorted-map : {A B : Type 0} {R : A → A → Type 0} {S : B → B → Type 0} (f : A → B) → ((x y : A) → R x y → S (f x) (f y)) → (xs : List A) → Sorted R xs → Sorted S (map f xs)
+pub sorted-map : {A B : Type 0} {R : A → A → Type 0} {S : B → B → Type 0} (f : A → B) → ((x y : A) → R x y → S (f x) (f y)) → (xs : List A) → Sorted R xs → Sorted S (map f xs)
 sorted-map f k [] s = empty
 sorted-map f k (x ∷ xs) (next a s) = next (all-map f xs (all-imp (k x) xs a)) (sorted-map f k xs s)
 
@@ -370,22 +371,73 @@ all-merge {P} key (x ∷ xs) (y ∷ ys) (lists.more p a) (lists.more q b) =
     go true u v = lists.more p u
     go false u v = lists.more q v
 
+abbrev pub carriedRows : State → List Slotted
+carriedRows s = map (carriedHeld (s .carriedCells)) (s .carried)
+
+abbrev pub tombstoneRows : State → List Slotted
+tombstoneRows s = map tombstoneHeld (s .tombstones)
+
+abbrev slotted : Slotted → ℕ
+slotted h = h .slot
+
+-- with no more carried rows than cells every row is saved
+same-saved : (s : State) → length (s .carried) ≤ cellCount (length (s .carriedCells)) → savedRows s ≡ merge slotted (carriedRows s) (tombstoneRows s)
+unfolding savedRows
+same-saved s fits =
+    ap (λ (l : List Carried). merge slotted (map (carriedHeld (s .carriedCells)) l) (tombstoneRows s)) (take-all (cellCount (length (s .carriedCells))) (s .carried) fits)
+
+-- the rows of both kinds by slot, and the file and the records of them
+abbrev pub rowsOf : State → List Slotted
+rowsOf s = merge slotted (carriedRows s) (tombstoneRows s)
+
+abbrev pub fileOf : State → List ℕ
+fileOf s = savedFile (s .nextSlot) (savedRows s)
+
+module _ (s : State) (fits : length (s .carried) ≤ cellCount (length (s .carriedCells))) where
+  pub same-file : fileOf s ≡ savedFile (s .nextSlot) (rowsOf s)
+  same-file = ap (savedFile (s .nextSlot)) (same-saved s fits)
+
+  pub same-records : All Short (rowsOf s) → records (fileOf s) ≡ map savedRecord (rowsOf s)
+  same-records a = ap records same-file ∙ records-saved (s .nextSlot) (rowsOf s) a
+
+-- the fields of a row that are saved
+pub proper-held : (r : Carried) → ProperCarried r
+    → ProperHeld (record { depositor = r .depositor; header = record { tag = r .tag; c = r .c; «expiry_min» = r .«expiry_min»; copies = r .copies } })
+proper-held r p = record { depositor = p .depositor; header = record { tag = p .tag .size; c = p .c .size; expiry = p .«expiry_min»; copies = p .copies } }
+
+-- a row's blob is short
+pub carried-short : (cells : List ℕ) (r : Carried) → ProperCarried r → Short (carriedHeld cells r)
+unfolding carriedHeld
+carried-short cells r p =
+    let ct : List ℕ = ciphertext cells (r .cell) (r .len) in
+    let c : HeldCarried = record { depositor = r .depositor; header = record { tag = r .tag; c = r .c; «expiry_min» = r .«expiry_min»; copies = r .copies } } in
+    omega (arith, length-row c (proper-held r p) ct, length-take 2064 ct)
+
+proper-tomb : (t : Tombstone) → ProperTombstone t → ProperHeldTombstone (record { tag = t .tag; s = t .s; «expiry_min» = t .«expiry_min» })
+proper-tomb t p = record { tag = p .tag .size; s = p .s .size; expiry = p .«expiry_min» }
+
+pub tombstone-short : (t : Tombstone) → ProperTombstone t → Short (tombstoneHeld t)
+unfolding tombstoneHeld heldRow
+tombstone-short t p =
+    omega (
+      arith,
+      length-append ((1 ∷ []) ++ t .tag ++ t .s) (be 4 (t .«expiry_min»)),
+      length-append ((1 ∷ []) ++ t .tag) (t .s),
+      length-append (1 ∷ []) (t .tag),
+      p .tag .size,
+      p .s .size,
+      length-be 4 (t .«expiry_min»),
+    )
+
+tombstone-back-row : (t : Tombstone) → ProperTombstone t → Back (tombstoneHeld t)
+unfolding tombstoneHeld
+tombstone-back-row t p = record {
+  slot = p .slot;
+  short = tombstone-short t p;
+  read = tombstone-back (record { tag = t .tag; s = t .s; «expiry_min» = t .«expiry_min» }) (proper-tomb t p);
+}
+
 module _ (s : State) (W : Savable s) where
-  abbrev pub carriedRows : List Slotted
-  carriedRows = map (carriedHeld (s .carriedCells)) (s .carried)
-
-  abbrev pub tombstoneRows : List Slotted
-  tombstoneRows = map tombstoneHeld (s .tombstones)
-
-  abbrev slotted : Slotted → ℕ
-  slotted h = h .slot
-
-  pub same-saved : savedRows s ≡ merge slotted carriedRows tombstoneRows
-  unfolding savedRows
-  same-saved =
-      ap (λ (l : List Carried). merge slotted (map (carriedHeld (s .carriedCells)) l) tombstoneRows)
-      (take-all (cellCount (length (s .carriedCells))) (s .carried) (W .fits))
-
   -- a ciphertext has its row's length
   length-text : (r : Carried) → InCell (length (s .carriedCells)) (r .cell) (r .len) → length (ciphertext (s .carriedCells) (r .cell) (r .len)) ≡ r .len
   unfolding ciphertext cellStart cellLength cellCount
@@ -402,109 +454,81 @@ module _ (s : State) (W : Savable s) where
   carried-back-row r p h b =
       let ct : List ℕ = ciphertext (s .carriedCells) (r .cell) (r .len) in
       let c : HeldCarried = record { depositor = r .depositor; header = record { tag = r .tag; c = r .c; «expiry_min» = r .«expiry_min»; copies = r .copies } } in
-      let q : ProperHeld c = record { depositor = p .depositor; header = record { tag = p .tag .size; c = p .c .size; expiry = p .«expiry_min»; copies = p .copies } } in
       let l : length ct ≡ r .len = length-text r h in (
         record {
           slot = p .slot;
-          short = omega (arith, length-row c q ct, length-take 2064 ct);
-          read = carried-back c q ct (ap carriedLength l ∙ b .len) (b .copies) (b .expiry);
+          short = carried-short (s .carriedCells) r p;
+          read = carried-back c (proper-held r p) ct (ap carriedLength l ∙ b .len) (b .copies) (b .expiry);
         },
         omega (arith, l, h .1),
       )
 
-  tombstone-short : (c : HeldTombstone) → ProperHeldTombstone c → length (heldRow (held.tombstone c)) < 65536
-  unfolding heldRow
-  tombstone-short c q =
-      omega (arith, length-append ((1 ∷ []) ++ c .tag ++ c .s) (be 4 (c .«expiry_min»)), length-append ((1 ∷ []) ++ c .tag) (c .s), length-append (1 ∷ []) (c .tag), q .tag, q .s, length-be 4 (c .«expiry_min»))
-
-  tombstone-back-row : (t : Tombstone) → ProperTombstone t → Back (tombstoneHeld t)
-  unfolding tombstoneHeld
-  tombstone-back-row t p =
-      let c : HeldTombstone = record { tag = t .tag; s = t .s; «expiry_min» = t .«expiry_min» } in
-      let q : ProperHeldTombstone c = record { tag = p .tag .size; s = p .s .size; expiry = p .«expiry_min» } in
-      record { slot = p .slot; short = tombstone-short c q; read = tombstone-back c q }
-
-  all-carried : All (λ (h : Slotted). Back h × Fits (h .held)) carriedRows
-  all-carried = go (s .carried) (W .good .carried) (W .order .inCells) (W .back)
+  all-carried : All (λ (h : Slotted). Back h × Fits (h .held)) (carriedRows s)
+  all-carried = go (s .carried) (W .carried) (W .order .inCells) (W .back)
     where
       go : (rs : List Carried) → All ProperCarried rs → All (λ (r : Carried). InCell (length (s .carriedCells)) (r .cell) (r .len)) rs → All ReadBack rs
           → All (λ (h : Slotted). Back h × Fits (h .held)) (map (carriedHeld (s .carriedCells)) rs)
       go [] a b c = lists.none
       go (r ∷ rs) (lists.more p a) (lists.more h b) (lists.more k c) = lists.more (carried-back-row r p h k) (go rs a b c)
 
-  all-tombstones : All (λ (h : Slotted). Back h × Fits (h .held)) tombstoneRows
+  all-tombstones : All (λ (h : Slotted). Back h × Fits (h .held)) (tombstoneRows s)
   unfolding tombstoneHeld
-  all-tombstones = all-map tombstoneHeld (s .tombstones) (all-imp (λ t p. (tombstone-back-row t p, tt)) (s .tombstones) (W .good .tombstones))
+  all-tombstones = all-map tombstoneHeld (s .tombstones) (all-imp (λ t p. (tombstone-back-row t p, tt)) (s .tombstones) (W .tombstones))
 
-  pub all-rows : All (λ (h : Slotted). Back h × Fits (h .held)) (merge slotted carriedRows tombstoneRows)
-  all-rows = all-merge slotted carriedRows tombstoneRows all-carried all-tombstones
+  pub all-rows : All (λ (h : Slotted). Back h × Fits (h .held)) (rowsOf s)
+  all-rows = all-merge slotted (carriedRows s) (tombstoneRows s) all-carried all-tombstones
 
   -- the rows of each kind, in their order
-  carried-kept : filter ofCarried (merge slotted carriedRows tombstoneRows) ≡ carriedRows
+  carried-kept : filter ofCarried (rowsOf s) ≡ carriedRows s
   unfolding carriedHeld tombstoneHeld
   carried-kept =
-      merged-first ofCarried slotted carriedRows tombstoneRows (all-map (carriedHeld (s .carriedCells)) (s .carried) (all-imp (λ r p. refl) (s .carried) (W .good .carried)))
-      (all-map tombstoneHeld (s .tombstones) (all-imp (λ t p. refl) (s .tombstones) (W .good .tombstones)))
+      merged-first ofCarried slotted (carriedRows s) (tombstoneRows s) (all-map (carriedHeld (s .carriedCells)) (s .carried) (all-imp (λ r p. refl) (s .carried) (W .carried)))
+      (all-map tombstoneHeld (s .tombstones) (all-imp (λ t p. refl) (s .tombstones) (W .tombstones)))
 
-  tombstones-kept : filter ofTombstone (merge slotted carriedRows tombstoneRows) ≡ tombstoneRows
+  tombstones-kept : filter ofTombstone (rowsOf s) ≡ tombstoneRows s
   unfolding carriedHeld tombstoneHeld
   tombstones-kept =
-      merged-second ofTombstone slotted carriedRows tombstoneRows (all-map (carriedHeld (s .carriedCells)) (s .carried) (all-imp (λ r p. refl) (s .carried) (W .good .carried)))
-      (all-map tombstoneHeld (s .tombstones) (all-imp (λ t p. refl) (s .tombstones) (W .good .tombstones)))
+      merged-second ofTombstone slotted (carriedRows s) (tombstoneRows s) (all-map (carriedHeld (s .carriedCells)) (s .carried) (all-imp (λ r p. refl) (s .carried) (W .carried)))
+      (all-map tombstoneHeld (s .tombstones) (all-imp (λ t p. refl) (s .tombstones) (W .tombstones)))
 
-  carried-rise : Sorted Before carriedRows
+  carried-rise : Sorted Before (carriedRows s)
   unfolding carriedHeld
   carried-rise = sorted-map (carriedHeld (s .carriedCells)) (λ x y k. k) (s .carried) (W .order .carriedRise)
 
-  tombstones-rise : Sorted Before tombstoneRows
+  tombstones-rise : Sorted Before (tombstoneRows s)
   unfolding tombstoneHeld
   tombstones-rise = sorted-map tombstoneHeld (λ x y k. k) (s .tombstones) (W .order .tombstonesRise)
 
-  abbrev file : List ℕ
-  file = savedFile (s .nextSlot) (savedRows s)
-
-  pub next-saved : nextIn file ≡ s .nextSlot
+  pub next-saved : nextIn (fileOf s) ≡ s .nextSlot
   unfolding savedFile
   next-saved =
       ap num (part-left ((72 ∷ 78 ∷ []) ++ be 8 (s .nextSlot)) (bytesOf (savedRows s)) 2 8 (omega (arith, length-be 8 (s .nextSlot)))
-      ∙ part-hit (72 ∷ 78 ∷ []) (be 8 (s .nextSlot)) 2 8 refl (length-be 8 (s .nextSlot))) ∙ num-be 8 (s .nextSlot) (W .good .nextSlot)
+      ∙ part-hit (72 ∷ 78 ∷ []) (be 8 (s .nextSlot)) 2 8 refl (length-be 8 (s .nextSlot))) ∙ num-be 8 (s .nextSlot) (W .nextSlot)
 
   -- what is loaded from it has the rows that were saved
-  pub rows-saved : (cells : List ℕ) → length (s .carried) ≤ cellCount (length cells) → Kept (length cells) (loaded cells file) carriedRows tombstoneRows
+  pub rows-saved : (cells : List ℕ) → length (s .carried) ≤ cellCount (length cells) → Kept (length cells) (loaded cells (fileOf s)) (carriedRows s) (tombstoneRows s)
   unfolding cellCount
   rows-saved cells room =
-      let hs : List Slotted = merge slotted carriedRows tombstoneRows in
-      let e : loaded cells file ≡ loadRows (noRows cells) hs =
-      ap (λ (k : List Slotted). loaded cells (savedFile (s .nextSlot) k)) same-saved ∙ loaded-saved cells (s .nextSlot) hs (all-imp (λ h p. p .0) hs all-rows) in
+      let hs : List Slotted = rowsOf s in
+      let e : loaded cells (fileOf s) ≡ loadRows (noRows cells) hs =
+      ap (loaded cells) (same-file s (W .fits)) ∙ loaded-saved cells (s .nextSlot) hs (all-imp (λ h p. p .0) hs all-rows) in
       let n : length (filter ofCarried hs) ≡ length (s .carried) = ap length carried-kept ∙ length-map (s .carried) (carriedHeld (s .carriedCells)) in
       let k : length (s .carried) * 2064 ≤ length cells = omega (arith, room) in
       let K : Kept (length cells) (loadRows (noRows cells) hs) (filter ofCarried hs) (filter ofTombstone hs) =
       loads-kept (length cells) hs (noRows cells) [] [] (record { carried = refl; tombstones = refl; inCells = lists.none; sized = refl }) (all-imp (λ h p. p .1) hs all-rows)
       (omega (arith, k, ap (λ (j : ℕ). (0 + j) * 2064) n, zero-add (length (s .carried)), ap (λ (j : ℕ). j * 2064) (zero-add (length (s .carried)))))
       (subst (Sorted Before) (sym carried-kept) carried-rise) (subst (Sorted Before) (sym tombstones-kept) tombstones-rise) in
-      subst (λ (l : Rows). Kept (length cells) l carriedRows tombstoneRows) (sym e)
-      (subst (λ (x : List Slotted). Kept (length cells) (loadRows (noRows cells) hs) x tombstoneRows) carried-kept
+      subst (λ (l : Rows). Kept (length cells) l (carriedRows s) (tombstoneRows s)) (sym e)
+      (subst (λ (x : List Slotted). Kept (length cells) (loadRows (noRows cells) hs) x (tombstoneRows s)) carried-kept
       (subst (Kept (length cells) (loadRows (noRows cells) hs) (filter ofCarried hs)) tombstones-kept K))
 
 -- What a post saves and another, or the same, then loads, if that is not refused: the same held rows, with their ciphertexts, and next slot.
 pub saved-loaded : (s t : State) → Savable s → length (s .carried) ≤ cellCount (length (t .carriedCells)) → loadStep t (saveHeld s .bytes) .answer ≡ done
     → let u : State = apply t (loadStep t (saveHeld s .bytes) .change) in (heldRows u ≡ heldRows s) × (u .nextSlot ≡ s .nextSlot)
-unfolding loadStep loadHeldRows saveHeld apply heldRows
-saved-loaded s t w room e = go (testedAs ts) refl (step-tested (loadHeldRows t f) ts)
+unfolding loadHeldRows saveHeld apply heldRows
+saved-loaded s t w room =
+    load-cases t (fileOf s) Same (λ why e. absurd (not-done why e))
+    (λ f e. let K = rows-saved s w (t .carriedCells) room in (ap₂ (λ (x y : List Slotted). x ++ y) (K .carried) (K .tombstones), next-saved s w))
   where
-    f : List ℕ
-    f = savedFile (s .nextSlot) (savedRows s)
-
-    ts : List (Bool × Refusal)
-    ts = loadTests (t .contacts) (length (t .carriedCells)) (t .tombstoneRows) f
-
     Same : Result → Type 0
-    Same o = (heldRows (apply t (o .change)) ≡ heldRows s) × (apply t (o .change) .nextSlot ≡ s .nextSlot)
-
-    go : (r : Tested) → testedAs ts ≡ r → stepOf ts (loadHeldRows t f) ≡ after (loadHeldRows t f) (testedAs ts) → Same (stepOf ts (loadHeldRows t f))
-    go (tested.Refused why) g q =
-        let k : refused why ≡ done = sym (ap (λ (o : Result). o .answer) (q ∙ ap (after (loadHeldRows t f)) g)) ∙ e in
-        let z : _≡_ {A = ℕ} 0 1 = cc in absurd (omega arith)
-    go tested.Fine g q =
-        let K = rows-saved s w (t .carriedCells) room in
-        subst Same (sym (q ∙ ap (after (loadHeldRows t f)) g)) (ap₂ (λ (x y : List Slotted). x ++ y) (K .carried) (K .tombstones), next-saved s w)
+    Same o = o .answer ≡ done → (heldRows (apply t (o .change)) ≡ heldRows s) × (apply t (o .change) .nextSlot ≡ s .nextSlot)

@@ -1,4 +1,5 @@
--- A load: the records of the file, each put in by its slot, in place of all held rows and the next slot.
+-- A load: the records of the file, each put in by its slot, in place of all held rows and the next slot. The sentences between quotation
+-- marks are document 01's.
 -- Assumes nothing.
 use Prim.Native.Nat.{ℕ, _*_}
 use mathlib.Core.List.{List, [], _∷_}
@@ -67,6 +68,7 @@ loadHeld l slot (held.tombstone t) = record {
 unfoldable pub loadRecord : Rows → List ℕ → Rows
 loadRecord l b = matchSome (heldDecode (blobIn b)) (λ h. loadHeld l (num (slotIn b)) h) l
 
+-- "Rows may stand in any order": the tables are by slot all the same
 unfoldable pub loadRecords : Rows → List (List ℕ) → Rows
 loadRecords l [] = l
 loadRecords l (b ∷ bs) = loadRecords (loadRecord l b) bs
@@ -78,13 +80,13 @@ noRows cells = record { carried = []; tombstones = []; cells = cells }
 unfoldable pub loaded : List ℕ → List ℕ → Rows
 loaded cells file = loadRecords (noRows cells) (records file)
 
--- held rows and next slot are the file's; nothing else changes
+-- "A load replaces held rows and next slot, nothing else."
 abbrev pub heldNow : Rows → ℕ → Change
 heldNow l next = carriedNow (l .carried) and tombstonesNow (l .tombstones) and nextSlotNow next and carriedCellsNow (l .cells)
 
 unfoldable pub loadHeldRows : State → List ℕ → Result
 loadHeldRows s file = result done [] [] (heldNow (loaded (s .carriedCells) file) (nextIn file))
 
--- the load call
+-- the load call: number 8, then 4 and 5; "Nothing changes on a refusal."
 unfoldable pub loadStep : State → List ℕ → Result
 loadStep s file = stepOf (loadTests (s .contacts) (length (s .carriedCells)) (s .tombstoneRows) file) (loadHeldRows s file)

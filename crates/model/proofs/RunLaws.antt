@@ -200,11 +200,11 @@ module _ (p : PostAreas) (f : Fresh p) where
     session = (ap viewSession (f .lent) ∙ no-session) i;
   }
 
-  fresh-view : viewPost p ≡ freshPost p
+  pub fresh-view : viewPost p ≡ freshPost p
   unfolding viewPost
   fresh-view = λ i. record { state = fresh-state i; sessions = closed-views (p .sessions) (f .sessions) i }
 
-  fresh-good : Sized (p .areas) → p .areas .device .courier .copies < 2 ^ 8 → GoodPost p
+  pub fresh-good : Sized (p .areas) → p .areas .device .courier .copies < 2 ^ 8 → GoodPost p
   fresh-good s c = record {
     sized = s;
     good = subst Good (sym fresh-state) (record {

@@ -7,9 +7,9 @@ use mathlib.Core.Option.{none, some}
 use Prim.Native.Nat.{ℕ, suc, _+_, _-_, _^_, _≤_, _<_}
 use native.Mathlib.Omega.{arith}
 use lib.ListN.{length, getD, take, drop, length-append, length-drop, take-append-drop}
-use lib.Seq.{take-all, drop-at}
+use lib.Seq.{take-all, drop-at, drop-drop}
 use lib.Dec.{eqb, leb}
-use borrow.Author.Tests.{le-leb, leb-true, eqb-true, eq-eqb, ne-eqb}
+use borrow.Author.Tests.{le-leb, leb-true, eqb-true, eqb-false, eq-eqb, ne-eqb}
 use Rattle.octets.specs.Bytes.{Bytes, part, num, be}
 use Rattle.octets.proofs.Parts.{part-left, part-whole, part-add, length-part}
 use Rattle.octets.proofs.Numbers.{length-be, num-be}
@@ -22,10 +22,16 @@ use Rattle.courier.proofs.Laws.{both, carried-fits, valid-parts, valid-if}
 use Rattle.state.specs.declared.Carried.{Carried}
 use Rattle.state.specs.declared.Tombstone.{Tombstone}
 use Rattle.state.specs.declared.ArrayRead.{ArrayRead}
+use Rattle.state.specs.declared.ByteRead.{ByteRead}
 use Rattle.state.specs.declared.ByteRead.the-variants as byteRead
-use Rattle.state.specs.Reader.{byteAt, arrayAt, wholeArray, noArray}
-use Rattle.state.specs.Held.{Held, carried, tombstone, carriedHead, heldRow, carriedOf, carriedIn, tombstoneOf, tombstoneIn, heldDecode}
-use Rattle.state.proofs.ReaderLaws.{take-whole, byte-number, number-got}
+use Rattle.state.specs.declared.U32Read.{U32Read}
+use Rattle.state.specs.declared.U64Read.{U64Read}
+use Rattle.state.specs.declared.HeldKind.{HeldKind}
+use Rattle.state.specs.declared.HeldKind.the-variants as kind
+use Rattle.state.specs.declared.HeldRead.{HeldRead}
+use Rattle.state.specs.Reader.{byteAt, arrayAt, u32At, u64At, wholeArray, noArray}
+use Rattle.state.specs.Held.{Held, carried, tombstone, carriedHead, heldRow, carriedOf, carriedIn, tombstoneOf, tombstoneIn, kindOf, heldDecode, heldRead}
+use Rattle.state.proofs.ReaderLaws.{take-whole, byte-number, number-got, number-short, part-along, take-along, end-along}
 use Rattle.state.proofs.RowLaws.{ProperTombstone}
 
 -- ---- what `decode` finds
@@ -76,23 +82,111 @@ nothing (x ∷ b) h = absurd (omega arith)
 
 -- ---- the steps of `decode`
 
-pub kind-of : (b : List ℕ) (v : ℕ) → byteAt b 0 ≡ byteRead.Got v → getD b 0 0 ≡ v
-kind-of b v e = let g = number-got byte-number 1 b 0 v e in sym (num-one b 0 (omega (arith, g .0))) ∙ g .1
+pub first-byte : (b : List ℕ) (v : ℕ) → byteAt b 0 ≡ byteRead.Got v → getD b 0 0 ≡ v
+first-byte b v e = let g = number-got byte-number 1 b 0 v e in sym (num-one b 0 (omega (arith, g .0))) ∙ g .1
 
-module _ (b : List ℕ) (h : Header) (r : Bool) (eh : h ≡ headerOf (part b 9 37)) (er : r ≡ envelopeValid (length b - 46) (h .copies) (h .«expiry_min») 0) where
+-- a blob is its first byte and what is left of it
+parted : (b : List ℕ) (k : ℕ) → 1 ≤ length b → getD b 0 0 ≡ k → b ≡ k ∷ drop 1 b
+parted [] k h e = absurd (omega arith)
+parted (x ∷ b) k h e = ap (λ (y : ℕ). y ∷ b) e
+
+-- the kind that it says
+module _ (k : ℕ) where
+  pub first-0 : k ≡ 0 → kind.Carried ≡ kindOf (byteRead.Got k)
+  unfolding kindOf
+  first-0 e = rw (eq-eqb k 0 e)
+
+  pub first-1 : k ≡ 1 → kind.Tombstone ≡ kindOf (byteRead.Got k)
+  unfolding kindOf
+  first-1 e = rw e
+
+  pub first-other : (k ≡ 0 → ⊥) → (k ≡ 1 → ⊥) → kind.None ≡ kindOf (byteRead.Got k)
+  unfolding kindOf
+  first-other f g = rw (ne-eqb k 0 f, ne-eqb k 1 g)
+
+pub first-short : kind.None ≡ kindOf byteRead.Short
+unfolding kindOf
+first-short = refl
+
+-- by what the first byte says
+module _ (b : List ℕ) where
+  pub says-none : kindOf (byteAt b 0) ≡ kind.None → heldDecode b ≡ none
+  unfolding kindOf
+  says-none e = go (byteAt b 0) refl e
+    where
+      go : (r : ByteRead) → byteAt b 0 ≡ r → kindOf r ≡ kind.None → heldDecode b ≡ none
+      go byteRead.Short p q = nothing b (omega (arith, number-short byte-number 1 b 0 p))
+      go (byteRead.Got k) p q = by-k (eqb k 0) refl (eqb k 1) refl q
+        where
+          by-k : (y : Bool) → eqb k 0 ≡ y → (z : Bool) → eqb k 1 ≡ z → cond y kind.Carried (cond z kind.Tombstone kind.None) ≡ kind.None → heldDecode b ≡ none
+          by-k true ey z ez q = let w : _≡_ {A = ℕ} 0 1 = cc in absurd (omega arith)
+          by-k false ey true ez q = let w : _≡_ {A = ℕ} 0 1 = cc in absurd (omega arith)
+          by-k false ey false ez q =
+              kind-other b (λ g. eqb-false k 0 ey (sym (first-byte b k p) ∙ g)) (λ g. eqb-false k 1 ez (sym (first-byte b k p) ∙ g))
+
+  pub says-carried : kindOf (byteAt b 0) ≡ kind.Carried → heldDecode b ≡ carriedIn (0 ∷ drop 1 b)
+  unfolding kindOf
+  says-carried e = go (byteAt b 0) refl e
+    where
+      go : (r : ByteRead) → byteAt b 0 ≡ r → kindOf r ≡ kind.Carried → heldDecode b ≡ carriedIn (0 ∷ drop 1 b)
+      go byteRead.Short p q = let w : _≡_ {A = ℕ} 0 1 = cc in absurd (omega arith)
+      go (byteRead.Got k) p q = by-k (eqb k 0) refl (eqb k 1) q
+        where
+          by-k : (y : Bool) → eqb k 0 ≡ y → (z : Bool) → cond y kind.Carried (cond z kind.Tombstone kind.None) ≡ kind.Carried → heldDecode b ≡ carriedIn (0 ∷ drop 1 b)
+          by-k true ey z q =
+              let f : getD b 0 0 ≡ 0 = first-byte b k p ∙ eqb-true k 0 ey in
+              kind-0 b f ∙ ap carriedIn (parted b 0 (number-got byte-number 1 b 0 k p .0) f)
+          by-k false ey true q = let w : _≡_ {A = ℕ} 0 1 = cc in absurd (omega arith)
+          by-k false ey false q = let w : _≡_ {A = ℕ} 0 1 = cc in absurd (omega arith)
+
+  pub says-tombstone : kindOf (byteAt b 0) ≡ kind.Tombstone → heldDecode b ≡ tombstoneIn (1 ∷ drop 1 b)
+  unfolding kindOf
+  says-tombstone e = go (byteAt b 0) refl e
+    where
+      go : (r : ByteRead) → byteAt b 0 ≡ r → kindOf r ≡ kind.Tombstone → heldDecode b ≡ tombstoneIn (1 ∷ drop 1 b)
+      go byteRead.Short p q = let w : _≡_ {A = ℕ} 0 1 = cc in absurd (omega arith)
+      go (byteRead.Got k) p q = by-k (eqb k 0) (eqb k 1) refl q
+        where
+          by-k : (y : Bool) (z : Bool) → eqb k 1 ≡ z → cond y kind.Carried (cond z kind.Tombstone kind.None) ≡ kind.Tombstone → heldDecode b ≡ tombstoneIn (1 ∷ drop 1 b)
+          by-k true z ez q = let w : _≡_ {A = ℕ} 0 1 = cc in absurd (omega arith)
+          by-k false true ez q =
+              let f : getD b 0 0 ≡ 1 = first-byte b k p ∙ eqb-true k 1 ez in
+              kind-1 b f ∙ ap tombstoneIn (parted b 1 (number-got byte-number 1 b 0 k p .0) f)
+          by-k false false ez q = let w : _≡_ {A = ℕ} 0 1 = cc in absurd (omega arith)
+
+-- and so a reader of the blob b, at b₀ before its first byte and at b₁ past it, finds what `decode` is to answer, where what follows is as its kind k asks
+module _ (b b₀ b₁ : List ℕ) (e : b₀ ≡ b) (f : b₁ ≡ drop 1 b₀) (x : ByteRead) (k : HeldKind) (ex : x ≡ byteAt b₀ 0) (ek : k ≡ kindOf x) (r : HeldRead) where
+  told : kindOf (byteAt b 0) ≡ k
+  told = sym (ek ∙ ap kindOf (ex ∙ ap (λ (l : List ℕ). byteAt l 0) e))
+
+  pub none-decoded : k ≡ kind.None → r ≡ heldRead none → r ≡ heldRead (heldDecode b)
+  none-decoded p er = er ∙ ap heldRead (sym (says-none b (told ∙ p)))
+
+  pub carried-decoded : k ≡ kind.Carried → r ≡ heldRead (carriedIn (0 ∷ b₁)) → r ≡ heldRead (heldDecode b)
+  carried-decoded p er = er ∙ ap (λ (l : List ℕ). heldRead (carriedIn (0 ∷ l))) (f ∙ ap (drop 1) e) ∙ ap heldRead (sym (says-carried b (told ∙ p)))
+
+  pub tombstone-decoded : k ≡ kind.Tombstone → r ≡ heldRead (tombstoneIn (1 ∷ b₁)) → r ≡ heldRead (heldDecode b)
+  tombstone-decoded p er = er ∙ ap (λ (l : List ℕ). heldRead (tombstoneIn (1 ∷ l))) (f ∙ ap (drop 1) e) ∙ ap heldRead (sym (says-tombstone b (told ∙ p)))
+
+module _ (b env : List ℕ) (e : env ≡ drop 9 b) (h : Header) (r : Bool) (eh : h ≡ headerOf (part env 0 37)) (er : r ≡ envelopeValid (length env - 37) (h .copies) (h .«expiry_min») 0) where
+  same-header : h ≡ headerOf (part b 9 37)
+  same-header = eh ∙ ap headerOf (part-along b env 9 e 37)
+
   passed : passes b ≡ r
   unfolding carriedOf
-  passed = sym (er ∙ ap (λ (x : Header). envelopeValid (length b - 46) (x .copies) (x .«expiry_min») 0) eh)
+  passed =
+      let l : length env - 37 ≡ length b - 46 = omega (arith, ap length e ∙ length-drop 9 b) in
+      sym (er ∙ ap₂ (λ (n : ℕ) (x : Header). envelopeValid n (x .copies) (x .«expiry_min») 0) l same-header)
 
   pub carried-fails : r ≡ false → carriedIn b ≡ none
   carried-fails f = carried-none b (λ k v. let z : true ≡ false = sym v ∙ passed ∙ f in let w : _≡_ {A = ℕ} 0 1 = cc in omega arith)
 
-  pub carried-holds : (d : ℕ) → 46 ≤ length b → num (part b 1 8) ≡ d → r ≡ true
+  pub carried-holds : (d : ℕ) → 37 ≤ length env → num (part b 1 8) ≡ d → r ≡ true
       → some (carried (record { depositor = record { 0 = d }; header = h }) (drop 46 b)) ≡ carriedIn b
   unfolding carriedOf
   carried-holds d k ed t =
-      let q : record { depositor = record { 0 = d }; header = h } ≡ carriedOf b = λ i. record { depositor = record { 0 = sym ed i }; header = eh i } in
-      ap (λ (x : Carried). some (carried x (drop 46 b))) q ∙ sym (carried-some b k (passed ∙ t))
+      let q : record { depositor = record { 0 = d }; header = h } ≡ carriedOf b = λ i. record { depositor = record { 0 = sym ed i }; header = same-header i } in
+      ap (λ (x : Carried). some (carried x (drop 46 b))) q ∙ sym (carried-some b (omega (arith, ap length e ∙ length-drop 9 b)) (passed ∙ t))
 
 pub tombstone-holds : (b : List ℕ) (x y : ArrayRead) (v : ℕ) → length b ≡ 37 → x ≡ arrayAt b 1 → y ≡ arrayAt b 17 → num (part b 33 4) ≡ v
     → some (tombstone (record { tag = x .bytes; s = y .bytes; «expiry_min» = v })) ≡ tombstoneIn b
@@ -102,6 +196,22 @@ tombstone-holds b x y v l ex ey ev =
     let ey′ = ey ∙ sym (take-whole 16 b 17 wholeArray noArray (omega arith)) in
     let q : record { tag = x .bytes; s = y .bytes; «expiry_min» = v } ≡ tombstoneOf b = λ i. record { tag = ex′ i .bytes; s = ey′ i .bytes; «expiry_min» = sym ev i } in
     ap (λ (t : Tombstone). some (tombstone t)) q ∙ sym (tombstone-some b l)
+
+-- what a reader finds, step by step, after a carried row's kind is what stands at 1 and 9
+pub carried-along : (s s₁ : List ℕ) → s₁ ≡ drop 8 s → (x : U64Read) (r : HeldRead) → x ≡ u64At s 0
+    → ((b : List ℕ) → x ≡ u64At b 1 → s₁ ≡ drop 9 b → r ≡ heldRead (carriedIn b)) → r ≡ heldRead (carriedIn (0 ∷ s))
+carried-along s s₁ e₁ x r ex k = k (0 ∷ s) (ex ∙ take-along (0 ∷ s) s 1 refl 8 _ _ (omega arith)) e₁
+
+-- what a reader finds, step by step, after a tombstone's kind is what stands at 1, 17, 33 and 37
+pub tombstone-along : (s s₁ s₂ s₃ : List ℕ) → s₁ ≡ drop 16 s → s₂ ≡ drop 16 s₁ → s₃ ≡ drop 4 s₂ → (x y : ArrayRead) (u : U32Read) (f : Bool) (r : HeldRead)
+    → x ≡ arrayAt s 0 → y ≡ arrayAt s₁ 0 → u ≡ u32At s₂ 0 → f ≡ leb (length s₃) 0
+    → ((b : List ℕ) → x ≡ arrayAt b 1 → y ≡ arrayAt b 17 → u ≡ u32At b 33 → f ≡ leb (length b) 37 → r ≡ heldRead (tombstoneIn b))
+    → r ≡ heldRead (tombstoneIn (1 ∷ s))
+tombstone-along s s₁ s₂ s₃ e₁ e₂ e₃ x y u f r ex ey eu ef k =
+    let d₂ : s₂ ≡ drop 33 (1 ∷ s) = e₂ ∙ ap (drop 16) e₁ ∙ drop-drop 16 16 s in
+    let d₃ : s₃ ≡ drop 37 (1 ∷ s) = e₃ ∙ ap (drop 4) d₂ ∙ drop-drop 4 32 s in
+    k (1 ∷ s) (ex ∙ take-along (1 ∷ s) s 1 refl 16 _ _ (omega arith)) (ey ∙ take-along (1 ∷ s) s₁ 17 e₁ 16 _ _ (omega arith))
+    (eu ∙ take-along (1 ∷ s) s₂ 33 d₂ 4 _ _ (omega arith)) (ef ∙ end-along (1 ∷ s) s₃ 37 d₃)
 
 -- ---- written and read back
 

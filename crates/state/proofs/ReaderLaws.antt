@@ -1,11 +1,11 @@
--- Laws of the reader's steps: bytes that are there, and bytes that are not.
+-- Laws of the reader's steps: bytes that are there, bytes that are not, and what a reader finds that has gone along a blob.
 -- Assumes nothing.
-use mathlib.Core.Path.{_≡_, refl, sym}
+use mathlib.Core.Path.{_≡_, refl, sym, ap, ap₂, _∙_}
 use mathlib.Core.Bool.{Bool, true, false, cond}
 use mathlib.Core.List.{List}
-use Prim.Native.Nat.{ℕ, _+_, _≤_, _<_}
+use Prim.Native.Nat.{ℕ, _+_, _-_, _≤_, _<_}
 use native.Mathlib.Omega.{arith}
-use lib.ListN.{length}
+use lib.ListN.{length, take, drop, length-drop}
 use lib.Dec.{leb}
 use borrow.Author.Tests.{le-leb, lt-leb, leb-true, leb-false}
 use Rattle.octets.specs.Bytes.{part, num}
@@ -57,3 +57,32 @@ module _ {A : Type 0} {con : ℕ → A} {short : A} (k : Number con short) (n : 
       go : (b : Bool) → leb (at + n) (length s) ≡ b → answer b ≡ short → length s < at + n
       go true p q = absurd (k .apart (num (part s at n)) q)
       go false p q = leb-false (at + n) (length s) p
+
+-- ---- along a blob
+
+-- two tests that ask the same
+pub same-test : (a b c d : ℕ) → (a ≤ b → c ≤ d) → (b < a → d < c) → leb a b ≡ leb c d
+same-test a b c d f g = go (leb a b) refl
+  where
+    go : (t : Bool) → leb a b ≡ t → leb a b ≡ leb c d
+    go true p = p ∙ sym (le-leb c d (f (leb-true a b p)))
+    go false p = p ∙ sym (lt-leb c d (g (leb-false a b p)))
+
+module _ (b r : List ℕ) (k : ℕ) (e : r ≡ drop k b) where
+  left : length r ≡ length b - k
+  left = ap length e ∙ length-drop k b
+
+  pub part-along : (n : ℕ) → part r 0 n ≡ part b k n
+  unfolding part
+  part-along n = ap (λ (l : List ℕ). take n l) e
+
+  -- what a reader that has gone k bytes along takes next stands at k
+  pub take-along : {A : Type 0} (n : ℕ) (got : List ℕ → A) (short : A) → 1 ≤ n → takeAt n r 0 got short ≡ takeAt n b k got short
+  unfolding takeAt
+  take-along n got short h =
+      ap₂ (λ (t : Bool) (l : List ℕ). cond t (got l) short)
+      (same-test (0 + n) (length r) (k + n) (length b) (λ p. omega (arith, left)) (λ p. omega (arith, left))) (part-along n)
+
+  -- and it is at the end where the blob ends by k
+  pub end-along : leb (length r) 0 ≡ leb (length b) k
+  end-along = same-test (length r) 0 (length b) k (λ p. omega (arith, left)) (λ p. omega (arith, left))

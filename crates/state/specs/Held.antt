@@ -15,6 +15,9 @@ use Rattle.state.specs.declared.Carried.{Carried}
 use Rattle.state.specs.declared.Tombstone.{Tombstone}
 use Rattle.state.specs.declared.RowAnswer.{RowAnswer}
 use Rattle.state.specs.declared.RowAnswer.the-variants as rowAnswer
+use Rattle.state.specs.declared.ByteRead.{ByteRead}
+use Rattle.state.specs.declared.ByteRead.the-variants as byteRead
+use Rattle.state.specs.declared.HeldKind.{HeldKind}
 use Rattle.state.specs.declared.HeldKind.the-variants as kind
 use Rattle.state.specs.declared.HeldRead.{HeldRead}
 
@@ -64,6 +67,11 @@ tombstoneOf b = record { tag = part b 1 16; s = part b 17 16; «expiry_min» = n
 
 unfoldable pub tombstoneIn : List ℕ → Option Held
 tombstoneIn b = cond (eqb (length b) 37) (some (tombstone (tombstoneOf b))) none
+
+-- the kind that a first byte says: 0 carried, 1 a tombstone
+unfoldable pub kindOf : ByteRead → HeldKind
+kindOf (byteRead.Got k) = cond (eqb k 0) kind.Carried (cond (eqb k 1) kind.Tombstone kind.None)
+kindOf byteRead.Short = kind.None
 
 -- `Held::decode`, by the kind byte. (An empty blob has none; it is too short for either kind.)
 unfoldable pub heldDecode : List ℕ → Option Held

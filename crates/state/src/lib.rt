@@ -1,12 +1,12 @@
 // state.rs: the courier configuration, and held rows as blobs, written and read.
 ghost use mathlib.Core.Path.{_≡_};
-ghost use mathlib.Core.List.{List};
+ghost use mathlib.Core.List.{List, _∷_};
 ghost use mathlib.Core.Option.{none, some};
 ghost use Prim.Native.Nat.{ℕ, min};
-ghost use lib.ListN.{length};
+ghost use lib.ListN.{length, drop};
 ghost use lib.Dec.{leb};
 ghost use Rattle.state.specs.Config.{IsConfigured, configDefault};
-ghost use Rattle.state.specs.Held.{carried, tombstone, noCarried, noTombstone, carriedHead, heldRow, RowWritten, carriedIn, tombstoneIn, heldDecode, heldRead};
+ghost use Rattle.state.specs.Held.{carried, tombstone, noCarried, noTombstone, carriedHead, heldRow, RowWritten, carriedIn, tombstoneIn, kindOf, heldDecode, heldRead};
 ghost use Rattle.state.specs.Reader.{byteAt, arrayAt, u32At, u64At};
 use core::ContactId;
 use core::Refusal;
@@ -154,7 +154,7 @@ pub fn tombstone_row(t: Tombstone, blob: &mut [u8]) -> RowAnswer
     RowAnswer::Written(37)
 }
 
-// ---- what stands at a position of a blob: the steps of state.rs's `Reader`
+// ---- what stands at a position of a blob
 
 pub enum ByteRead {
     Got(u8),
@@ -222,6 +222,71 @@ pub fn end_at(s: &[u8], at: usize) -> bool
     ensures { λ r. ⌜ r ≡ leb (length (now (s .entry))) at ⌝ }
 {
     s.len() <= at
+}
+
+// What is left of a slice after n bytes; nothing where there are fewer.
+fn after(s: &[u8], n: usize) -> &[u8]
+    ensures { λ r. ⌜ now r ≡ drop n (now (s .entry)) ⌝ }
+{
+    if s.len() < n {
+        return &s[..0];
+    }
+    &s[n..s.len()]
+}
+
+// ---- the reader
+
+// state.rs's `Reader`: it refers to as much of a blob as is left to read. Each step says what stands next; `past` goes on.
+struct Reader<'a> {
+    rest: &'a [u8],
+}
+
+impl<'a> Reader<'a> {
+    fn new(blob: &'a [u8]) -> Reader<'a>
+        ensures { λ r. ⌜ now (r .rest) ≡ now (blob .entry) ⌝ }
+    {
+        Reader { rest: blob }
+    }
+
+    // n bytes further, or at the end where fewer are left.
+    fn past(self, n: usize) -> Reader<'a>
+        ensures { λ r. ⌜ now (r .rest) ≡ drop n (now (self .entry .rest)) ⌝ }
+    {
+        Reader {
+            rest: after(self.rest, n),
+        }
+    }
+
+    fn byte(self) -> ByteRead
+        ensures { λ r. ⌜ r ≡ byteAt (now (self .entry .rest)) 0 ⌝ }
+    {
+        byte_at(self.rest, 0)
+    }
+
+    fn array(self) -> ArrayRead
+        ensures { λ r. ⌜ r ≡ arrayAt (now (self .entry .rest)) 0 ⌝ }
+    {
+        array_at(self.rest, 0)
+    }
+
+    fn u32(self) -> U32Read
+        ensures { λ r. ⌜ r ≡ u32At (now (self .entry .rest)) 0 ⌝ }
+    {
+        u32_at(self.rest, 0)
+    }
+
+    fn u64(self) -> U64Read
+        ensures { λ r. ⌜ r ≡ u64At (now (self .entry .rest)) 0 ⌝ }
+    {
+        u64_at(self.rest, 0)
+    }
+
+    // Is nothing left?
+    fn end(self) -> bool
+        ensures { λ r. ⌜ r ≡ leb (length (now (self .entry .rest))) 0 ⌝ }
+    {
+        end_at(self.rest, 0)
+    }
 }
 
 // ---- a row, read
@@ -295,20 +360,36 @@ fn read_tombstone(row: Tombstone) -> HeldRead
     }
 }
 
-// What follows the kind of a carried row.
-fn decode_carried(blob: &[u8]) -> HeldRead
-    ensures { λ r. ⌜ r ≡ heldRead (carriedIn (now (blob .entry))) ⌝ }
+// The kind of row that a first byte says.
+fn kind_of(first: ByteRead) -> HeldKind
+    ensures { λ r. ⌜ r ≡ kindOf first ⌝ }
 {
-    let U64Read::Got(depositor) = u64_at(blob, 1) else {
+    let ByteRead::Got(kind) = first else {
+        return HeldKind::None;
+    };
+    if kind == 0 {
+        return HeldKind::Carried;
+    }
+    if kind == 1 {
+        return HeldKind::Tombstone;
+    }
+    HeldKind::None
+}
+
+// A carried row of what was read of its depositor, and of the bytes after that, which are an envelope.
+fn carried_of(depositor: U64Read, envelope: &[u8]) -> HeldRead
+    ensures { λ r. ⌜ ((b : List ℕ) → depositor ≡ u64At b 1 → now (envelope .entry) ≡ drop 9 b → r ≡ heldRead (carriedIn b)) ⌝ }
+{
+    let U64Read::Got(depositor) = depositor else {
         return no_row();
     };
-    let envelope = courier::decode(blob, 9);
-    if !envelope.whole {
+    let read = courier::decode(envelope, 0);
+    if !read.whole {
         return no_row();
     }
-    let header = envelope.header;
+    let header = read.header;
     if !courier::valid(
-        blob.len() - CARRIED_HEAD,
+        envelope.len() - courier::ENVELOPE_HEADER,
         header.copies,
         header.expiry_min,
         0,
@@ -321,16 +402,14 @@ fn decode_carried(blob: &[u8]) -> HeldRead
     })
 }
 
-// What follows the kind of a tombstone. The tag and the secret are whole where the expiry is.
-fn decode_tombstone(blob: &[u8]) -> HeldRead
-    ensures { λ r. ⌜ r ≡ heldRead (tombstoneIn (now (blob .entry))) ⌝ }
+// A tombstone of what was read of it, and of whether nothing is left. The tag and the secret are whole where the expiry is.
+fn tombstone_of(tag: ArrayRead, s: ArrayRead, expiry: U32Read, end: bool) -> HeldRead
+    ensures { λ r. ⌜ ((b : List ℕ) → tag ≡ arrayAt b 1 → s ≡ arrayAt b 17 → expiry ≡ u32At b 33 → end ≡ leb (length b) 37 → r ≡ heldRead (tombstoneIn b)) ⌝ }
 {
-    let tag = array_at(blob, 1);
-    let s = array_at(blob, 17);
-    let U32Read::Got(expiry_min) = u32_at(blob, 33) else {
+    let U32Read::Got(expiry_min) = expiry else {
         return no_row();
     };
-    if !end_at(blob, 37) {
+    if !end {
         return no_row();
     }
     let tag = tag.bytes;
@@ -338,18 +417,38 @@ fn decode_tombstone(blob: &[u8]) -> HeldRead
     read_tombstone(Tombstone { tag, s, expiry_min })
 }
 
-// `Held::decode`.
+// What follows the kind of a carried row.
+fn decode_carried<'a>(r: Reader<'a>) -> HeldRead
+    ensures { λ x. ⌜ x ≡ heldRead (carriedIn (0 ∷ now (r .entry .rest))) ⌝ }
+{
+    let depositor = r.u64();
+    let r = r.past(8);
+    carried_of(depositor, r.rest)
+}
+
+// What follows the kind of a tombstone.
+fn decode_tombstone<'a>(r: Reader<'a>) -> HeldRead
+    ensures { λ x. ⌜ x ≡ heldRead (tombstoneIn (1 ∷ now (r .entry .rest))) ⌝ }
+{
+    let tag = r.array();
+    let r = r.past(16);
+    let s = r.array();
+    let r = r.past(16);
+    let expiry = r.u32();
+    let r = r.past(4);
+    tombstone_of(tag, s, expiry, r.end())
+}
+
+// `Held::decode`, through a reader. Its own parameter is a plain slice, so that no caller has to hold a reader.
 pub fn decode(blob: &[u8]) -> HeldRead
     ensures { λ r. ⌜ r ≡ heldRead (heldDecode (now (blob .entry))) ⌝ }
 {
-    let ByteRead::Got(kind) = byte_at(blob, 0) else {
-        return no_row();
-    };
-    if kind == 0 {
-        return decode_carried(blob);
+    let r = Reader::new(blob);
+    let kind = kind_of(r.byte());
+    let r = r.past(1);
+    match kind {
+        HeldKind::None => no_row(),
+        HeldKind::Carried => decode_carried(r),
+        HeldKind::Tombstone => decode_tombstone(r),
     }
-    if kind == 1 {
-        return decode_tombstone(blob);
-    }
-    no_row()
 }

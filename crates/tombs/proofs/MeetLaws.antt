@@ -31,7 +31,7 @@ use Rattle.model.specs.Tombs as model
 use Rattle.model.specs.Tombs.{meets}
 use Rattle.tombs.specs.declared.Met.{Met}
 use Rattle.tombs.specs.declared.Met.the-variants as met
-use Rattle.tombs.specs.Reports.{Inside, Meets, higher}
+use Rattle.tombs.specs.Tombs.{Inside, Meets, higher}
 
 -- ---- the row that is found is in its table, and its bytes in the area
 

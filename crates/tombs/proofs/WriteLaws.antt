@@ -34,7 +34,7 @@ use Rattle.tombstones.specs.Tombstones.{Reads, howToStore, Stores, StoredAs}
 use Rattle.tombstones.proofs.StoreLaws.{length-action}
 use Rattle.tombstones.proofs.CallLaws.{with-actions}
 use Rattle.tombs.specs.declared.Said.the-variants as said
-use Rattle.tombs.specs.Reports.{higher, deviceWith, says, heldLent, ownLent}
+use Rattle.tombs.specs.Tombs.{higher, deviceWith, says, heldLent, ownLent}
 
 -- a tombstone among others by its slot
 pub by-slot : (count n : ℕ) (a x : List ℕ) (m i : ℕ) (b : List ℕ) (t : Tombstone) → n ≡ held (length a) 44 count → ProperTombstone t → b ≡ tombstoneBytes t

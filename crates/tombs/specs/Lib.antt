@@ -1,1 +1,1 @@
-pub mod Reports
+pub mod Tombs

@@ -6,6 +6,7 @@ mod drill;
 #[cfg(feature = "library")]
 mod garbage;
 mod generate;
+mod sample;
 #[cfg(feature = "library")]
 mod spoiled;
 mod tally;
@@ -21,6 +22,7 @@ const USAGE: &str =
        oracle spoiled               bytes that the library refuses, and the library with one thing wrong
        oracle drill                 a drill log on standard input
        oracle log SEED RECORDS      a random drill log
+       oracle sample SEEDS CALLS    random calls with their answers, for crates/replay
        oracle corners               document 01's corners, put to the source one by one
        oracle vectors               hashes of many inputs, for an independent implementation
        oracle variants [LISTS]      the wrong variants of the second statement";
@@ -85,6 +87,7 @@ fn main() -> ExitCode {
         Some((command, [])) if command == "drill" => drill_from_input(),
         Some((command, rest)) if command == "log" => print_log(rest),
         Some((command, rest)) if command == "variants" => print_variants(rest),
+        Some((command, rest)) if command == "sample" => sample::main(rest).unwrap_or_else(usage),
         Some((command, [])) if command == "corners" => run_corners(),
         #[cfg(feature = "library")]
         Some((command, rest)) if command == "garbage" => garbage::main(rest).unwrap_or_else(usage),

@@ -1,3 +1,4 @@
+-- The lines that are written are the front of the area. Assumes nothing.
 use lib.Seq.{length-take-le}
 use mathlib.Core.Path.{sym}
 use borrow.Author.Needs.{needs}

@@ -1,3 +1,4 @@
+-- Between two turns the program stands as it does at the start. Assumes nothing.
 use native.Mathlib.Omega.{arith}
 use borrow.Author.Needs.{needs}
 use Rattle.drill.specs.Turn.{Steady}

@@ -1,3 +1,4 @@
+-- The bytes are moved within the buffer. Assumes nothing.
 use native.Mathlib.Omega.{arith}
 use borrow.Author.Needs.{needs}
 use lib.ListN.{length, length-set}

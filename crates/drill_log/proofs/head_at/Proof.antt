@@ -1,3 +1,4 @@
+-- The head of the part that is lent. Assumes nothing.
 use Rattle.octets.specs.Bytes.{part}
 use borrow.Author.Needs.{needs}
 use Rattle.drill_log.proofs.head_at.Statement.{statement}

@@ -1,7 +1,8 @@
+-- The number of the refusal is compared with 13. Assumes nothing.
 use mathlib.Core.Path.{sym, ap, _∙_}
 use Prim.Native.Nat.{ℕ}
 use lib.Dec.{eqb}
-use Rattle.drill_log.specs.Lines.{stopsAt}
+use Rattle.drill_lines.specs.Lines.{stopsAt}
 use borrow.Author.Needs.{needs}
 use Rattle.drill_log.proofs.stops.Statement.{statement}
 use Rattle.drill_log.proofs.stops.Tie as tie

@@ -8,7 +8,7 @@ use borrow.Author.Tests.{lt-ltb, le-ltb}
 use Rattle.table.specs.Lists.{positionFrom, position, unwrapOr}
 use Rattle.table.specs.Codec.{tableOf}
 use Rattle.rows.specs.Rows.{tombstoneCodec}
-use Rattle.tombs.specs.Reports.{higher}
+use Rattle.tombs.specs.Tombs.{higher}
 use Rattle.tombs.proofs.MeetLaws.{slot-next, slot-end}
 use Rattle.tombs.proofs.place_by_slot.Statement.{statement}
 use Rattle.tombs.proofs.place_by_slot.Tie as tie

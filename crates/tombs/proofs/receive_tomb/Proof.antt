@@ -4,7 +4,7 @@ use native.Mathlib.Omega.{arith}
 use lib.ListN.{length}
 use borrow.Author.Tests.{not-true, not-false}
 use Rattle.tombstones.proofs.ChoiceLaws.{rows-listed}
-use Rattle.tombs.specs.Reports.{metOf}
+use Rattle.tombs.specs.Tombs.{metOf}
 use Rattle.tombs.proofs.MeetLaws.{inside-carried, inside-own}
 use Rattle.tombs.proofs.CallLaws.{tomb-short, tomb-stranger, tomb-turned, tomb-ended, tomb-wrong, tomb-unknown}
 use borrow.Author.Needs.{needs}

@@ -1,8 +1,9 @@
 //! Random drill logs, by seed.
 
+use super::pool::secret_of;
 use super::{Generator, Profile};
 use crate::drill::Drill;
-use post::{Call, Kind, Post, Sizes, Verification};
+use post::{Areas, Call, Envelope, Kind, Post, Sizes, Verification};
 use rules::Rules;
 
 /// A record as it stands in a log.
@@ -63,16 +64,47 @@ const KINDS: [Kind; 10] = [
     Kind::Setting,
 ];
 
+/// What logs go after. The last slots and own rows are out of a log's reach, and so are files and windows.
+const LOG_PROFILES: [Profile; 5] = [
+    Profile::Exchange,
+    Profile::Mixed,
+    Profile::Quota,
+    Profile::Tombs,
+    Profile::Contacts,
+];
+
 impl Generator {
     fn for_logs(seed: u64) -> Self {
-        let profile = if seed % 5 == 4 {
-            Profile::Contacts
-        } else {
-            Profile::Exchange
-        };
+        let profile = LOG_PROFILES[(seed % LOG_PROFILES.len() as u64) as usize];
         let mut generator = Self::new(seed, profile);
         generator.sizes = Sizes::DRILL;
+        if profile == Profile::Tombs {
+            generator.turn_many();
+        }
         generator
+    }
+
+    /// Envelopes that are taken and turned at once, until the tombstone rows are about used up.
+    fn turn_many(&mut self) {
+        let peer = self.pool.contacts[0];
+        for number in 0..self.rng.between(1_010, 1_024) as u32 {
+            let mut tag = [0x66; 16];
+            tag[..4].copy_from_slice(&number.to_be_bytes());
+            let (areas, secret) = (Areas::enough(&Sizes::DRILL), secret_of(&tag));
+            self.opening.push_back(Call::Envelope {
+                areas,
+                window: Vec::new().into(),
+                peer,
+                envelope: Envelope {
+                    tag,
+                    commitment: rules::commitment(&secret),
+                    expiry: u32::MAX,
+                    copies: 3,
+                    ciphertext: vec![0; 48].into(),
+                },
+            });
+            self.opening.push_back(Call::Tomb { areas, peer, tag, secret });
+        }
     }
 
     fn log_kind(&mut self) -> Kind {

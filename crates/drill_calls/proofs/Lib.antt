@@ -1,0 +1,4 @@
+pub mod AreaLaws
+pub mod StepLaws
+pub mod AskLaws
+pub mod DrillLaws

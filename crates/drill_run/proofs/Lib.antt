@@ -1,0 +1,4 @@
+pub mod LogLaws
+pub mod RecordLaws
+pub mod AnswerLaws
+pub mod RunLaws

@@ -1,0 +1,3 @@
+pub mod LeaveLaws
+pub mod FreshLaws
+pub mod Passed

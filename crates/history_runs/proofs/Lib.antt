@@ -1,0 +1,3 @@
+-- Runs on fresh areas, computed.
+pub mod Runs
+pub mod VerifiedRuns

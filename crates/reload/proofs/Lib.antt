@@ -1,0 +1,5 @@
+pub mod LengthLaws
+pub mod LoadedLaws
+pub mod KeepLaws
+pub mod DoingLaws
+pub mod AreaLaws

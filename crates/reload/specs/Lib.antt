@@ -1,0 +1,2 @@
+pub mod Doings
+pub mod SavedHistory
