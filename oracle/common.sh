@@ -33,18 +33,25 @@ build() {
   cargo build --release --offline --locked --quiet --manifest-path "$oracle/Cargo.toml" --target-dir "$oracle/target" "$@"
 }
 
-# Builds the program with the library linked in. The library is proved and built first, unless nothing under crates/ is newer than it.
-build_with_library() {
-  local root
+# Proves and builds the library, unless nothing under crates/ is newer than it. One that GOOSETABLE_LIB names is taken as it is.
+build_library() {
+  local root library
   root=$(cd "$oracle/.." && pwd)
-  export EXPORTS="$root/target/staticlib"
-  local library="$EXPORTS/libexports.a"
-  if [ ! -f "$library" ] || [ -n "$(find "$root/crates" "$root/crates.txt" -newer "$library" -print -quit)" ]; then
+  library="$root/target/staticlib/libgoosetable.a"
+  if [ -n "${GOOSETABLE_LIB:-}" ]; then
+    echo "oracle: the library is $GOOSETABLE_LIB/libgoosetable.a" >&2
+  elif [ ! -f "$library" ] || [ -n "$(find "$root/crates" "$root/crates.txt" -newer "$library" -print -quit)" ]; then
     mkdir -p "$oracle/target"
-    if ! (cd "$root" && rt staticlib exports >"$oracle/target/staticlib.log" 2>&1); then
-      echo "oracle: rt staticlib exports failed; oracle/target/staticlib.log has what it said" >&2
-      exit 1
-    fi
+    (cd "$root" && rt staticlib goosetable >"$oracle/target/staticlib.log" 2>&1)
   fi
+}
+
+no_library() {
+  echo "oracle: rt staticlib goosetable failed; oracle/target/staticlib.log has what it said" >&2
+  exit 1
+}
+
+build_with_library() {
+  build_library || no_library
   build --features library
 }

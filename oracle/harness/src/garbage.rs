@@ -1,11 +1,14 @@
 //! The library on areas that no call left: garbage in every field. The third statement says what must come out.
 
 use crate::generate::{Generator, Profile, Rng};
-use lent::{Areas, BadTag, Carried, ContactRow, Offer, Own, Row, Tombstone, decoded, performed};
-use library::{CALLS, Library};
+use lent::{
+    Areas, BadTag, Carried, ContactRow, Device, Exchange, Offer, Own, Row, Tombstone, decoded, performed, put_number,
+};
+use library::Library;
+use post::Kind;
 use std::process::ExitCode;
 
-const COUNTS: [usize; 14] = [
+const COUNTS: [u64; 14] = [
     0,
     1,
     2,
@@ -17,9 +20,9 @@ const COUNTS: [usize; 14] = [
     513,
     1_024,
     1 << 32,
-    usize::MAX / 57 + 1,
-    usize::MAX - 1,
-    usize::MAX,
+    u64::MAX / 57 + 1,
+    u64::MAX - 1,
+    u64::MAX,
 ];
 const CELLS: [u16; 8] = [0, 1, 2, 255, 256, 257, 65_280, 65_535];
 const LENGTHS: [u16; 9] = [0, 1, 47, 48, 2_063, 2_064, 2_065, 4_128, 65_535];
@@ -49,7 +52,7 @@ fn tag(areas: &Areas, rng: &mut Rng) -> [u8; 16] {
 }
 
 fn contact(areas: &Areas, rng: &mut Rng) -> u64 {
-    let ids: Vec<u64> = lent::table(&areas.contacts, areas.device.contacts)
+    let ids: Vec<u64> = lent::table(&areas.contacts, Device::read(&areas.device).contacts)
         .iter()
         .map(|row: &ContactRow| row.id)
         .collect();
@@ -60,26 +63,36 @@ fn contact(areas: &Areas, rng: &mut Rng) -> u64 {
     }
 }
 
+/// Off by a third; else any byte.
+fn flag(rng: &mut Rng) -> u8 {
+    if rng.percent(33) { 0 } else { rng.next() as u8 }
+}
+
+fn spoil_byte(area: &mut [u8], rng: &mut Rng) {
+    area[rng.below(area.len())] = rng.next() as u8;
+}
+
 fn spoil_counts(areas: &mut Areas, rng: &mut Rng) {
-    let count = rng.pick(&COUNTS);
-    let device = &mut areas.device;
-    match rng.below(5) {
-        0 => device.contacts = count,
-        1 => device.own = count,
-        2 => device.carried = count,
-        3 => device.tombstones = count,
-        _ => device.bad_tags = count,
-    }
+    let at = rng.pick(&[
+        Device::CONTACTS,
+        Device::OWN,
+        Device::CARRIED,
+        Device::TOMBSTONES,
+        Device::BAD_TAGS,
+    ]);
+    put_number(&mut areas.device, at, Some(rng.pick(&COUNTS)));
 }
 
 fn spoil_device(areas: &mut Areas, rng: &mut Rng) {
     let device = &mut areas.device;
-    match rng.below(5) {
-        0 => device.setting.copies = rng.next() as u8,
-        1 => device.setting.lifetime = rng.next() as u16,
-        2 => device.setting.enabled = !device.setting.enabled,
-        3 => device.clock = rng.pick(&[0, 599, 600, 60 * u64::from(u32::MAX), u64::MAX]),
-        _ => device.next_slot = rng.pick(&SLOTS),
+    let clock = rng.pick(&[0, 599, 600, 60 * u64::from(u32::MAX), u64::MAX]);
+    match rng.below(6) {
+        0 => device[Device::ENABLED] = flag(rng),
+        1 => device[Device::COPIES] = rng.next() as u8,
+        2 => spoil_byte(&mut device[Device::LIFETIME..Device::CLOCK], rng),
+        3 => put_number(device, Device::CLOCK, Some(clock)),
+        4 => put_number(device, Device::NEXT_SLOT, Some(rng.pick(&SLOTS))),
+        _ => spoil_byte(device, rng),
     }
 }
 
@@ -88,12 +101,15 @@ fn spoil_exchange(areas: &mut Areas, rng: &mut Rng) {
     let tag = tag(areas, rng);
     let place = rng.below(areas.sessions.len());
     let session = &mut areas.sessions[place];
-    match rng.below(6) {
-        0 => session.exchange.listed = rng.pick(&COUNTS),
-        1 => session.exchange.offered = rng.pick(&COUNTS),
-        2 => session.exchange.complete = !session.exchange.complete,
-        3 => session.exchange.peer = rng.pick(&[None, Some(peer)]),
-        4 => alter::<[u8; 8]>(&mut session.prefixes, rng, |row, _| *row = post::array(&tag, 0)),
+    let exchange = &mut session.exchange;
+    match rng.below(8) {
+        0 => put_number(exchange, Exchange::LISTED, Some(rng.pick(&COUNTS))),
+        1 => put_number(exchange, Exchange::OFFERED, Some(rng.pick(&COUNTS))),
+        2 => exchange[Exchange::COMPLETE] = flag(rng),
+        3 => exchange[Exchange::OPEN] = flag(rng),
+        4 => put_number(exchange, Exchange::PEER, Some(peer)),
+        5 => spoil_byte(exchange, rng),
+        6 => alter::<[u8; 8]>(&mut session.prefixes, rng, |row, _| *row = post::array(&tag, 0)),
         _ => alter::<Offer>(&mut session.offers, rng, |row, rng| {
             *row = Offer {
                 tag,
@@ -148,12 +164,15 @@ fn spoil_rest(areas: &mut Areas, rng: &mut Rng) {
 
 /// An area of bytes that mean nothing.
 fn spoil_area(areas: &mut Areas, rng: &mut Rng) {
-    let area = match rng.below(5) {
+    let session = rng.below(areas.sessions.len());
+    let area: &mut [u8] = match rng.below(7) {
         0 => &mut areas.contacts,
         1 => &mut areas.own,
         2 => &mut areas.carried,
         3 => &mut areas.tombstones,
-        _ => &mut areas.bad_tags,
+        4 => &mut areas.bad_tags,
+        5 => &mut areas.device,
+        _ => &mut areas.sessions[session].exchange,
     };
     area.iter_mut().for_each(|byte| *byte = rng.next() as u8);
 }
@@ -202,8 +221,11 @@ fn run_list(seed: u64, count: usize) -> Result<(), String> {
         for _ in 0..40 {
             spoil(&mut areas, &mut rng);
             let mut library = Library::of(areas, rng.percent(50));
+            if rng.percent(2) {
+                library.fresh();
+            }
             for _ in 0..rng.between(1, 6) {
-                let kind = rng.pick(CALLS);
+                let kind = rng.pick(&Kind::ALL);
                 let call = generator.of_kind(kind, &decoded(library.areas()));
                 library.outcome(&call);
                 made += 1;

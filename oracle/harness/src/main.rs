@@ -19,7 +19,7 @@ use std::process::ExitCode;
 const USAGE: &str =
     "usage: oracle compare --seeds FROM..TO --calls N [--profile P] [--against PARTY] [--tally] [--reach]
        oracle garbage FROM..TO N    the library on garbage areas, by seeds
-       oracle spoiled               bytes that the library refuses, and the library with one thing wrong
+       oracle spoiled               every byte at the library's boundary, and the library with one thing wrong
        oracle drill                 a drill log on standard input
        oracle log SEED RECORDS      a random drill log
        oracle sample SEEDS CALLS    random calls with their answers, for crates/replay

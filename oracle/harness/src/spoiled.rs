@@ -1,4 +1,4 @@
-//! Bytes that the library must refuse, and the library with one thing wrong in what it leaves or says: each must be told apart.
+//! The library's boundary byte by byte, and the library with one thing wrong in what it leaves or says: each must be told apart.
 
 use crate::compare::{maker, run_list};
 use crate::generate::Profile;
@@ -7,6 +7,8 @@ use std::process::ExitCode;
 
 const LISTS: u64 = 20;
 const CALLS: usize = 400;
+/// Of many that are wrong, so many are shown.
+const SHOWN: usize = 10;
 
 /// The seed whose list tells it apart.
 fn told(spoiled: Spoiled) -> Option<u64> {
@@ -16,10 +18,16 @@ fn told(spoiled: Spoiled) -> Option<u64> {
 
 pub fn main() -> ExitCode {
     crate::compare::pair::quiet();
-    let wrong = library::wrong_bytes();
-    for what in &wrong {
+    let wrong = [
+        library::wrong_arguments(),
+        library::wrong_flags(),
+        library::wrong_fresh_device(),
+    ]
+    .concat();
+    for what in wrong.iter().take(SHOWN) {
         println!("FAILED: {what}");
     }
+    println!("every byte as argument and as flag: {} wrong", wrong.len());
     let untold: Vec<Spoiled> = Spoiled::ALL
         .into_iter()
         .filter(|spoiled| told(*spoiled).is_none())

@@ -1,46 +1,12 @@
-//! What a host lends: a device and exchanges by value, and bytes.
+//! What a host lends: bytes.
 
-use post::{Setting, Sizes};
-
-#[derive(Debug, Clone, Copy, PartialEq, Eq)]
-pub struct Device {
-    pub setting: Setting,
-    pub clock: u64,
-    pub contacts: usize,
-    pub own: usize,
-    pub carried: usize,
-    pub tombstones: usize,
-    pub bad_tags: usize,
-    pub next_slot: u64,
-}
-
-impl Device {
-    pub fn fresh() -> Self {
-        Self {
-            setting: Setting::default(),
-            clock: 0,
-            contacts: 0,
-            own: 0,
-            carried: 0,
-            tombstones: 0,
-            bad_tags: 0,
-            next_slot: 0,
-        }
-    }
-}
-
-#[derive(Debug, Clone, Copy, PartialEq, Eq, Default)]
-pub struct Exchange {
-    pub peer: Option<u64>,
-    pub complete: bool,
-    pub listed: usize,
-    pub offered: usize,
-}
+use crate::{Device, Exchange, Own, Row};
+use post::{Sizes, array};
 
 /// An exchange and the two areas beside it.
 #[derive(Debug, Clone, PartialEq, Eq)]
 pub struct Session {
-    pub exchange: Exchange,
+    pub exchange: [u8; Exchange::LENGTH],
     pub prefixes: Vec<u8>,
     pub offers: Vec<u8>,
 }
@@ -48,7 +14,7 @@ pub struct Session {
 /// Every area of a post. Those of an exchange and of answers are as long as the longest that a call lends; a call is lent the front.
 #[derive(Debug, Clone, PartialEq, Eq)]
 pub struct Areas {
-    pub device: Device,
+    pub device: [u8; Device::LENGTH],
     pub contacts: Vec<u8>,
     pub own: Vec<u8>,
     pub carried: Vec<u8>,
@@ -60,6 +26,8 @@ pub struct Areas {
     pub replies: Vec<u8>,
     pub actions: Vec<u8>,
     pub answer: Vec<u8>,
+    /// Where an own envelope's row is answered.
+    pub row: Vec<u8>,
 }
 
 /// What a longest area has more than document 01 asks: areas may be longer.
@@ -72,16 +40,24 @@ fn pattern(length: usize, salt: usize) -> Vec<u8> {
         .collect()
 }
 
+/// Opened for nobody; the bytes of its peer are any.
+fn closed_exchange(salt: usize) -> [u8; Exchange::LENGTH] {
+    let mut exchange = [0; Exchange::LENGTH];
+    exchange[Exchange::PEER..Exchange::LISTED].copy_from_slice(&pattern(8, salt));
+    exchange
+}
+
 impl Areas {
-    pub fn fresh(sizes: &Sizes) -> Self {
+    /// As a host has them before its first call.
+    pub fn untouched(sizes: &Sizes) -> Self {
         let enough = post::Areas::enough(sizes);
         let session = |place| Session {
-            exchange: Exchange::default(),
+            exchange: closed_exchange(60 + place),
             prefixes: pattern(enough.prefixes + MORE, 20 + place),
             offers: pattern(enough.offers + MORE, 40 + place),
         };
         Self {
-            device: Device::fresh(),
+            device: array(&pattern(Device::LENGTH, 12), 0),
             contacts: pattern(256 * 9, 1),
             own: pattern(256 * 54, 2),
             carried: pattern(256 * 57, 3),
@@ -93,6 +69,14 @@ impl Areas {
             replies: pattern(enough.replies + MORE, 8),
             actions: pattern(enough.actions + MORE, 9),
             answer: pattern(enough.answer + MORE, 10),
+            row: pattern(Own::WIDTH, 11),
         }
+    }
+
+    /// With a fresh device.
+    pub fn fresh(sizes: &Sizes) -> Self {
+        let mut areas = Self::untouched(sizes);
+        Device::put_fresh(&mut areas.device);
+        areas
     }
 }

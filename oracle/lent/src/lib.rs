@@ -4,6 +4,7 @@
 mod areas;
 mod custody;
 mod exchange;
+mod fields;
 mod own;
 mod party;
 mod rows;
@@ -12,7 +13,8 @@ mod settings;
 mod state;
 mod tombs;
 
-pub use areas::{Areas, Device, Exchange, Session};
+pub use areas::{Areas, Session};
+pub use fields::{Device, Exchange, put_number};
 pub use party::{Model, decoded};
 pub use rows::{BadTag, Carried, ContactRow, Offer, Own, Row, Tombstone, table};
 pub use state::{Change, Lent, Outcome, Said, State, performed};

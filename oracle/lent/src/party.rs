@@ -2,7 +2,7 @@
 
 use crate::rows::table;
 use crate::state::{Outcome, Said, performed};
-use crate::{Areas, ciphertext};
+use crate::{Areas, Device, ciphertext};
 use post::{
     Action, Answer, Bytes, Call, Contact, Custody, Dir, Envelope, Exchange, Held, HeldRow, Kind, OwnRow, Post, Reply,
     Sizes, SkippedRow, State, Verification, array,
@@ -53,8 +53,8 @@ fn own_row(row: &crate::Own, cells: &[u8]) -> OwnRow {
     }
 }
 
-fn held_rows(areas: &Areas) -> Vec<HeldRow> {
-    let carried = table::<crate::Carried>(&areas.carried, areas.device.carried)
+fn held_rows(areas: &Areas, device: &Device) -> Vec<HeldRow> {
+    let carried = table::<crate::Carried>(&areas.carried, device.carried)
         .into_iter()
         .map(|row| HeldRow {
             slot: row.slot,
@@ -69,7 +69,7 @@ fn held_rows(areas: &Areas) -> Vec<HeldRow> {
                 },
             },
         });
-    let tombstones = table::<crate::Tombstone>(&areas.tombstones, areas.device.tombstones).into_iter();
+    let tombstones = table::<crate::Tombstone>(&areas.tombstones, device.tombstones).into_iter();
     let tombstones = tombstones.map(|row| HeldRow {
         slot: row.slot,
         held: Held::Tombstone {
@@ -82,18 +82,18 @@ fn held_rows(areas: &Areas) -> Vec<HeldRow> {
 }
 
 fn exchange(session: &crate::Session) -> Exchange {
-    let offers: Vec<crate::Offer> = table(&session.offers, session.exchange.offered.min(512));
+    let (exchange, listed, offered) = session.view();
     Exchange {
-        peer: session.exchange.peer,
-        complete: session.exchange.complete,
-        listed: table(&session.prefixes, session.exchange.listed.min(512)),
-        offered: offers.iter().map(|offer| (offer.tag, offer.copies)).collect(),
+        peer: exchange.peer,
+        complete: exchange.complete,
+        listed,
+        offered: offered.iter().map(|offer| (offer.tag, offer.copies)).collect(),
     }
 }
 
 /// The areas as the lists that every post has.
 pub fn decoded(areas: &Areas) -> State {
-    let device = &areas.device;
+    let device = &Device::read(&areas.device);
     let contacts: Vec<crate::ContactRow> = table(&areas.contacts, device.contacts);
     let own: Vec<crate::Own> = table(&areas.own, device.own);
     let bad: Vec<crate::BadTag> = table(&areas.bad_tags, device.bad_tags);
@@ -108,7 +108,7 @@ pub fn decoded(areas: &Areas) -> State {
             })
             .collect(),
         own: own.iter().map(|row| own_row(row, &areas.own_cells)).collect(),
-        held: held_rows(areas),
+        held: held_rows(areas, device),
         next_slot: device.next_slot,
         bad: bad.iter().map(|row| (row.peer, row.tag)).collect(),
         exchanges: areas.sessions.iter().map(exchange).collect(),
@@ -117,11 +117,12 @@ pub fn decoded(areas: &Areas) -> State {
 
 /// The row of a cell, own from 0 and carried from 256, that a reply names.
 fn sent_ciphertext(areas: &Areas, cell: u16, tag: &[u8]) -> Bytes {
-    let own: Vec<crate::Own> = table(&areas.own, areas.device.own);
+    let device = Device::read(&areas.device);
+    let own: Vec<crate::Own> = table(&areas.own, device.own);
     if let Some(row) = own.iter().find(|row| row.cell == cell && row.tag == *tag) {
         return ciphertext(&areas.own_cells, row.cell, row.len).into();
     }
-    let carried: Vec<crate::Carried> = table(&areas.carried, areas.device.carried);
+    let carried: Vec<crate::Carried> = table(&areas.carried, device.carried);
     let row = carried
         .iter()
         .find(|row| row.cell.wrapping_add(256) == cell && row.tag == *tag);

@@ -80,7 +80,7 @@ impl State<'_> {
             return refused(2);
         }
         let change = Change {
-            peer: Some(Some(peer)),
+            peer: Some(peer),
             complete: Some(false),
             listed: Some(Vec::new()),
             offered: Some(Vec::new()),

@@ -1,7 +1,8 @@
 //! `view`, `step` and `store` of the model: the rows of the areas, what a call answers and changes, and the change written.
 
+use crate::fields::{put_flag, put_number, put_setting};
 use crate::rows::{BadTag, Carried, ContactRow, Offer, Own, Row, Tombstone, table};
-use crate::{Areas, CELL, Exchange};
+use crate::{Areas, CELL, Device, Exchange, Session};
 use post::{Call, Prefix, Setting};
 
 /// The areas as rows.
@@ -96,7 +97,8 @@ pub struct Change {
     pub next_slot: Option<u64>,
     pub own_cell: Option<(u16, Vec<u8>)>,
     pub carried_cell: Vec<(u16, Vec<u8>)>,
-    pub peer: Option<Option<u64>>,
+    /// Whom the exchange is opened for.
+    pub peer: Option<u64>,
     pub complete: Option<bool>,
     pub listed: Option<Vec<Prefix>>,
     pub offered: Option<Vec<Offer>>,
@@ -112,16 +114,31 @@ pub fn said(said: Said) -> Step {
     (Outcome::only(said), Change::default())
 }
 
+impl Session {
+    /// The exchange, its listed prefixes and its offers; counts above 512 are 512.
+    pub fn view(&self) -> (Exchange, Vec<Prefix>, Vec<Offer>) {
+        let exchange = Exchange::read(&self.exchange);
+        let listed = table(&self.prefixes, exchange.listed.min(512));
+        let offered = table(&self.offers, exchange.offered.min(512));
+        (exchange, listed, offered)
+    }
+
+    fn store(&mut self, change: &Change) {
+        let exchange = &mut self.exchange;
+        put_flag(exchange, Exchange::OPEN, change.peer.map(|_| true));
+        put_number(exchange, Exchange::PEER, change.peer);
+        put_flag(exchange, Exchange::COMPLETE, change.complete);
+        put_rows(&mut self.prefixes, exchange, Exchange::LISTED, &change.listed);
+        put_rows(&mut self.offers, exchange, Exchange::OFFERED, &change.offered);
+    }
+}
+
 impl<'a> State<'a> {
-    /// With the exchange of this place; counts of an exchange above 512 are 512.
+    /// With the exchange of this place.
     pub fn view(areas: &'a Areas, session: usize) -> Self {
-        let device = &areas.device;
+        let device = Device::read(&areas.device);
         let (exchange, listed, offered) = match areas.sessions.get(session) {
-            Some(lent) => (
-                lent.exchange,
-                table(&lent.prefixes, lent.exchange.listed.min(512)),
-                table(&lent.offers, lent.exchange.offered.min(512)),
-            ),
+            Some(lent) => lent.view(),
             None => (Exchange::default(), Vec::new(), Vec::new()),
         };
         Self {
@@ -213,10 +230,10 @@ impl<'a> State<'a> {
     }
 }
 
-/// Rows at the front of an area, and what stood behind as it was.
-fn put_rows<R: Row>(area: &mut [u8], count: &mut usize, rows: Option<Vec<R>>) {
+/// Rows at the front of an area, and what stood behind as it was; their count goes where the device or the exchange has it.
+fn put_rows<R: Row>(area: &mut [u8], counts: &mut [u8], at: usize, rows: &Option<Vec<R>>) {
     if let Some(rows) = rows {
-        *count = rows.len();
+        put_number(counts, at, Some(rows.len() as u64));
         for (place, row) in rows.iter().enumerate() {
             area[place * R::WIDTH..(place + 1) * R::WIDTH].copy_from_slice(&row.write());
         }
@@ -229,16 +246,16 @@ fn put_cell(cells: &mut [u8], cell: u16, bytes: &[u8]) {
 }
 
 impl Areas {
-    fn store(&mut self, session: usize, change: Change) {
+    fn store(&mut self, session: usize, change: &Change) {
         let device = &mut self.device;
-        device.clock = change.clock.unwrap_or(device.clock);
-        device.setting = change.setting.unwrap_or(device.setting);
-        device.next_slot = change.next_slot.unwrap_or(device.next_slot);
-        put_rows(&mut self.contacts, &mut device.contacts, change.contacts);
-        put_rows(&mut self.own, &mut device.own, change.own);
-        put_rows(&mut self.carried, &mut device.carried, change.carried);
-        put_rows(&mut self.tombstones, &mut device.tombstones, change.tombstones);
-        put_rows(&mut self.bad_tags, &mut device.bad_tags, change.bad_tags);
+        put_number(device, Device::CLOCK, change.clock);
+        put_setting(device, change.setting);
+        put_number(device, Device::NEXT_SLOT, change.next_slot);
+        put_rows(&mut self.contacts, device, Device::CONTACTS, &change.contacts);
+        put_rows(&mut self.own, device, Device::OWN, &change.own);
+        put_rows(&mut self.carried, device, Device::CARRIED, &change.carried);
+        put_rows(&mut self.tombstones, device, Device::TOMBSTONES, &change.tombstones);
+        put_rows(&mut self.bad_tags, device, Device::BAD_TAGS, &change.bad_tags);
         if let Some((cell, bytes)) = &change.own_cell {
             put_cell(&mut self.own_cells, *cell, bytes);
         }
@@ -246,10 +263,7 @@ impl Areas {
             put_cell(&mut self.carried_cells, *cell, bytes);
         }
         if let Some(lent) = self.sessions.get_mut(session) {
-            lent.exchange.peer = change.peer.unwrap_or(lent.exchange.peer);
-            lent.exchange.complete = change.complete.unwrap_or(lent.exchange.complete);
-            put_rows(&mut lent.prefixes, &mut lent.exchange.listed, change.listed);
-            put_rows(&mut lent.offers, &mut lent.exchange.offered, change.offered);
+            lent.store(change);
         }
     }
 }
@@ -268,9 +282,12 @@ fn session_of(call: &Call) -> usize {
 pub fn performed(areas: &mut Areas, call: &Call) -> Outcome {
     let session = session_of(call);
     let (outcome, change) = State::view(areas, session).step(call);
-    areas.store(session, change);
+    areas.store(session, &change);
     areas.replies[..outcome.replies.len() * 40].copy_from_slice(outcome.replies.as_flattened());
     areas.actions[..outcome.actions.len() * 13].copy_from_slice(outcome.actions.as_flattened());
     areas.answer[..outcome.bytes.len()].copy_from_slice(&outcome.bytes);
+    if let Said::Own(row) = &outcome.said {
+        areas.row.copy_from_slice(&row.write());
+    }
     outcome
 }

@@ -1,12 +1,13 @@
 //! Memory for a lent area between two pages that nobody may touch. The area stands against one of them, so that a byte read or
 //! written past that end stops the program; past the other end lies a zone whose bytes must stay.
 
+use std::cell::RefCell;
+use std::collections::BTreeMap;
 use std::ffi::{c_int, c_void};
 use std::sync::atomic::{AtomicU64, Ordering};
 
 unsafe extern "C" {
     fn mmap(at: *mut c_void, length: usize, protection: c_int, flags: c_int, file: c_int, offset: i64) -> *mut c_void;
-    fn munmap(at: *mut c_void, length: usize) -> c_int;
     fn mprotect(at: *mut c_void, length: usize, protection: c_int) -> c_int;
     fn signal(number: c_int, handler: extern "C" fn(c_int)) -> usize;
     fn _exit(status: c_int) -> !;
@@ -26,24 +27,33 @@ pub struct Guarded {
     first: bool,
 }
 
+thread_local! {
+    /// Pages that no area uses any more, by the bytes between the outer two.
+    static FREE: RefCell<BTreeMap<usize, Vec<*mut u8>>> = const { RefCell::new(BTreeMap::new()) };
+}
+
+/// New pages, of which the first and the last are closed.
+fn mapped(room: usize) -> *mut u8 {
+    const NONE: c_int = 0;
+    const READ_WRITE: c_int = 3;
+    const PRIVATE_ANONYMOUS: c_int = 0x22;
+    // SAFETY: a new mapping of this process, and the part of it between its first and last page.
+    unsafe {
+        let pages = mmap(std::ptr::null_mut(), room + 2 * PAGE, NONE, PRIVATE_ANONYMOUS, -1, 0);
+        assert!(pages as isize != -1, "no memory for a lent area");
+        let opened = mprotect(pages.byte_add(PAGE), room, READ_WRITE);
+        assert!(opened == 0, "no memory for a lent area");
+        pages.cast()
+    }
+}
+
 impl Guarded {
     /// Room for areas up to so many bytes.
     pub fn new(most: usize, first: bool) -> Self {
-        const NONE: c_int = 0;
-        const READ_WRITE: c_int = 3;
-        const PRIVATE_ANONYMOUS: c_int = 0x22;
         let room = (most + ZONE).next_multiple_of(PAGE);
-        let whole = room + 2 * PAGE;
-        // SAFETY: a new mapping of this process, and the part of it between its first and last page.
-        let pages = unsafe {
-            let pages = mmap(std::ptr::null_mut(), whole, NONE, PRIVATE_ANONYMOUS, -1, 0);
-            assert!(pages as isize != -1, "no memory for a lent area");
-            let opened = mprotect(pages.byte_add(PAGE), room, READ_WRITE);
-            assert!(opened == 0, "no memory for a lent area");
-            pages.cast::<u8>()
-        };
+        let used = FREE.with_borrow_mut(|free| free.get_mut(&room).and_then(Vec::pop));
         Self {
-            pages,
+            pages: used.unwrap_or_else(|| mapped(room)),
             room,
             at: 0,
             length: 0,
@@ -59,7 +69,7 @@ impl Guarded {
 
     /// All the bytes between the outer pages.
     fn inside(&self) -> &[u8] {
-        // SAFETY: `new` made them readable and writable, and `drop` alone gives them back.
+        // SAFETY: `mapped` made them readable and writable, and no other area has them before `drop`.
         unsafe { std::slice::from_raw_parts(self.pages.add(PAGE), self.room) }
     }
 
@@ -98,6 +108,17 @@ impl Guarded {
         &mut self.inside_mut()[at..end]
     }
 
+    /// As a call takes an area of fixed length.
+    pub fn array<const N: usize>(&self) -> *const [u8; N] {
+        let bytes: &[u8; N] = self.bytes().try_into().expect("the fixed length");
+        bytes
+    }
+
+    pub fn array_mut<const N: usize>(&mut self) -> *mut [u8; N] {
+        let bytes: &mut [u8; N] = self.bytes_mut().try_into().expect("the fixed length");
+        bytes
+    }
+
     /// The bytes of the zone, for a switch that makes the library wrong.
     pub fn zone_mut(&mut self) -> &mut [u8] {
         let zone = self.zone();
@@ -123,8 +144,7 @@ impl Guarded {
 
 impl Drop for Guarded {
     fn drop(&mut self) {
-        // SAFETY: the whole mapping of `new`, and nothing refers to it any more.
-        unsafe { munmap(self.pages.cast(), self.room + 2 * PAGE) };
+        FREE.with_borrow_mut(|free| free.entry(self.room).or_default().push(self.pages));
     }
 }
 

@@ -1,32 +1,44 @@
 //! The proved library as a post: every area lies between pages that nobody may touch, and after each call every byte of every
-//! area, the device, the exchanges and the answer are held against the third statement's.
+//! area and the answer are held against the third statement's.
 
 mod boundary;
 mod calls;
-mod ffi;
 mod guarded;
 mod wrong;
 
-pub use boundary::wrong_bytes;
-pub use calls::CALLS;
+pub use boundary::{wrong_arguments, wrong_flags, wrong_fresh_device};
 pub use guarded::watch;
 pub use wrong::Spoiled;
 
 use guarded::Guarded;
-use lent::{Areas, Device, Exchange, Outcome, decoded, performed};
+use lent::{Areas, Device, Outcome, decoded, performed};
 use post::{Answer, Call, Post, Sizes, State};
 use std::borrow::Cow;
 
 struct Session {
-    exchange: Exchange,
+    exchange: Guarded,
     prefixes: Guarded,
     offers: Guarded,
+}
+
+/// Bytes that a call only reads.
+struct Input {
+    area: Guarded,
+    bytes: Vec<u8>,
+}
+
+impl Input {
+    fn set(&mut self, bytes: &[u8]) -> *const u8 {
+        self.bytes = bytes.to_vec();
+        self.area.set(bytes);
+        self.area.bytes().as_ptr()
+    }
 }
 
 pub struct Library {
     /// What the areas must hold.
     expected: Areas,
-    device: Device,
+    device: Guarded,
     contacts: Guarded,
     own: Guarded,
     carried: Guarded,
@@ -38,8 +50,9 @@ pub struct Library {
     replies: Guarded,
     actions: Guarded,
     answer: Guarded,
-    /// What a call only reads: tags, window rows, ciphertexts and the like.
-    inputs: [Guarded; 4],
+    row: Guarded,
+    /// Tags, window rows, ciphertexts and the like.
+    inputs: [Input; 4],
     spoiled: Option<Spoiled>,
     /// Where the last call left something else than expected.
     differences: Vec<String>,
@@ -67,12 +80,12 @@ impl Library {
     pub fn of(areas: Areas, first: bool) -> Self {
         let guarded = |bytes: &[u8]| Guarded::of(bytes, first);
         let session = |session: &lent::Session| Session {
-            exchange: session.exchange,
+            exchange: guarded(&session.exchange),
             prefixes: guarded(&session.prefixes),
             offers: guarded(&session.offers),
         };
         Self {
-            device: areas.device,
+            device: guarded(&areas.device),
             contacts: guarded(&areas.contacts),
             own: guarded(&areas.own),
             carried: guarded(&areas.carried),
@@ -84,26 +97,32 @@ impl Library {
             replies: guarded(&areas.replies),
             actions: guarded(&areas.actions),
             answer: guarded(&areas.answer),
-            inputs: [(); 4].map(|()| guarded(&[])),
+            row: guarded(&areas.row),
+            inputs: [(); 4].map(|()| Input {
+                area: guarded(&[]),
+                bytes: Vec::new(),
+            }),
             spoiled: None,
             differences: Vec::new(),
             expected: areas,
         }
     }
 
+    /// A fresh post. Its host writes another byte for enabled, which says the same.
     pub fn new(sizes: Sizes) -> Self {
-        // SAFETY: it has no inputs.
-        let device = unsafe { ffi::goosetable_fresh() }.into();
-        let mut areas = Areas::fresh(&sizes);
-        let mut differences = Vec::new();
-        if device != areas.device {
-            differences.push(format!("a fresh device: library {device:?}"));
-        }
-        areas.device = device;
-        Self {
-            differences,
-            ..Self::of(areas, sizes.own_cells % 2 == 0)
-        }
+        let mut library = Self::of(Areas::untouched(&sizes), sizes.own_cells.is_multiple_of(2));
+        library.fresh();
+        library.expected.device[Device::ENABLED] = 0xa7;
+        library.device.set(&library.expected.device);
+        library
+    }
+
+    /// A fresh device, whatever lay in its area.
+    pub fn fresh(&mut self) {
+        // SAFETY: the area has its fixed length.
+        unsafe { goosetable_sys::goosetable_fresh(self.device.array_mut()) };
+        Device::put_fresh(&mut self.expected.device);
+        self.differences.extend(self.compare());
     }
 
     pub fn spoiled(sizes: Sizes, spoiled: Spoiled) -> Self {
@@ -143,76 +162,38 @@ impl Library {
 
     fn compare(&self) -> Vec<String> {
         let (mut found, expected) = (Vec::new(), &self.expected);
-        if self.device != expected.device {
-            found.push(format!(
-                "device: library {:?}, expected {:?}",
-                self.device, expected.device
-            ));
+        for (name, real, expected) in [
+            ("device", &self.device, &expected.device[..]),
+            ("contacts", &self.contacts, &expected.contacts),
+            ("own rows", &self.own, &expected.own),
+            ("carried rows", &self.carried, &expected.carried),
+            ("tombstones", &self.tombstones, &expected.tombstones),
+            ("bad tags", &self.bad_tags, &expected.bad_tags),
+            ("own cells", &self.own_cells, &expected.own_cells),
+            ("carried cells", &self.carried_cells, &expected.carried_cells),
+            ("replies", &self.replies, &expected.replies),
+            ("actions", &self.actions, &expected.actions),
+            ("answer", &self.answer, &expected.answer),
+            ("own row answered", &self.row, &expected.row),
+        ] {
+            different(name, real, expected, &mut found);
         }
-        different("contacts", &self.contacts, &expected.contacts, &mut found);
-        different("own rows", &self.own, &expected.own, &mut found);
-        different("carried rows", &self.carried, &expected.carried, &mut found);
-        different("tombstones", &self.tombstones, &expected.tombstones, &mut found);
-        different("bad tags", &self.bad_tags, &expected.bad_tags, &mut found);
-        different("own cells", &self.own_cells, &expected.own_cells, &mut found);
-        different(
-            "carried cells",
-            &self.carried_cells,
-            &expected.carried_cells,
-            &mut found,
-        );
-        different("replies", &self.replies, &expected.replies, &mut found);
-        different("actions", &self.actions, &expected.actions, &mut found);
-        different("answer", &self.answer, &expected.answer, &mut found);
         for (real, expected) in self.sessions.iter().zip(&expected.sessions) {
-            if real.exchange != expected.exchange {
-                found.push(format!(
-                    "exchange: library {:?}, expected {:?}",
-                    real.exchange, expected.exchange
-                ));
-            }
+            different("exchange", &real.exchange, &expected.exchange, &mut found);
             different("listed prefixes", &real.prefixes, &expected.prefixes, &mut found);
             different("offers", &real.offers, &expected.offers, &mut found);
+        }
+        for input in &self.inputs {
+            different("what is only read", &input.area, &input.bytes, &mut found);
         }
         found
     }
 
-    /// A call that the library does not have was performed by the third statement: its areas become the library's.
-    fn take_over(&mut self) {
-        let expected = &self.expected;
-        self.device = expected.device;
-        for (real, expected) in [
-            (&mut self.contacts, &expected.contacts),
-            (&mut self.own, &expected.own),
-            (&mut self.carried, &expected.carried),
-            (&mut self.tombstones, &expected.tombstones),
-            (&mut self.bad_tags, &expected.bad_tags),
-            (&mut self.own_cells, &expected.own_cells),
-            (&mut self.carried_cells, &expected.carried_cells),
-            (&mut self.replies, &expected.replies),
-            (&mut self.actions, &expected.actions),
-            (&mut self.answer, &expected.answer),
-        ] {
-            if real.bytes() != &expected[..] {
-                real.set(expected);
-            }
-        }
-        for (real, expected) in self.sessions.iter_mut().zip(&expected.sessions) {
-            real.exchange = expected.exchange;
-            real.prefixes.set(&expected.prefixes);
-            real.offers.set(&expected.offers);
-        }
-    }
-
-    /// The call by the library, or by the third statement where the library does not have it.
+    /// The call by the library, held against the third statement's.
     pub fn outcome(&mut self, call: &Call) -> Outcome {
         self.lend(call);
-        let called = self.called(call);
+        let mut outcome = self.called(call);
         let expected = performed(&mut self.expected, call);
-        let Some(mut outcome) = called else {
-            self.take_over();
-            return expected;
-        };
         if let Some(spoiled) = self.spoiled {
             self.spoil(spoiled, &mut outcome);
         }

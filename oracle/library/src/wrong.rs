@@ -1,7 +1,7 @@
 //! Switches that make the library wrong in one named way, to see that a run tells it apart.
 
 use crate::Library;
-use lent::{Outcome, Said};
+use lent::{Device, Exchange, Outcome, Said};
 
 #[derive(Debug, Clone, Copy, PartialEq, Eq)]
 pub enum Spoiled {
@@ -15,6 +15,10 @@ pub enum Spoiled {
     ByteBehindTheRows,
     ByteBesideAnArea,
     NextSlot,
+    /// The device's flag rewritten where its byte said so already.
+    FlagRewritten,
+    /// The bytes of a peer for whom the exchange is not open.
+    ClosedPeer,
     /// A byte read past the end of an area: it ends the program.
     ReadsOutside,
 }
@@ -26,7 +30,7 @@ impl Spoiled {
     }
 
     /// Those that leave or say something wrong.
-    pub const ALL: [Self; 10] = [
+    pub const ALL: [Self; 12] = [
         Self::RefusalNumber,
         Self::ReplyByte,
         Self::ActionByte,
@@ -37,6 +41,8 @@ impl Spoiled {
         Self::ByteBehindTheRows,
         Self::ByteBesideAnArea,
         Self::NextSlot,
+        Self::FlagRewritten,
+        Self::ClosedPeer,
     ];
 }
 
@@ -47,9 +53,19 @@ fn turn(byte: Option<&mut u8>) {
 }
 
 impl Library {
+    fn turn_closed_peers(&mut self) {
+        for session in &mut self.sessions {
+            let exchange = session.exchange.bytes_mut();
+            if exchange[Exchange::OPEN] == 0 {
+                turn(exchange.get_mut(Exchange::PEER));
+            }
+        }
+    }
+
     /// What a wrong library would have left and said.
     pub(crate) fn spoil(&mut self, spoiled: Spoiled, outcome: &mut Outcome) {
         let refused = matches!(outcome.said, Said::Refused(_));
+        let device = Device::read(&self.expected.device);
         match spoiled {
             Spoiled::RefusalNumber => {
                 if let Said::Refused(number) = &mut outcome.said {
@@ -59,13 +75,15 @@ impl Library {
             Spoiled::ReplyByte if !outcome.replies.is_empty() => turn(self.replies.bytes_mut().get_mut(20)),
             Spoiled::ActionByte if !outcome.actions.is_empty() => turn(self.actions.bytes_mut().get_mut(12)),
             Spoiled::ActionCount if !outcome.actions.is_empty() => outcome.actions.truncate(outcome.actions.len() - 1),
-            Spoiled::RowByte if self.device.tombstones > 0 => turn(self.tombstones.bytes_mut().get_mut(43)),
-            Spoiled::CellByte if self.device.carried > 0 => turn(self.carried_cells.bytes_mut().get_mut(1)),
+            Spoiled::RowByte if device.tombstones > 0 => turn(self.tombstones.bytes_mut().get_mut(43)),
+            Spoiled::CellByte if device.carried > 0 => turn(self.carried_cells.bytes_mut().get_mut(1)),
             Spoiled::RefusedCallWrites if refused => turn(self.carried.bytes_mut().last_mut()),
-            Spoiled::ByteBehindTheRows if self.device.contacts > 2 => turn(self.contacts.bytes_mut().last_mut()),
-            Spoiled::ByteBesideAnArea if self.device.contacts > 2 => turn(self.contacts.zone_mut().first_mut()),
-            Spoiled::NextSlot if self.device.tombstones > 0 => self.device.next_slot ^= 1,
-            Spoiled::ReadsOutside if self.device.contacts > 2 => self.contacts.read_outside(),
+            Spoiled::ByteBehindTheRows if device.contacts > 2 => turn(self.contacts.bytes_mut().last_mut()),
+            Spoiled::ByteBesideAnArea if device.contacts > 2 => turn(self.contacts.zone_mut().first_mut()),
+            Spoiled::NextSlot if device.tombstones > 0 => turn(self.device.bytes_mut().last_mut()),
+            Spoiled::FlagRewritten if device.setting.enabled => self.device.bytes_mut()[Device::ENABLED] = 1,
+            Spoiled::ClosedPeer => self.turn_closed_peers(),
+            Spoiled::ReadsOutside if device.contacts > 2 => self.contacts.read_outside(),
             _ => {}
         }
     }

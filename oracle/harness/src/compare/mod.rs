@@ -178,10 +178,6 @@ pub fn main(arguments: &[String]) -> ExitCode {
     for what in &missed {
         println!("never reached: {what}");
     }
-    #[cfg(feature = "library")]
-    if options.against == "library" {
-        print!("{} by the library of ", tally.calls_of(library::CALLS));
-    }
     println!("{} calls, 0 differences", options.calls);
     crate::status(missed.is_empty())
 }

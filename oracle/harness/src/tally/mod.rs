@@ -92,12 +92,6 @@ impl Tally {
         }
     }
 
-    /// How many calls were of these kinds.
-    #[cfg(feature = "library")]
-    pub fn calls_of(&self, kinds: &[Kind]) -> u64 {
-        kinds.iter().filter_map(|kind| self.calls.get(kind)).sum()
-    }
-
     fn reply(&mut self, reply: &Reply) {
         let name = match reply {
             Reply::Fetch(_) => REPLIES[0],

@@ -1,21 +1,24 @@
 //! Envelopes and inventories.
 
-use super::plain;
-use crate::{Library, ffi};
+use crate::Library;
+use goosetable_sys as sys;
 use lent::{Outcome, Own, Row, Said};
 use post::{Custody, Envelope, NewOwn};
 
 impl Library {
     pub(super) fn envelope(&mut self, peer: u64, envelope: &Envelope, window: &[u8]) -> Outcome {
         let lengths = (envelope.ciphertext.len(), window.len());
-        let (tag, commitment) = (self.input(0, &envelope.tag), self.input(1, &envelope.commitment));
+        let (tag, commitment) = (
+            self.input_array(0, &envelope.tag),
+            self.input_array(1, &envelope.commitment),
+        );
         let (ciphertext, window) = (self.input(2, &envelope.ciphertext), self.input(3, window));
         let (tombstones, carried_cells) = (self.tombstones.bytes(), self.carried_cells.bytes_mut());
         let (replies, actions) = (self.replies.bytes_mut(), self.actions.bytes_mut());
         // SAFETY: each pointer goes with its length; the tables have their fixed ones, and no two areas are the same.
         let answer = unsafe {
-            ffi::goosetable_envelope(
-                self.device.into(),
+            sys::goosetable_envelope(
+                self.device.array_mut(),
                 peer,
                 tag,
                 commitment,
@@ -25,9 +28,9 @@ impl Library {
                 lengths.0,
                 window,
                 lengths.1,
-                self.contacts.bytes().as_ptr(),
-                self.own.bytes().as_ptr(),
-                self.carried.bytes_mut().as_mut_ptr(),
+                self.contacts.array(),
+                self.own.array(),
+                self.carried.array_mut(),
                 tombstones.as_ptr(),
                 tombstones.len(),
                 carried_cells.as_mut_ptr(),
@@ -38,29 +41,18 @@ impl Library {
                 actions.len(),
             )
         };
-        let ours = Said::Ours {
-            contact: answer.contact,
-            generation: answer.generation,
-            index: answer.index,
-        };
-        let is_ours = answer.said == 15;
-        let mut outcome = self.answered(answer);
-        if is_ours {
-            outcome.said = ours;
-        }
-        outcome
+        self.answered(answer, Said::Done)
     }
 
     /// With any byte as its direction.
-    pub(crate) fn own_envelope_of(&mut self, new: &NewOwn, dir: u8) -> ffi::Answer {
-        let (key, secret) = (self.input(0, &new.route_key), self.input(1, &new.secret));
+    pub(crate) fn own_envelope_of(&mut self, new: &NewOwn, dir: u8) -> sys::Answer {
+        let (key, secret) = (self.input_array(0, &new.route_key), self.input_array(1, &new.secret));
         let ciphertext = self.input(2, &new.ciphertext);
-        let row = self.input(3, &[0x5a; 54]).cast_mut();
         let own_cells = self.own_cells.bytes_mut();
         // SAFETY: each pointer goes with its length; the tables have their fixed ones, and no two areas are the same.
         unsafe {
-            ffi::goosetable_own_envelope(
-                self.device.into(),
+            sys::goosetable_own_envelope(
+                self.device.array_mut(),
                 new.contact,
                 new.message,
                 key,
@@ -70,40 +62,34 @@ impl Library {
                 secret,
                 ciphertext,
                 new.ciphertext.len(),
-                self.contacts.bytes().as_ptr(),
-                self.own.bytes_mut().as_mut_ptr(),
+                self.contacts.array(),
+                self.own.array_mut(),
                 own_cells.as_mut_ptr(),
                 own_cells.len(),
-                row,
+                self.row.array_mut(),
             )
         }
     }
 
     pub(super) fn own_envelope(&mut self, new: &NewOwn) -> Outcome {
         let answer = self.own_envelope_of(new, new.dir.label());
-        let mut outcome = self.answered(answer);
-        let row = self.inputs[3].bytes();
-        if outcome.said == Said::Done {
-            outcome.said = Said::Own(Own::read(row));
-        } else if row != [0x5a; 54] {
-            self.differences.push("own envelope: a row where there is none".into());
-        }
-        outcome
+        let row = Own::read(self.row.bytes());
+        self.answered(answer, Said::Own(row))
     }
 
     pub(super) fn fetch(&mut self, peer: u64, tag: &[u8; 16]) -> Outcome {
-        let tag = self.input(0, tag);
+        let tag = self.input_array(0, tag);
         let (own_cells, carried_cells) = (self.own_cells.bytes(), self.carried_cells.bytes());
         let replies = self.replies.bytes_mut();
         // SAFETY: each pointer goes with its length; the three tables have their fixed ones.
         let answer = unsafe {
-            ffi::goosetable_fetch(
-                self.device.into(),
+            sys::goosetable_fetch(
+                self.device.array(),
                 peer,
                 tag,
-                self.contacts.bytes().as_ptr(),
-                self.own.bytes().as_ptr(),
-                self.carried.bytes().as_ptr(),
+                self.contacts.array(),
+                self.own.array(),
+                self.carried.array(),
                 own_cells.as_ptr(),
                 own_cells.len(),
                 carried_cells.as_ptr(),
@@ -113,11 +99,7 @@ impl Library {
             )
         };
         let length = answer.length;
-        let mut outcome = self.answered(answer);
-        if outcome.said == Said::Done {
-            outcome.said = Said::Found { length };
-        }
-        outcome
+        self.answered(answer, Said::Found { length })
     }
 
     pub(super) fn inventory(&mut self, exchange: usize, peer: u64, window: &[u8], listed: &[u8]) -> Outcome {
@@ -129,13 +111,13 @@ impl Library {
         let replies = self.replies.bytes_mut();
         // SAFETY: each pointer goes with its length; the tables have their fixed ones, and no two areas are the same.
         let answer = unsafe {
-            ffi::goosetable_inventory(
-                self.device.into(),
-                session.exchange.into(),
+            sys::goosetable_inventory(
+                self.device.array(),
+                session.exchange.array_mut(),
                 peer,
-                self.contacts.bytes().as_ptr(),
-                self.own.bytes().as_ptr(),
-                self.carried.bytes().as_ptr(),
+                self.contacts.array(),
+                self.own.array(),
+                self.carried.array(),
                 tombstones.as_ptr(),
                 tombstones.len(),
                 bad_tags.as_ptr(),
@@ -152,28 +134,27 @@ impl Library {
                 replies.len(),
             )
         };
-        session.exchange = answer.session.into();
-        self.read(plain(answer.said), answer.replies, 0)
+        self.answered(answer, Said::Done)
     }
 
     /// With any byte as its code.
-    pub(crate) fn custody_code_of(&mut self, exchange: usize, peer: u64, tag: &[u8; 16], code: u8) -> ffi::CodeAnswer {
-        let tag = self.input(0, tag);
+    pub(crate) fn custody_code_of(&mut self, exchange: usize, peer: u64, tag: &[u8; 16], code: u8) -> sys::Answer {
+        let tag = self.input_array(0, tag);
         let tombstones = self.tombstones.bytes();
         let session = &mut self.sessions[exchange];
         let (prefixes, offers) = (session.prefixes.bytes(), session.offers.bytes_mut());
         let actions = self.actions.bytes_mut();
         // SAFETY: each pointer goes with its length; the tables have their fixed ones, and no two areas are the same.
         unsafe {
-            ffi::goosetable_custody_code(
-                self.device.into(),
-                session.exchange.into(),
+            sys::goosetable_custody_code(
+                self.device.array_mut(),
+                session.exchange.array_mut(),
                 peer,
                 tag,
                 code,
-                self.contacts.bytes().as_ptr(),
-                self.own.bytes_mut().as_mut_ptr(),
-                self.carried.bytes_mut().as_mut_ptr(),
+                self.contacts.array(),
+                self.own.array_mut(),
+                self.carried.array_mut(),
                 tombstones.as_ptr(),
                 tombstones.len(),
                 prefixes.as_ptr(),
@@ -188,25 +169,23 @@ impl Library {
 
     pub(super) fn custody_code(&mut self, exchange: usize, peer: u64, tag: &[u8; 16], code: Custody) -> Outcome {
         let answer = self.custody_code_of(exchange, peer, tag, code.code());
-        self.device = answer.post.into();
-        self.sessions[exchange].exchange = answer.session.into();
-        self.read(plain(answer.said), 0, answer.actions)
+        self.answered(answer, Said::Done)
     }
 
     pub(super) fn inventory_of_ours(&mut self, peer: u64) -> Outcome {
         let prefixes = self.answer.bytes_mut();
         // SAFETY: the pointer goes with its length; the three tables have their fixed ones.
-        let count = unsafe {
-            ffi::goosetable_inventory_of_ours(
-                self.device.into(),
+        let answer = unsafe {
+            sys::goosetable_inventory_of_ours(
+                self.device.array(),
                 peer,
-                self.contacts.bytes().as_ptr(),
-                self.own.bytes().as_ptr(),
-                self.carried.bytes().as_ptr(),
+                self.contacts.array(),
+                self.own.array(),
+                self.carried.array(),
                 prefixes.as_mut_ptr(),
                 prefixes.len(),
             )
         };
-        self.wrote(count, 8)
+        self.wrote(answer, 8)
     }
 }

@@ -5,95 +5,126 @@ mod reads;
 mod settings;
 mod tombs;
 
-use crate::{Library, ffi};
+use crate::Library;
+use goosetable_sys::{self as sys, Answer};
 use lent::{Outcome, Said};
-use post::{Call, Kind};
+use post::Call;
 
-/// The calls that the library has. The others are performed on its areas by the third statement.
-pub const CALLS: &[Kind] = &[
-    Kind::Contact,
-    Kind::Setting,
-    Kind::Clock,
-    Kind::FreshExchange,
-    Kind::Envelope,
-    Kind::Inventory,
-    Kind::Fetch,
-    Kind::CustodyCode,
-    Kind::Tomb,
-    Kind::Opened,
-    Kind::Failed,
-    Kind::StoredTombstone,
-    Kind::OwnEnvelope,
-    Kind::Maintenance,
-    Kind::InventoryOfOurs,
-    Kind::Window,
-    Kind::RowBlob,
-    Kind::Save,
-    Kind::Load,
-    Kind::RowRead,
-];
-
-/// What a number says where the call has no more to say than that.
-fn plain(said: u8) -> Said {
-    match said {
-        0 => Said::Done,
-        14 => Said::Malformed,
-        16 => Said::Missing,
-        17 => Said::NoEnvelope,
+/// What an answer says, where `done` is what the call means by its yes.
+fn said(answer: &Answer, done: Said) -> Said {
+    match answer.said {
+        sys::DONE => done,
+        sys::MALFORMED => Said::Malformed,
+        sys::OURS => Said::Ours {
+            contact: answer.contact,
+            generation: answer.generation,
+            index: answer.idx,
+        },
+        sys::MISSING => Said::Missing,
+        sys::NO_ENVELOPE => Said::NoEnvelope,
         number => Said::Refused(number),
     }
+}
+
+/// Only this number; every other is 0.
+pub(crate) fn says_only(said: u8) -> Answer {
+    Answer {
+        contact: 0,
+        replies: 0,
+        actions: 0,
+        length: 0,
+        idx: 0,
+        generation: 0,
+        said,
+    }
+}
+
+/// The numbers in which an outcome is answered.
+fn numbers(outcome: &Outcome) -> Answer {
+    let said = match &outcome.said {
+        Said::Refused(number) => *number,
+        Said::Malformed => sys::MALFORMED,
+        Said::Ours { .. } => sys::OURS,
+        Said::Missing => sys::MISSING,
+        Said::NoEnvelope => sys::NO_ENVELOPE,
+        Said::Done | Said::Found { .. } | Said::Own(_) | Said::Wrote(_) | Said::Row(_) => sys::DONE,
+    };
+    let answer = Answer {
+        replies: outcome.replies.len(),
+        actions: outcome.actions.len(),
+        ..says_only(said)
+    };
+    match outcome.said {
+        Said::Ours {
+            contact,
+            generation,
+            index: idx,
+        } => Answer {
+            contact,
+            generation,
+            idx,
+            ..answer
+        },
+        Said::Found { length } | Said::Wrote(length) => Answer { length, ..answer },
+        _ => answer,
+    }
+}
+
+/// Rows at the front of an area.
+fn rows<const N: usize>(area: &[u8], count: usize) -> Vec<[u8; N]> {
+    area.as_chunks().0.iter().take(count).copied().collect()
 }
 
 impl Library {
     /// Bytes that a call reads, in an area of their own.
     fn input(&mut self, place: usize, bytes: &[u8]) -> *const u8 {
-        self.inputs[place].set(bytes);
-        self.inputs[place].bytes().as_ptr()
+        self.inputs[place].set(bytes)
     }
 
-    /// The rows at the front of the answer areas, as many as the library says.
-    fn read(&self, said: Said, replies: usize, actions: usize) -> Outcome {
-        Outcome {
-            said,
-            replies: self
-                .replies
-                .bytes()
-                .as_chunks()
-                .0
-                .iter()
-                .take(replies)
-                .copied()
-                .collect(),
-            actions: self
-                .actions
-                .bytes()
-                .as_chunks()
-                .0
-                .iter()
-                .take(actions)
-                .copied()
-                .collect(),
-            bytes: Vec::new(),
+    fn input_array<const N: usize>(&mut self, place: usize, bytes: &[u8; N]) -> *const [u8; N] {
+        self.input(place, bytes).cast()
+    }
+
+    /// A number that says nothing must be 0.
+    fn with_numbers(&mut self, outcome: Outcome, answer: Answer) -> Outcome {
+        if numbers(&outcome) != answer {
+            self.differences.push(format!("{answer:?} for {outcome:?}"));
         }
+        outcome
     }
 
-    fn answered(&mut self, answer: ffi::Answer) -> Outcome {
-        self.device = answer.post.into();
-        self.read(plain(answer.said), answer.replies, answer.actions)
+    /// The rows at the front of the reply and action areas, as many as the library says.
+    fn answered(&mut self, answer: Answer, done: Said) -> Outcome {
+        let outcome = Outcome {
+            said: said(&answer, done),
+            replies: rows(self.replies.bytes(), answer.replies),
+            actions: rows(self.actions.bytes(), answer.actions),
+            bytes: Vec::new(),
+        };
+        self.with_numbers(outcome, answer)
     }
 
     /// As many rows of a width at the front of the answer area.
-    fn wrote(&self, count: ffi::Count, width: usize) -> Outcome {
-        if count.said != 0 {
-            return Outcome::only(plain(count.said));
-        }
-        let bytes = self.answer.bytes()[..count.length * width].to_vec();
-        Outcome::wrote(count.length, bytes)
+    fn wrote(&mut self, answer: Answer, width: usize) -> Outcome {
+        let bytes = self.answer.bytes();
+        let length = answer.length.saturating_mul(width).min(bytes.len());
+        let outcome = match said(&answer, Said::Wrote(answer.length)) {
+            Said::Wrote(count) => Outcome::wrote(count, bytes[..length].to_vec()),
+            other => Outcome::only(other),
+        };
+        self.with_numbers(outcome, answer)
     }
 
-    /// The call by the library, if it has it.
-    pub(crate) fn called(&mut self, call: &Call) -> Option<Outcome> {
-        Some(match call {
+    /// The call by the library.
+    pub(crate) fn called(&mut self, call: &Call) -> Outcome {
+        match call {
+            Call::Clock { seconds } => self.clock(*seconds),
+            Call::Setting {
+                enabled,
+                copies,
+                lifetime,
+            } => self.setting(*enabled, *copies, *lifetime),
+            Call::Contact { id, verification } => self.contact(*id, *verification),
             Call::FreshExchange { exchange, peer, .. } => self.fresh_exchange(*exchange, *peer),
             Call::Envelope {
                 window, peer, envelope, ..
@@ -133,7 +164,6 @@ impl Library {
             } => self.stored_tombstone(tag, secret, *expiry),
             Call::Window { skipped, chains, .. } => self.window(skipped, chains),
             Call::RowRead { blob } => self.row_read(blob),
-            _ => return self.setting(call),
-        })
+        }
     }
 }

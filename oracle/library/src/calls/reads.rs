@@ -1,10 +1,11 @@
 //! Rows as blobs, the saved file, the window.
 
-use crate::{Library, ffi};
+use crate::Library;
+use goosetable_sys as sys;
 use lent::{Outcome, Said};
 use post::{Bytes, Envelope, Held};
 
-fn held(row: ffi::Row, blob: &[u8]) -> Option<Held> {
+fn held(row: sys::Row, blob: &[u8]) -> Option<Held> {
     match row.kind {
         1 => Some(Held::Carried {
             depositor: row.depositor,
@@ -25,16 +26,46 @@ fn held(row: ffi::Row, blob: &[u8]) -> Option<Held> {
     }
 }
 
+/// The row as the library says it; what its kind has not is 0.
+fn row(held: &Option<Held>) -> sys::Row {
+    let none = sys::Row {
+        depositor: 0,
+        expiry_min: 0,
+        tag: [0; 16],
+        second: [0; 16],
+        copies: 0,
+        kind: 0,
+    };
+    match held {
+        None => none,
+        Some(Held::Carried { depositor, envelope }) => sys::Row {
+            depositor: *depositor,
+            expiry_min: envelope.expiry,
+            tag: envelope.tag,
+            second: envelope.commitment,
+            copies: envelope.copies,
+            kind: 1,
+        },
+        Some(Held::Tombstone { tag, secret, expiry }) => sys::Row {
+            expiry_min: *expiry,
+            tag: *tag,
+            second: *secret,
+            kind: 2,
+            ..none
+        },
+    }
+}
+
 impl Library {
     pub(super) fn row_blob(&mut self, slot: u64) -> Outcome {
         let (tombstones, carried_cells) = (self.tombstones.bytes(), self.carried_cells.bytes());
         let blob = self.answer.bytes_mut();
         // SAFETY: each pointer goes with its length; the table has its fixed one.
-        let count = unsafe {
-            ffi::goosetable_row_blob(
-                self.device.into(),
+        let answer = unsafe {
+            sys::goosetable_row_blob(
+                self.device.array(),
                 slot,
-                self.carried.bytes().as_ptr(),
+                self.carried.array(),
                 tombstones.as_ptr(),
                 tombstones.len(),
                 carried_cells.as_ptr(),
@@ -43,17 +74,17 @@ impl Library {
                 blob.len(),
             )
         };
-        self.wrote(count, 1)
+        self.wrote(answer, 1)
     }
 
     pub(super) fn save(&mut self) -> Outcome {
         let (tombstones, carried_cells) = (self.tombstones.bytes(), self.carried_cells.bytes());
         let file = self.answer.bytes_mut();
         // SAFETY: each pointer goes with its length; the table has its fixed one.
-        let count = unsafe {
-            ffi::goosetable_save(
-                self.device.into(),
-                self.carried.bytes().as_ptr(),
+        let answer = unsafe {
+            sys::goosetable_save(
+                self.device.array(),
+                self.carried.array(),
                 tombstones.as_ptr(),
                 tombstones.len(),
                 carried_cells.as_ptr(),
@@ -62,7 +93,7 @@ impl Library {
                 file.len(),
             )
         };
-        self.wrote(count, 1)
+        self.wrote(answer, 1)
     }
 
     pub(super) fn load(&mut self, file: &[u8]) -> Outcome {
@@ -70,10 +101,10 @@ impl Library {
         let (tombstones, carried_cells) = (self.tombstones.bytes_mut(), self.carried_cells.bytes_mut());
         // SAFETY: each pointer goes with its length; the tables have their fixed ones, and no two areas are the same.
         let answer = unsafe {
-            ffi::goosetable_load(
-                self.device.into(),
-                self.contacts.bytes().as_ptr(),
-                self.carried.bytes_mut().as_mut_ptr(),
+            sys::goosetable_load(
+                self.device.array_mut(),
+                self.contacts.array(),
+                self.carried.array_mut(),
                 tombstones.as_mut_ptr(),
                 tombstones.len(),
                 carried_cells.as_mut_ptr(),
@@ -82,7 +113,7 @@ impl Library {
                 length,
             )
         };
-        self.answered(answer)
+        self.answered(answer, Said::Done)
     }
 
     pub(super) fn window(&mut self, skipped: &[u8], chains: &[u8]) -> Outcome {
@@ -90,14 +121,18 @@ impl Library {
         let (skipped, chains) = (self.input(0, skipped), self.input(1, chains));
         let answer = self.answer.bytes_mut();
         // SAFETY: each pointer goes with its length.
-        let count =
-            unsafe { ffi::goosetable_window(skipped, lengths.0, chains, lengths.1, answer.as_mut_ptr(), answer.len()) };
-        self.wrote(count, 6)
+        let answer =
+            unsafe { sys::goosetable_window(skipped, lengths.0, chains, lengths.1, answer.as_mut_ptr(), answer.len()) };
+        self.wrote(answer, 6)
     }
 
     pub(super) fn row_read(&mut self, blob: &[u8]) -> Outcome {
         // SAFETY: the pointer goes with its length.
-        let row = unsafe { ffi::goosetable_row_read(self.input(0, blob), blob.len()) };
-        Outcome::only(Said::Row(held(row, blob)))
+        let read = unsafe { sys::goosetable_row_read(self.input(0, blob), blob.len()) };
+        let held = held(read, blob);
+        if row(&held) != read {
+            self.differences.push(format!("{read:?} for {held:?}"));
+        }
+        Outcome::only(Said::Row(held))
     }
 }

@@ -1,16 +1,17 @@
 //! Tombs, stored tombstones, reports and maintenance.
 
-use crate::{Library, ffi};
-use lent::Outcome;
+use crate::Library;
+use goosetable_sys as sys;
+use lent::{Outcome, Said};
 
 impl Library {
     pub(super) fn stored_tombstone(&mut self, tag: &[u8; 16], secret: &[u8; 16], expiry: u32) -> Outcome {
-        let (tag, secret) = (self.input(0, tag), self.input(1, secret));
+        let (tag, secret) = (self.input_array(0, tag), self.input_array(1, secret));
         let (tombstones, actions) = (self.tombstones.bytes_mut(), self.actions.bytes_mut());
         // SAFETY: each pointer goes with its length.
         let answer = unsafe {
-            ffi::goosetable_stored_tombstone(
-                self.device.into(),
+            sys::goosetable_stored_tombstone(
+                self.device.array_mut(),
                 tag,
                 secret,
                 expiry,
@@ -20,44 +21,44 @@ impl Library {
                 actions.len(),
             )
         };
-        self.answered(answer)
+        self.answered(answer, Said::Done)
     }
 
     pub(super) fn tomb(&mut self, peer: u64, tag: &[u8; 16], secret: &[u8; 16]) -> Outcome {
-        let (tag, secret) = (self.input(0, tag), self.input(1, secret));
+        let (tag, secret) = (self.input_array(0, tag), self.input_array(1, secret));
         let (tombstones, actions) = (self.tombstones.bytes_mut(), self.actions.bytes_mut());
         // SAFETY: each pointer goes with its length; the tables have their fixed ones, and no two areas are the same.
         let answer = unsafe {
-            ffi::goosetable_tomb(
-                self.device.into(),
+            sys::goosetable_tomb(
+                self.device.array_mut(),
                 peer,
                 tag,
                 secret,
-                self.contacts.bytes().as_ptr(),
-                self.own.bytes_mut().as_mut_ptr(),
-                self.carried.bytes_mut().as_mut_ptr(),
+                self.contacts.array(),
+                self.own.array_mut(),
+                self.carried.array_mut(),
                 tombstones.as_mut_ptr(),
                 tombstones.len(),
                 actions.as_mut_ptr(),
                 actions.len(),
             )
         };
-        self.answered(answer)
+        self.answered(answer, Said::Done)
     }
 
     pub(super) fn opened(&mut self, peer: u64, tag: &[u8; 16], secret: &[u8; 16], expiry: u32) -> Outcome {
-        let (tag, secret) = (self.input(0, tag), self.input(1, secret));
+        let (tag, secret) = (self.input_array(0, tag), self.input_array(1, secret));
         let tombstones = self.tombstones.bytes_mut();
         let (replies, actions) = (self.replies.bytes_mut(), self.actions.bytes_mut());
         // SAFETY: each pointer goes with its length; the table has its fixed one, and no two areas are the same.
         let answer = unsafe {
-            ffi::goosetable_opened(
-                self.device.into(),
+            sys::goosetable_opened(
+                self.device.array_mut(),
                 peer,
                 tag,
                 secret,
                 expiry,
-                self.contacts.bytes().as_ptr(),
+                self.contacts.array(),
                 tombstones.as_mut_ptr(),
                 tombstones.len(),
                 replies.as_mut_ptr(),
@@ -66,40 +67,40 @@ impl Library {
                 actions.len(),
             )
         };
-        self.answered(answer)
+        self.answered(answer, Said::Done)
     }
 
     pub(super) fn failed(&mut self, peer: u64, tag: &[u8; 16]) -> Outcome {
-        let tag = self.input(0, tag);
+        let tag = self.input_array(0, tag);
         let bad_tags = self.bad_tags.bytes_mut();
         // SAFETY: the pointer goes with its length; the table has its fixed one.
         let answer = unsafe {
-            ffi::goosetable_failed(
-                self.device.into(),
+            sys::goosetable_failed(
+                self.device.array_mut(),
                 peer,
                 tag,
-                self.contacts.bytes().as_ptr(),
+                self.contacts.array(),
                 bad_tags.as_mut_ptr(),
                 bad_tags.len(),
             )
         };
-        self.answered(answer)
+        self.answered(answer, Said::Done)
     }
 
     pub(super) fn maintenance(&mut self) -> Outcome {
         let (tombstones, actions) = (self.tombstones.bytes_mut(), self.actions.bytes_mut());
         // SAFETY: each pointer goes with its length; the tables have their fixed ones, and no two areas are the same.
         let answer = unsafe {
-            ffi::goosetable_maintenance(
-                self.device.into(),
-                self.own.bytes_mut().as_mut_ptr(),
-                self.carried.bytes_mut().as_mut_ptr(),
+            sys::goosetable_maintenance(
+                self.device.array_mut(),
+                self.own.array_mut(),
+                self.carried.array_mut(),
                 tombstones.as_mut_ptr(),
                 tombstones.len(),
                 actions.as_mut_ptr(),
                 actions.len(),
             )
         };
-        self.answered(answer)
+        self.answered(answer, Said::Done)
     }
 }

@@ -1,0 +1,146 @@
+//! Areas that no call left: every call answers, and every answer lies within the post's areas.
+
+use super::*;
+
+/// Numbers that look random: a linear congruential generator.
+struct Noise(u64);
+
+impl Noise {
+    fn next(&mut self) -> u64 {
+        self.0 = self
+            .0
+            .wrapping_mul(6364136223846793005)
+            .wrapping_add(1442695040888963407);
+        self.0 >> 33
+    }
+
+    /// Bytes that mostly count as small numbers, so that rows name cells, slots and tags that are there.
+    fn fill(&mut self, area: &mut [u8]) {
+        for byte in area {
+            let noise = self.next();
+            *byte = match noise % 4 {
+                0 => (noise >> 8) as u8,
+                1 => 0xff,
+                _ => (noise >> 16 & 1) as u8,
+            };
+        }
+    }
+
+    fn bytes(&mut self, len: usize) -> Box<[u8]> {
+        let mut area = vec![0; len];
+        self.fill(&mut area);
+        area.into_boxed_slice()
+    }
+
+    /// Areas of any bytes and of odd lengths, in which contact 5 is known.
+    fn areas(&mut self) -> Areas {
+        let mut areas = Areas::fresh(SIZES).unwrap();
+        self.fill(&mut areas.device);
+        self.fill(&mut *areas.contacts);
+        self.fill(&mut *areas.own);
+        self.fill(&mut *areas.carried);
+        areas.contacts[..9].copy_from_slice(&[0, 0, 0, 0, 0, 0, 0, 5, 1]);
+        areas.tombstones = self.bytes(1000);
+        areas.bad_tags = self.bytes(100);
+        areas.own_cells = self.bytes(2 * CELL + 7);
+        areas.carried_cells = self.bytes(3 * CELL - 9);
+        areas
+    }
+}
+
+/// Is a ciphertext a part of one of the post's cells?
+fn lies_within(areas: &Areas, ciphertext: &[u8]) -> bool {
+    let part = ciphertext.as_ptr_range();
+    ciphertext.is_empty()
+        || [&areas.own_cells, &areas.carried_cells]
+            .iter()
+            .map(|cells| cells.as_ptr_range())
+            .any(|cells| cells.start <= part.start && part.end <= cells.end)
+}
+
+/// Reads every reply of a whole meeting; answers how many envelopes brought bytes.
+fn offers(post: &mut Post) -> usize {
+    let mut exchange = Exchange::closed();
+    post.fresh_exchange(&mut exchange, VERIFIED).unwrap();
+    let record = post.inventory(&mut exchange, VERIFIED, &Window::EMPTY, &[]);
+    let Record::Taken(replies) = record.unwrap() else {
+        panic!("malformed");
+    };
+    let areas = replies.post().areas();
+    replies
+        .filter(|reply| match reply {
+            Reply::Envelope(envelope) => {
+                assert!(lies_within(areas, envelope.ciphertext));
+                !envelope.ciphertext.is_empty()
+            }
+            _ => false,
+        })
+        .count()
+}
+
+/// Makes the calls that list actions; answers how many they listed.
+fn changes(post: &mut Post) -> usize {
+    let tag = post.own_rows().next().map_or(tag(1), |row| row.tag);
+    let mut exchange = Exchange::closed();
+    post.fresh_exchange(&mut exchange, VERIFIED).unwrap();
+    let _ = post.inventory(&mut exchange, VERIFIED, &Window::EMPTY, &[]);
+    let handed = post.custody_code(&mut exchange, VERIFIED, tag, Custody::Accepted);
+    let mut count = handed.map_or(0, Actions::count);
+    count += match post.envelope(VERIFIED, envelope(0x77, 4), &Window::EMPTY) {
+        Ok(Received::Replied { actions, .. }) => actions.count(),
+        _ => 0,
+    };
+    count += match post.tomb(VERIFIED, tag, SECRET) {
+        Ok(Record::Taken(actions)) => actions.count(),
+        _ => 0,
+    };
+    let opened = post.opened(VERIFIED, tag, SECRET, 90);
+    count += opened.map_or(0, |opened| opened.actions.count());
+    count + post.maintenance().unwrap().count()
+}
+
+/// Makes the calls that read, of every row; answers how many bytes they gave.
+fn reads(post: &mut Post) -> usize {
+    let mut blob = [0; BLOB];
+    let mut prefixes = [[0; 8]; MAX_LISTED];
+    let mut file = vec![0; post.file_size()];
+    let mut count = post.save(&mut file).unwrap().len();
+    count += post
+        .inventory_of_ours(VERIFIED, &mut prefixes)
+        .unwrap()
+        .len();
+    let tags: Vec<_> = post.own_rows().map(|row| row.tag).collect();
+    for slot in [0, 1, 256, u64::MAX] {
+        count += post.row_blob(Slot(slot), &mut blob).map_or(0, <[u8]>::len);
+    }
+    for tag in tags {
+        if let Some(envelope) = post.fetch(VERIFIED, tag).unwrap() {
+            assert!(envelope.ciphertext.len() <= CELL);
+            count += envelope.ciphertext.len();
+        }
+    }
+    count
+}
+
+#[test]
+fn every_call_answers_on_any_bytes() {
+    let mut noise = Noise(1);
+    let (mut offered, mut changed, mut read) = (0, 0, 0);
+    for _ in 0..40 {
+        let mut post = Post::over(noise.areas()).unwrap();
+        let (counts, sizes) = (post.counts(), post.areas().sizes());
+        assert!(counts.contacts <= 256 && counts.own <= 256 && counts.carried <= 256);
+        assert!(counts.tombstones <= sizes.tombstone_rows && counts.bad_tags <= sizes.bad_tag_rows);
+        offered += offers(&mut post);
+        read += reads(&mut post);
+        let _ = post.load(&noise.bytes(200));
+        let _ = post.failed(VERIFIED, tag(1));
+        let _ = post.own_envelope(message(VERIFIED, 1, 7));
+        let _ = post.stored_tombstone(tag(3), SECRET, 90);
+        changed += changes(&mut post);
+    }
+    assert!(
+        0 < offered && 0 < changed && 0 < read,
+        "{offered} {changed} {read}"
+    );
+}

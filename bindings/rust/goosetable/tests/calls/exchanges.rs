@@ -1,0 +1,331 @@
+//! Exchanges: fresh exchange, inventories, custody codes.
+
+use super::*;
+
+fn opened(post: &Post, peer: ContactId) -> Exchange {
+    let mut exchange = Exchange::closed();
+    post.fresh_exchange(&mut exchange, peer).unwrap();
+    exchange
+}
+
+/// The replies to a whole inventory of a peer.
+fn meet<'a>(
+    post: &'a mut Post,
+    exchange: &mut Exchange,
+    peer: ContactId,
+    window: &Window,
+    prefixes: &[Prefix],
+) -> Vec<Reply<'a>> {
+    if !prefixes.is_empty() {
+        match post.inventory(exchange, peer, window, prefixes).unwrap() {
+            Record::Taken(replies) => assert_eq!(replies.len(), 0),
+            Record::Malformed => panic!("malformed"),
+        }
+    }
+    match post.inventory(exchange, peer, window, &[]).unwrap() {
+        Record::Taken(replies) => replies.collect(),
+        Record::Malformed => panic!("malformed"),
+    }
+}
+
+fn offers(post: &mut Post, exchange: &mut Exchange, peer: ContactId) -> Vec<(Tag, u8)> {
+    meet(post, exchange, peer, &Window::EMPTY, &[])
+        .into_iter()
+        .map(|reply| match reply {
+            Reply::Envelope(envelope) => (envelope.header.tag, envelope.header.copies),
+            other => panic!("{other:?}"),
+        })
+        .collect()
+}
+
+fn is_malformed(post: &mut Post, exchange: &mut Exchange, prefixes: &[Prefix]) -> bool {
+    let before = exchange.clone();
+    let record = post
+        .inventory(exchange, VERIFIED, &Window::EMPTY, prefixes)
+        .unwrap();
+    match record {
+        Record::Malformed => {
+            assert!(*exchange == before, "malformed leaves the exchange");
+            true
+        }
+        Record::Taken(_) => false,
+    }
+}
+
+#[test]
+fn an_exchange_is_opened_for_a_known_peer() {
+    let mut post = post();
+    let mut exchange = Exchange::closed();
+    assert_eq!(exchange.peer(), None);
+    post.fresh_exchange(&mut exchange, VERIFIED).unwrap();
+    assert_eq!(exchange.peer(), Some(VERIFIED));
+    let before = exchange.clone();
+    assert_eq!(
+        refused(&mut post, |post| post
+            .fresh_exchange(&mut exchange, STRANGER)),
+        2
+    );
+    assert!(exchange == before);
+}
+
+#[test]
+fn half_of_the_copies_is_offered_and_one_copy_never() {
+    let mut post = post();
+    for (byte, copies) in [(1, 1), (2, 2), (5, 5), (6, 6)] {
+        carry(&mut post, VERIFIED, envelope(byte, copies));
+    }
+    let mut exchange = opened(&post, UNVERIFIED);
+    assert_eq!(
+        offers(&mut post, &mut exchange, UNVERIFIED),
+        [(tag(2), 1), (tag(5), 2), (tag(6), 3)]
+    );
+    assert_eq!((exchange.offered(), exchange.is_complete()), (3, true));
+}
+
+#[test]
+fn an_expired_row_is_offered_until_maintenance() {
+    let mut post = post();
+    carry(&mut post, VERIFIED, envelope(1, 4));
+    post.set_clock(100 * 60);
+    let mut exchange = opened(&post, UNVERIFIED);
+    assert_eq!(offers(&mut post, &mut exchange, UNVERIFIED), [(tag(1), 2)]);
+    assert!(post.fetch(UNVERIFIED, tag(1)).unwrap().is_some());
+    assert_eq!(
+        listed(post.maintenance().unwrap()),
+        [Action::Delete(Slot(0))]
+    );
+    post.fresh_exchange(&mut exchange, UNVERIFIED).unwrap();
+    assert_eq!(offers(&mut post, &mut exchange, UNVERIFIED), []);
+}
+
+#[test]
+fn own_rows_are_offered_first_and_never_to_their_contact() {
+    let mut post = post();
+    carry(&mut post, VERIFIED, envelope(1, 4));
+    let own = post.own_envelope(message(VERIFIED, 1, 7)).unwrap().unwrap();
+    let mut exchange = opened(&post, VERIFIED);
+    assert_eq!(offers(&mut post, &mut exchange, VERIFIED), [(tag(1), 2)]);
+    let mut exchange = opened(&post, UNVERIFIED);
+    let replies = meet(&mut post, &mut exchange, UNVERIFIED, &Window::EMPTY, &[]);
+    let sealed: Vec<_> = replies
+        .iter()
+        .map(|reply| match reply {
+            Reply::Envelope(envelope) => (
+                envelope.header.tag,
+                envelope.header.commitment,
+                envelope.ciphertext,
+            ),
+            other => panic!("{other:?}"),
+        })
+        .collect();
+    assert_eq!(
+        sealed,
+        [
+            (own.tag, COMMITMENT, &[0x0e; 80][..]),
+            (tag(1), COMMITMENT, &[0xc7; 48][..]),
+        ]
+    );
+}
+
+#[test]
+fn a_listed_or_tombstoned_row_is_not_offered_but_is_in_our_inventory() {
+    let mut post = post();
+    for byte in 1..=3 {
+        carry(&mut post, VERIFIED, envelope(byte, 4));
+    }
+    carry(&mut post, VERIFIED, envelope(4, 1));
+    let own = post.own_envelope(message(VERIFIED, 1, 7)).unwrap().unwrap();
+    let _ = post.stored_tombstone(tag(2), SECRET, 90).unwrap();
+    let mut exchange = opened(&post, VERIFIED);
+    let replies = meet(
+        &mut post,
+        &mut exchange,
+        VERIFIED,
+        &Window::EMPTY,
+        &[tag(1).prefix()],
+    );
+    assert_eq!(replies.len(), 1);
+    let Reply::Envelope(offered) = replies[0] else {
+        panic!("{replies:?}");
+    };
+    assert_eq!(offered.header.tag, tag(3));
+
+    let mut area = [[0; 8]; MAX_LISTED];
+    let held = [1, 2, 3, 4].map(|byte| tag(byte).prefix());
+    assert_eq!(post.inventory_of_ours(VERIFIED, &mut area).unwrap(), held);
+    let for_others = post.inventory_of_ours(UNVERIFIED, &mut area).unwrap();
+    assert_eq!(for_others[0], own.tag.prefix());
+    assert_eq!(for_others[1..], held);
+    assert_eq!(
+        post.inventory_of_ours(STRANGER, &mut area),
+        Err(Refusal::UnknownContact)
+    );
+}
+
+#[test]
+fn fetches_follow_listed_order_then_tombs_then_offers() {
+    let mut post = post();
+    let window = Window::from_iter([
+        window_row(VERIFIED, 0, tag(0xa0)),
+        window_row(VERIFIED, 1, tag(0xa1)),
+    ]);
+    let _ = post.stored_tombstone(tag(0xdd), SECRET, 90).unwrap();
+    carry(&mut post, VERIFIED, envelope(1, 4));
+    let mut exchange = opened(&post, UNVERIFIED);
+    let prefixes = [0xa1, 0xdd, 0xa0, 0xa1].map(|byte| tag(byte).prefix());
+    let replies = meet(&mut post, &mut exchange, UNVERIFIED, &window, &prefixes);
+    assert_eq!(
+        replies[..4],
+        [
+            Reply::Fetch(tag(0xa1)),
+            Reply::Fetch(tag(0xa0)),
+            Reply::Fetch(tag(0xa1)),
+            Reply::Tomb {
+                tag: tag(0xdd),
+                secret: SECRET,
+            },
+        ]
+    );
+    assert_eq!(replies.len(), 5);
+    assert!(matches!(replies[4], Reply::Envelope(envelope) if envelope.header.tag == tag(1)));
+}
+
+#[test]
+fn a_bad_tag_is_not_fetched_from_its_peer_nor_looked_past() {
+    let mut post = post();
+    let mut twin = tag(0xa0);
+    twin.0[15] = 0;
+    let window = Window::from_iter([
+        window_row(VERIFIED, 0, tag(0xa0)),
+        window_row(VERIFIED, 1, twin),
+    ]);
+    post.failed(UNVERIFIED, tag(0xa0)).unwrap();
+    for (peer, fetches) in [
+        (UNVERIFIED, vec![]),
+        (VERIFIED, vec![Reply::Fetch(tag(0xa0))]),
+    ] {
+        let mut exchange = opened(&post, peer);
+        let replies = meet(&mut post, &mut exchange, peer, &window, &[twin.prefix()]);
+        assert_eq!(replies, fetches);
+    }
+}
+
+#[test]
+fn five_hundred_and_twelve_prefixes_are_fine_and_one_more_is_malformed() {
+    let mut post = post();
+    let mut exchange = opened(&post, VERIFIED);
+    assert!(!is_malformed(&mut post, &mut exchange, &[[0; 8]; 500]));
+    assert!(is_malformed(&mut post, &mut exchange, &[[0; 8]; 13]));
+    assert!(!is_malformed(&mut post, &mut exchange, &[[0; 8]; 12]));
+    assert_eq!((exchange.listed(), exchange.is_complete()), (512, false));
+    assert!(is_malformed(&mut post, &mut exchange, &[[0; 8]; 1]));
+    assert!(!is_malformed(&mut post, &mut exchange, &[]));
+    assert_eq!((exchange.listed(), exchange.is_complete()), (0, true));
+    assert!(is_malformed(&mut post, &mut exchange, &[]));
+    assert!(is_malformed(&mut post, &mut exchange, &[[0; 8]; 1]));
+}
+
+#[test]
+fn an_exchange_of_another_or_of_nobody_meets_3() {
+    let mut post = post();
+    for mut exchange in [opened(&post, UNVERIFIED), Exchange::closed()] {
+        let before = exchange.clone();
+        let inventory = |post: &mut Post| {
+            post.inventory(&mut exchange, VERIFIED, &Window::EMPTY, &[])
+                .map(drop)
+        };
+        assert_eq!(refused(&mut post, inventory), 3);
+        let code = |post: &mut Post| {
+            post.custody_code(&mut exchange, VERIFIED, tag(1), Custody::Accepted)
+                .map(drop)
+        };
+        assert_eq!(refused(&mut post, code), 3);
+        assert!(exchange == before);
+    }
+}
+
+#[test]
+fn inventories_meet_12_and_2_before_3() {
+    let mut post = post();
+    let mut exchange = Exchange::closed();
+    let falling = Window::from_iter([
+        window_row(VERIFIED, 1, tag(1)),
+        window_row(VERIFIED, 0, tag(2)),
+    ]);
+    let unknown = Window::from_iter([window_row(STRANGER, 0, tag(1))]);
+    for (window, number) in [(falling, 12), (unknown, 2), (Window::EMPTY, 3)] {
+        let call = |post: &mut Post| {
+            post.inventory(&mut exchange, VERIFIED, &window, &[])
+                .map(drop)
+        };
+        assert_eq!(refused(&mut post, call), number);
+    }
+}
+
+#[test]
+fn only_accepted_takes_copies_off_and_any_code_clears_the_offer() {
+    for (answer, left) in [
+        (Custody::Accepted, 3),
+        (Custody::Full, 5),
+        (Custody::Duplicate, 5),
+        (Custody::Off, 5),
+        (Custody::Invalid, 5),
+    ] {
+        let mut post = post();
+        let slot = carry(&mut post, VERIFIED, envelope(1, 5));
+        let mut exchange = opened(&post, UNVERIFIED);
+        offers(&mut post, &mut exchange, UNVERIFIED);
+        let actions = post.custody_code(&mut exchange, UNVERIFIED, tag(1), answer);
+        let put = if left < 5 {
+            vec![Action::Put(slot)]
+        } else {
+            vec![]
+        };
+        assert_eq!(listed(actions.unwrap()), put);
+        assert_eq!(carried(&post, slot).0.copies, left);
+        assert_eq!(exchange.offered(), 0);
+        let again = post.custody_code(&mut exchange, UNVERIFIED, tag(1), Custody::Accepted);
+        assert_eq!(listed(again.unwrap()), []);
+        assert_eq!(carried(&post, slot).0.copies, left);
+    }
+}
+
+#[test]
+fn three_peers_accepting_2_of_4_leave_0() {
+    let mut post = post();
+    carry(&mut post, VERIFIED, envelope(1, 4));
+    let peers = [VERIFIED, UNVERIFIED, COMPROMISED];
+    let mut open: Vec<_> = peers
+        .map(|peer| (peer, opened(&post, peer)))
+        .into_iter()
+        .collect();
+    for (peer, exchange) in &mut open {
+        assert_eq!(offers(&mut post, exchange, *peer), [(tag(1), 2)]);
+    }
+    let mut left = Vec::new();
+    for (peer, exchange) in &mut open {
+        let _ = post
+            .custody_code(exchange, *peer, tag(1), Custody::Accepted)
+            .unwrap();
+        let fetched = post.fetch(UNVERIFIED, tag(1)).unwrap().unwrap();
+        left.push(fetched.header.copies);
+    }
+    assert_eq!(left, [2, 0, 0]);
+}
+
+#[test]
+fn accepted_copies_of_an_own_row_are_an_own_put() {
+    let mut post = post();
+    let own = post.own_envelope(message(VERIFIED, 1, 7)).unwrap().unwrap();
+    let mut exchange = opened(&post, UNVERIFIED);
+    assert_eq!(offers(&mut post, &mut exchange, UNVERIFIED), [(own.tag, 3)]);
+    let actions = post
+        .custody_code(&mut exchange, UNVERIFIED, own.tag, Custody::Accepted)
+        .unwrap();
+    let left = actions.post().own_row(VERIFIED, 1).unwrap().copies;
+    let put = Action::OwnPut {
+        contact: VERIFIED,
+        message: 1,
+    };
+    assert_eq!((listed(actions), left), (vec![put], 3));
+}

@@ -1,0 +1,2 @@
+pub mod HostLaws
+pub mod StayLaws

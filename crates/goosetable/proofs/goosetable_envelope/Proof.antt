@@ -1,0 +1,15 @@
+-- By the law of small areas, from the call by value.
+use Rattle.envelope.specs.Answers.{envelopeSays}
+use Rattle.boundary.specs.Boundary.{deviceKept}
+use Rattle.host_answers.specs.HostAnswers.{envelopeAnswer}
+use Rattle.goosetable.proofs.HostLaws.{hosts}
+use borrow.Author.Needs.{needs}
+use Rattle.goosetable.proofs.goosetable_envelope.Statement.{statement}
+use Rattle.goosetable.proofs.goosetable_envelope.Tie as tie
+
+returns : tie.Need-returns
+returns c =
+    hosts deviceKept envelopeAnswer envelopeSays (c .envelope-answer .ensures) (c .before .before .before .before .before .before .before .before .before .before .before .before .before .before .before .device-of .ensures) (c .before .put-device .ensures .bytes) (c .before .put-device .ensures .holds) (c .before .before .before .before .before .before .before .before .before .before .envelope .ensures)
+
+pub goosetable-envelope-spec : {M : Type 1} → statement M
+goosetable-envelope-spec = tie.close (tie.spec (λ c κs. search needs) (λ c κs. search needs) (λ c κs. search needs) (λ c κs. search needs) (λ c. search needs) (λ c. search needs) (λ c. search needs) returns)

@@ -1,0 +1,15 @@
+-- By the law of small areas, from the call by value.
+use Rattle.maintenance.specs.Expiry.{maintainedOf}
+use Rattle.boundary.specs.Boundary.{deviceKept}
+use Rattle.host_answers.specs.HostAnswers.{maintainedAnswer}
+use Rattle.goosetable.proofs.HostLaws.{hosts}
+use borrow.Author.Needs.{needs}
+use Rattle.goosetable.proofs.goosetable_maintenance.Statement.{statement}
+use Rattle.goosetable.proofs.goosetable_maintenance.Tie as tie
+
+returns : tie.Need-returns
+returns c =
+    hosts deviceKept maintainedAnswer maintainedOf (c .maintained-answer .ensures) (c .before .before .before .before .before .before .before .before .before .before .before .before .before .device-of .ensures) (c .before .put-device .ensures .bytes) (c .before .put-device .ensures .holds) (c .before .before .before .before .before .before .before .before .maintain-couriers .ensures)
+
+pub goosetable-maintenance-spec : {M : Type 1} → statement M
+goosetable-maintenance-spec = tie.close (tie.spec (λ c κs. search needs) (λ c κs. search needs) (λ c κs. search needs) (λ c κs. search needs) (λ c. search needs) (λ c. search needs) returns)

@@ -1,0 +1,17 @@
+-- By the law of small areas, from the call by value.
+use mathlib.Core.Path.{refl, sym}
+use Rattle.saved.specs.Blobs.{blobSays}
+use Rattle.boundary.specs.Boundary.{deviceRead}
+use Rattle.host_answers.specs.HostAnswers.{blobAnswer}
+use Rattle.goosetable.proofs.HostLaws.{hosts}
+use borrow.Author.Needs.{needs}
+use Rattle.goosetable.proofs.goosetable_row_blob.Statement.{statement}
+use Rattle.goosetable.proofs.goosetable_row_blob.Tie as tie
+
+returns : tie.Need-returns
+returns c =
+    let held = c .before .before .before .before .before .device-of .ensures in
+    hosts deviceRead blobAnswer blobSays (c .blob-answer .ensures) held refl (sym held) (c .before .before .before .row-blob .ensures)
+
+pub goosetable-row-blob-spec : {M : Type 1} → statement M
+goosetable-row-blob-spec = tie.close (tie.spec (λ c κs. search needs) (λ c κs. search needs) (λ c κs. search needs) (λ c. search needs) returns)

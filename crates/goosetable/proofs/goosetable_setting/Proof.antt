@@ -1,0 +1,22 @@
+-- The byte is read, and then by the law of small areas, from the call by value.
+use mathlib.Core.Path.{refl}
+use native.Mathlib.Omega.{arith}
+use Rattle.contacts.specs.Answers.{saidOf}
+use Rattle.boundary.specs.Boundary.{deviceKept}
+use Rattle.host_answers.specs.HostAnswers.{contactAnswer}
+use Rattle.goosetable.specs.Hosts.{reads, unread}
+use Rattle.goosetable.proofs.HostLaws.{hosts, enabled-right, enabled-wrong}
+use borrow.Author.Needs.{needs}
+use Rattle.goosetable.proofs.goosetable_setting.Statement.{statement}
+use Rattle.goosetable.proofs.goosetable_setting.Tie as tie
+
+returns : tie.Need-returns
+returns c = unread (enabled-wrong _ (c .before .if1 .taken)) (record { answer = c .answer-of .ensures; areas = refl })
+
+returns-2 : tie.Need-returns-2
+returns-2 c =
+    reads _ (enabled-right _ (omega (arith, c .before .before .before .before .before .before .before .if1 .left)))
+    (hosts deviceKept contactAnswer saidOf (c .contact-answer .ensures) (c .before .before .before .before .before .device-of .ensures) (c .before .put-device .ensures .bytes) (c .before .put-device .ensures .holds) (c .before .before .before .before .setting .ensures))
+
+pub goosetable-setting-spec : {M : Type 1} → statement M
+goosetable-setting-spec = tie.close (tie.spec (λ c κs. search needs) returns (λ c κs. search needs) (λ c κs. search needs) (λ c κs. search needs) (λ c κs. search needs) returns-2)

@@ -1,0 +1,93 @@
+//! Two wall posts and a phone. An envelope goes from its sender over post A and post B to the phone, and the news of its delivery
+//! goes back the same way.
+#![forbid(unsafe_code)]
+
+mod meeting;
+mod party;
+mod sealing;
+
+use goosetable::{Chain, ContactId, Direction, MessageKey, OwnMessage, Secret, Window, WindowRow};
+use meeting::meet;
+use party::{Party, Problem};
+use sealing::{ROUTE_KEY, route_tag, seal};
+use std::process::ExitCode;
+
+const SENDER: ContactId = ContactId(1);
+const POST_A: ContactId = ContactId(2);
+const POST_B: ContactId = ContactId(3);
+const PHONE: ContactId = ContactId(4);
+
+const FIRST_KEY: MessageKey = MessageKey {
+    direction: Direction::Initiator,
+    generation: 0,
+    index: 0,
+};
+
+/// What opening the message gives away.
+const SECRET: Secret = Secret([0x5e; 16]);
+
+/// The phone awaits messages from the start of the sender's first chain.
+fn awaited() -> Result<Window, Problem> {
+    let chain = Chain {
+        direction: FIRST_KEY.direction,
+        generation: FIRST_KEY.generation,
+        next: 0,
+    };
+    let mut window = Window::EMPTY;
+    for key in goosetable::window(&[], &[chain])? {
+        let tag = route_tag(key)?;
+        let contact = SENDER;
+        window.push(WindowRow { contact, key, tag });
+    }
+    Ok(window)
+}
+
+/// The sender queues a message for the phone, and makes its envelope.
+fn send(sender: &mut Party, text: &str) -> Result<(), Problem> {
+    let message = OwnMessage {
+        contact: PHONE,
+        message: 1,
+        route_key: &ROUTE_KEY,
+        key: FIRST_KEY,
+        secret: SECRET,
+        ciphertext: &seal(SECRET, text),
+    };
+    let row = sender
+        .post
+        .own_envelope(message)?
+        .ok_or("no envelope was made")?;
+    println!(
+        "sender makes an envelope for the phone: tag {}, copies {}, until minute {}",
+        row.tag, row.copies, row.expiry_min
+    );
+    Ok(())
+}
+
+fn tell() -> Result<(), Problem> {
+    let mut sender = Party::new("sender", SENDER, &[POST_A, PHONE], Window::EMPTY)?;
+    let mut a = Party::new("post A", POST_A, &[SENDER, POST_B], Window::EMPTY)?;
+    let mut b = Party::new("post B", POST_B, &[POST_A, PHONE], Window::EMPTY)?;
+    let mut phone = Party::new("phone", PHONE, &[SENDER, POST_B], awaited()?)?;
+
+    send(&mut sender, "pump 3 is dry")?;
+    meet(&mut sender, &mut a)?;
+    meet(&mut a, &mut b)?;
+    b.restart()?;
+    meet(&mut b, &mut phone)?;
+    meet(&mut a, &mut b)?;
+    meet(&mut sender, &mut a)?;
+    for party in [&mut a, &mut b, &mut phone, &mut sender] {
+        party.maintain(1450)?;
+    }
+    Ok(())
+}
+
+fn main() -> ExitCode {
+    match tell() {
+        Ok(()) => ExitCode::SUCCESS,
+        Err(problem) => {
+            eprintln!("goosetable-example: {problem}");
+            ExitCode::FAILURE
+        }
+    }
+}

@@ -1,0 +1,637 @@
+/*
+ * goosetable.h: the courier holdings of a wall post, as libgoosetable.a has them.
+ *
+ * The library is for x86-64 with the System V calling convention. It allocates nothing, takes no lock, calls nothing but memcpy, memmove and
+ * memset, and keeps nothing between calls: all that a post has lies in areas that the host lends, so that posts with areas of their own may run
+ * in different threads at once.
+ *
+ * What is asked of a caller, and nothing else:
+ *
+ *   - no pointer is null, also where its length is 0;
+ *   - an area that a call writes (a pointer without const) overlaps no other area of the same call;
+ *   - an area with a size in brackets has at least that many bytes, and one with a length beside it has that many.
+ *
+ * Areas are bytes: any alignment, any length and any contents will do. What is wrong with them is answered by a refusal, and a row or a count
+ * that no call left is read as what fits. A refused call (1 to 13) changes no byte of any area.
+ *
+ * The device area is made by goosetable_fresh. An exchange area starts as zeros: an exchange that was opened for nobody; the areas for its
+ * prefixes and offers go with it. The other areas may hold anything at first: the counts in the device and exchange areas say how many rows
+ * of a table are there. R, the number of tombstone rows, and the numbers of cells and of bad-tag rows are the whole rows that fit their area.
+ *
+ * Numbers in areas are big-endian, rows stand one after the other without gaps, and this is how they lie (bytes in all, then field by field):
+ *
+ *   device      60: enabled 1, copies 1, lifetime 2, clock 8, contacts 8, own rows 8, carried rows 8, tombstones 8, bad tags 8, next slot 8
+ *   exchange    26: opened 1, complete 1, peer 8, listed prefixes 8, offers 8
+ *   contact      9: id 8, verification 1
+ *   own         54: contact 8, message number 4, tag 16, secret 16, expiry 4, copies 1, renewed 1, length 2, cell 2
+ *   carried     57: slot 8, depositor 8, tag 16, commitment 16, expiry 4, copies 1, length 2, cell 2
+ *   tombstone   44: slot 8, tag 16, secret 16, expiry 4
+ *   bad tag     24: peer 8, tag 16
+ *   window      30: contact 8, direction 1, generation 1, index 4, tag 16
+ *   offer       17: tag 16, copies 1
+ *   reply       40: kind 1, cell 2, body 37
+ *   action      13: kind 1, slot or contact 8, message number 4
+ *   chain       10: direction 1, generation 1, next 8
+ *   key          6: direction 1, generation 1, index 4
+ *
+ * The body of a reply begins with the tag (16). Then an envelope has commitment 16, expiry 4, copies 1; a custody reply the code 1; a tomb the
+ * secret 16; the rest is zeros. An expiry is in minutes; the minute is the clock's seconds / 60. A flag (enabled, opened, complete) is on unless
+ * its byte is 0, and a call that leaves a flag on or off leaves its byte.
+ *
+ * Each call's comment has what it does, what it writes, and the refusals in the order in which they are tested; the areas behind 1 are those
+ * that 1 speaks of, each asked for whole. "Stack" is what the call takes below its caller's frame, its return address included:
+ * examples/stack/run measures it on full areas, and compares it with the most that the library's code can take on any input.
+ *
+ * include/check holds this file against the source of the library.
+ */
+#ifndef GOOSETABLE_H
+#define GOOSETABLE_H
+
+#include <stddef.h>
+#include <stdint.h>
+
+#ifdef __cplusplus
+extern "C" {
+#endif
+
+/* ---- sizes in bytes */
+
+/* A tag, a commitment or a secret; the first bytes of a tag, which an inventory lists; a route key; the cell of a ciphertext. */
+#define GOOSETABLE_TAG_SIZE 16
+#define GOOSETABLE_PREFIX_SIZE 8
+#define GOOSETABLE_KEY_SIZE 32
+#define GOOSETABLE_CELL_SIZE 2064
+
+/* One row of each table. */
+#define GOOSETABLE_CONTACT_ROW 9
+#define GOOSETABLE_OWN_ROW 54
+#define GOOSETABLE_CARRIED_ROW 57
+#define GOOSETABLE_TOMBSTONE_ROW 44
+#define GOOSETABLE_BAD_TAG_ROW 24
+#define GOOSETABLE_WINDOW_ROW 30
+#define GOOSETABLE_OFFER_ROW 17
+#define GOOSETABLE_REPLY_ROW 40
+#define GOOSETABLE_ACTION_ROW 13
+#define GOOSETABLE_CHAIN_ROW 10
+#define GOOSETABLE_KEY_ROW 6
+
+/* The body of a reply, and a carried row's blob before its ciphertext. */
+#define GOOSETABLE_BODY_SIZE 37
+#define GOOSETABLE_CARRIED_HEAD 46
+
+/* The most rows of each table of fixed size, and the most cells of an area that count. */
+#define GOOSETABLE_MAX_ROWS 256
+/* The most prefixes that an exchange lists, and the most offers that it has. */
+#define GOOSETABLE_MAX_LISTED 512
+
+/* Areas of fixed size. */
+#define GOOSETABLE_DEVICE_SIZE 60
+#define GOOSETABLE_EXCHANGE_SIZE 26
+#define GOOSETABLE_CONTACTS_SIZE (GOOSETABLE_MAX_ROWS * GOOSETABLE_CONTACT_ROW)
+#define GOOSETABLE_OWN_SIZE (GOOSETABLE_MAX_ROWS * GOOSETABLE_OWN_ROW)
+#define GOOSETABLE_CARRIED_SIZE (GOOSETABLE_MAX_ROWS * GOOSETABLE_CARRIED_ROW)
+
+/* Areas that 1 speaks of: what they need at least. */
+#define GOOSETABLE_REPLIES_SIZE 61440
+#define GOOSETABLE_PREFIXES_SIZE 4096
+#define GOOSETABLE_OFFERS_SIZE 8704
+#define GOOSETABLE_KEYS_SIZE 3000
+#define GOOSETABLE_BLOB_SIZE 2110
+#define GOOSETABLE_ACTIONS_SIZE(r) (13 * (512 + (size_t)(r)))
+#define GOOSETABLE_FILE_SIZE(carried_cells, r) (10 + 2122 * (size_t)(carried_cells) + 49 * (size_t)(r))
+
+/* Areas with as many cells or rows as the host likes. */
+#define GOOSETABLE_CELLS_SIZE(cells) ((size_t)(cells) * GOOSETABLE_CELL_SIZE)
+#define GOOSETABLE_TOMBSTONES_SIZE(r) ((size_t)(r) * GOOSETABLE_TOMBSTONE_ROW)
+#define GOOSETABLE_BAD_TAGS_SIZE(rows) ((size_t)(rows) * GOOSETABLE_BAD_TAG_ROW)
+#define GOOSETABLE_WINDOW_SIZE(rows) ((size_t)(rows) * GOOSETABLE_WINDOW_ROW)
+
+/* ---- numbers by name */
+
+/* What a call says: done, why it is refused (1 to 13), or one of the last four. */
+enum goosetable_said {
+    GOOSETABLE_DONE = 0,
+    GOOSETABLE_REFUSED_SHORT_AREA = 1,            /* the reply, exchange, action, answer, blob or file area is shorter than above */
+    GOOSETABLE_REFUSED_UNKNOWN_CONTACT = 2,       /* the contact, or one in a window row, isn't known */
+    GOOSETABLE_REFUSED_WRONG_EXCHANGE = 3,        /* the exchange was opened for another contact or for none */
+    GOOSETABLE_REFUSED_NO_CELL = 4,               /* a row would be added and its cells are all used */
+    GOOSETABLE_REFUSED_NO_TOMBSTONE_ROW = 5,      /* a tombstone would be added and, after any deletion, all R rows are used */
+    GOOSETABLE_REFUSED_NO_SLOT = 6,               /* a new slot is needed and next slot is 2^64 - 1 */
+    GOOSETABLE_REFUSED_CONFIGURATION = 7,         /* configuration outside its range */
+    GOOSETABLE_REFUSED_SAVED_FILE = 8,            /* saved file: see goosetable_load */
+    GOOSETABLE_REFUSED_NO_BAD_TAG_ROW = 9,        /* a new bad tag and no row left */
+    GOOSETABLE_REFUSED_MESSAGE_NUMBER_TAKEN = 10, /* own row: message number already there */
+    GOOSETABLE_REFUSED_OWN_LENGTH = 11,           /* own ciphertext less 16 isn't 32, 64, 128, 256, 512, 1024, 2048 or 4048 */
+    GOOSETABLE_REFUSED_WINDOW_ROWS = 12,          /* not whole rows; a direction not I or R; keys not rising; over 500 skipped; a next above 2^32 */
+    GOOSETABLE_REFUSED_LOG_RECORD = 13,           /* a code, verification or enabled that is none; a 257th contact */
+    GOOSETABLE_MALFORMED = 128,                   /* what the peer sent is malformed */
+    GOOSETABLE_OURS = 129,                        /* the envelope is in the window */
+    GOOSETABLE_MISSING = 130,                     /* no such envelope, no such row */
+    GOOSETABLE_NO_ENVELOPE = 131                  /* the message gets no own envelope */
+};
+
+enum goosetable_verification {
+    GOOSETABLE_UNVERIFIED = 0,
+    GOOSETABLE_VERIFIED = 1,
+    GOOSETABLE_COMPROMISED = 2
+};
+
+/* The code that answers an envelope. */
+enum goosetable_custody {
+    GOOSETABLE_CUSTODY_ACCEPTED = 0,
+    GOOSETABLE_CUSTODY_FULL = 1,
+    GOOSETABLE_CUSTODY_DUPLICATE = 2,
+    GOOSETABLE_CUSTODY_OFF = 3,
+    GOOSETABLE_CUSTODY_INVALID = 4
+};
+
+/* What a reply tells the peer. */
+enum goosetable_reply {
+    GOOSETABLE_REPLY_FETCH = 0,    /* asks for the envelope of a tag */
+    GOOSETABLE_REPLY_ENVELOPE = 1, /* an envelope; its ciphertext is in the reply's cell: own from 0, carried from 256 */
+    GOOSETABLE_REPLY_CUSTODY = 2,  /* the code for an envelope */
+    GOOSETABLE_REPLY_TOMB = 3      /* the secret that proves a delivery */
+};
+
+/* What the host writes to its storage. */
+enum goosetable_action {
+    GOOSETABLE_ACTION_PUT = 0,    /* the held row in a slot: goosetable_row_blob has its bytes */
+    GOOSETABLE_ACTION_DELETE = 1, /* the held row in a slot goes */
+    GOOSETABLE_ACTION_OWN_PUT = 2 /* the queued message of a contact and message number */
+};
+
+/* What a held row is. */
+enum goosetable_kind {
+    GOOSETABLE_KIND_NONE = 0,
+    GOOSETABLE_KIND_CARRIED = 1,
+    GOOSETABLE_KIND_TOMBSTONE = 2
+};
+
+/* The direction of a message chain, named after the sender's role. */
+enum goosetable_direction {
+    GOOSETABLE_DIRECTION_I = 'I',
+    GOOSETABLE_DIRECTION_R = 'R'
+};
+
+/* ---- answers */
+
+/* The answer of every call. What a call does not speak of is 0. */
+typedef struct goosetable_answer {
+    uint64_t contact;   /* whose envelope it is, where it is ours */
+    size_t replies;     /* rows in front of the reply area */
+    size_t actions;     /* rows in front of the action area */
+    size_t length;      /* rows or bytes in front of another answer area, or bytes of a fetched ciphertext */
+    uint32_t idx;       /* index and generation of an envelope that is ours */
+    uint8_t generation;
+    uint8_t said;       /* enum goosetable_said */
+} goosetable_answer;
+
+/* A held row that was read. */
+typedef struct goosetable_row {
+    uint64_t depositor; /* 0 of a tombstone */
+    uint32_t expiry_min;
+    uint8_t tag[GOOSETABLE_TAG_SIZE];
+    uint8_t second[GOOSETABLE_TAG_SIZE]; /* a commitment or, of a tombstone, a secret */
+    uint8_t copies;     /* 0 of a tombstone */
+    uint8_t kind;       /* enum goosetable_kind */
+} goosetable_row;
+
+/* ---- what the host sets */
+
+/*
+ * A post with no row, contact or bad tag, next slot and clock 0, and the default setting: enabled, 6 copies, 1,440 minutes.
+ * Writes: device.
+ * Refused by: nothing.
+ * Stack: 8 bytes.
+ */
+void goosetable_fresh(uint8_t device[GOOSETABLE_DEVICE_SIZE]);
+
+/*
+ * Sets the clock, in seconds. Minute = seconds / 60, at most 2^32 - 1.
+ * Writes: device.
+ * Refused by: nothing.
+ * Stack: 128 bytes.
+ */
+goosetable_answer goosetable_clock(uint8_t device[GOOSETABLE_DEVICE_SIZE], uint64_t seconds);
+
+/*
+ * Sets whether the post carries for others (0 or 1, else 13), for how many copies at most (1 to 16) and for how many minutes (60 to 10,080).
+ * Writes: device.
+ * Refused by: 13, 7.
+ * Stack: 128 bytes.
+ */
+goosetable_answer goosetable_setting(uint8_t device[GOOSETABLE_DEVICE_SIZE], uint8_t enabled, uint8_t copies, uint16_t lifetime);
+
+/*
+ * Adds a contact, or alters one in its place. 13: a verification above 2, or a 257th contact.
+ * Writes: device, contacts.
+ * Refused by: 13.
+ * Stack: 160 bytes.
+ */
+goosetable_answer goosetable_contact(
+    uint8_t device[GOOSETABLE_DEVICE_SIZE],
+    uint64_t id,
+    uint8_t verification,
+    uint8_t contacts[GOOSETABLE_CONTACTS_SIZE]);
+
+/*
+ * A fresh exchange with a peer: nothing listed, nothing offered. Where it is refused the exchange stays as it is.
+ * Writes: exchange.
+ * Refused by: 1 (prefixes, offers), 2.
+ * Stack: 144 bytes.
+ */
+goosetable_answer goosetable_fresh_exchange(
+    const uint8_t device[GOOSETABLE_DEVICE_SIZE],
+    uint8_t exchange[GOOSETABLE_EXCHANGE_SIZE],
+    uint64_t peer,
+    const uint8_t contacts[GOOSETABLE_CONTACTS_SIZE],
+    const uint8_t *prefixes,
+    size_t prefixes_len,
+    const uint8_t *offers,
+    size_t offers_len);
+
+/* ---- envelopes */
+
+/*
+ * An envelope from a peer: tag, commitment c, expiry, copies, ciphertext ct. If the tag is in a window row it says OURS with contact, generation
+ * and index, and changes nothing; the host opens it and reports goosetable_opened or goosetable_failed. Else there is one custody reply. The
+ * tests are Off, Invalid, Duplicate, Full, and the first that applies is the code. Accepted gives one carried row, with copies and expiry the
+ * lesser of their own and the configured, its ciphertext in the first free cell, and one action, a put of its slot. 4 and 6 come only where the
+ * code would be Accepted.
+ * Writes: device, carried, carried_cells, replies, actions.
+ * Refused by: 1 (replies, actions), 12, 2, 4, 6.
+ * Stack: 304 bytes.
+ */
+goosetable_answer goosetable_envelope(
+    uint8_t device[GOOSETABLE_DEVICE_SIZE],
+    uint64_t peer,
+    const uint8_t tag[GOOSETABLE_TAG_SIZE],
+    const uint8_t c[GOOSETABLE_TAG_SIZE],
+    uint32_t expiry,
+    uint8_t copies,
+    const uint8_t *ct,
+    size_t ct_len,
+    const uint8_t *window,
+    size_t window_len,
+    const uint8_t contacts[GOOSETABLE_CONTACTS_SIZE],
+    const uint8_t own[GOOSETABLE_OWN_SIZE],
+    uint8_t carried[GOOSETABLE_CARRIED_SIZE],
+    const uint8_t *tombstones,
+    size_t tombstones_len,
+    uint8_t *carried_cells,
+    size_t carried_cells_len,
+    uint8_t *replies,
+    size_t replies_len,
+    uint8_t *actions,
+    size_t actions_len);
+
+/*
+ * A peer asks for the envelope of a tag: own rows that are not for this peer come first, then carried rows. The one reply is the envelope, its
+ * cell says where the ciphertext begins, and length is the ciphertext's; MISSING if there is none. It takes no copies off.
+ * Writes: replies.
+ * Refused by: 1 (replies), 2.
+ * Stack: 3,224 bytes.
+ */
+goosetable_answer goosetable_fetch(
+    const uint8_t device[GOOSETABLE_DEVICE_SIZE],
+    uint64_t peer,
+    const uint8_t tag[GOOSETABLE_TAG_SIZE],
+    const uint8_t contacts[GOOSETABLE_CONTACTS_SIZE],
+    const uint8_t own[GOOSETABLE_OWN_SIZE],
+    const uint8_t carried[GOOSETABLE_CARRIED_SIZE],
+    const uint8_t *own_cells,
+    size_t own_cells_len,
+    const uint8_t *carried_cells,
+    size_t carried_cells_len,
+    uint8_t *replies,
+    size_t replies_len);
+
+/*
+ * The envelope of a message that the host has queued for a contact: its tag is the one of the route key, direction (I or R, else 12), generation
+ * and index, its commitment that of the secret s, its copies and expiry the configured. The new own row also goes to row; it lists no action,
+ * since the host writes its queued message itself. NO_ENVELOPE, after 11 and before 4, if the ciphertext less 16 is 4,048 or 256 own rows are
+ * there.
+ * Writes: device, own, own_cells, row.
+ * Refused by: 12, 2, 10, 11, 4.
+ * Stack: 4,152 bytes.
+ */
+goosetable_answer goosetable_own_envelope(
+    uint8_t device[GOOSETABLE_DEVICE_SIZE],
+    uint64_t contact,
+    uint32_t msgno,
+    const uint8_t key[GOOSETABLE_KEY_SIZE],
+    uint8_t dir,
+    uint8_t generation,
+    uint32_t idx,
+    const uint8_t s[GOOSETABLE_TAG_SIZE],
+    const uint8_t *ct,
+    size_t ct_len,
+    const uint8_t contacts[GOOSETABLE_CONTACTS_SIZE],
+    uint8_t own[GOOSETABLE_OWN_SIZE],
+    uint8_t *own_cells,
+    size_t own_cells_len,
+    uint8_t row[GOOSETABLE_OWN_ROW]);
+
+/* ---- exchanges */
+
+/*
+ * The prefixes of the rows held here for a peer's inventory, and in length how many: own rows that are not for this peer, then carried rows,
+ * tombstoned too, copies of any number. The host sends them in lists of at most 500, and an empty one last.
+ * Writes: prefixes.
+ * Refused by: 1 (prefixes), 2.
+ * Stack: 144 bytes.
+ */
+goosetable_answer goosetable_inventory_of_ours(
+    const uint8_t device[GOOSETABLE_DEVICE_SIZE],
+    uint64_t peer,
+    const uint8_t contacts[GOOSETABLE_CONTACTS_SIZE],
+    const uint8_t own[GOOSETABLE_OWN_SIZE],
+    const uint8_t carried[GOOSETABLE_CARRIED_SIZE],
+    uint8_t *prefixes,
+    size_t prefixes_len);
+
+/*
+ * A list of prefixes from a peer, gathered in the exchange; the empty list is the terminator and is answered: fetches for listed prefixes in the
+ * window, in listed order, unless the tag of the first such row is bad for this peer; then the tombs of listed prefixes; then offers, which are
+ * envelopes with half of the copies, own rows before carried rows, but none with copies 1 or 0, of a tombstoned tag or a listed prefix, nor own
+ * ones for this peer. The row or a fetch of its tag says how long an offered ciphertext is. MALFORMED: over 512 prefixes in all, or any list
+ * after the terminator.
+ * Writes: exchange, prefixes, offers, replies.
+ * Refused by: 1 (replies, prefixes, offers), 12, 2, 3.
+ * Stack: 3,352 bytes.
+ */
+goosetable_answer goosetable_inventory(
+    const uint8_t device[GOOSETABLE_DEVICE_SIZE],
+    uint8_t exchange[GOOSETABLE_EXCHANGE_SIZE],
+    uint64_t peer,
+    const uint8_t contacts[GOOSETABLE_CONTACTS_SIZE],
+    const uint8_t own[GOOSETABLE_OWN_SIZE],
+    const uint8_t carried[GOOSETABLE_CARRIED_SIZE],
+    const uint8_t *tombstones,
+    size_t tombstones_len,
+    const uint8_t *bad_tags,
+    size_t bad_tags_len,
+    const uint8_t *window,
+    size_t window_len,
+    const uint8_t *listed,
+    size_t listed_len,
+    uint8_t *prefixes,
+    size_t prefixes_len,
+    uint8_t *offers,
+    size_t offers_len,
+    uint8_t *replies,
+    size_t replies_len);
+
+/*
+ * The custody code (0 to 4, else 13) that a peer answers an offer with. It clears the offer whatever the code; only Accepted takes the handed
+ * copies off, stopping at 0, of the carried row with the tag or else of the own row, and lists its put or own put.
+ * Writes: device, exchange, own, carried, offers, actions.
+ * Refused by: 13, 1 (prefixes, offers, actions), 2, 3.
+ * Stack: 288 bytes.
+ */
+goosetable_answer goosetable_custody_code(
+    uint8_t device[GOOSETABLE_DEVICE_SIZE],
+    uint8_t exchange[GOOSETABLE_EXCHANGE_SIZE],
+    uint64_t peer,
+    const uint8_t tag[GOOSETABLE_TAG_SIZE],
+    uint8_t code,
+    const uint8_t contacts[GOOSETABLE_CONTACTS_SIZE],
+    uint8_t own[GOOSETABLE_OWN_SIZE],
+    uint8_t carried[GOOSETABLE_CARRIED_SIZE],
+    const uint8_t *tombstones,
+    size_t tombstones_len,
+    const uint8_t *prefixes,
+    size_t prefixes_len,
+    uint8_t *offers,
+    size_t offers_len,
+    uint8_t *actions,
+    size_t actions_len);
+
+/* ---- tombstones */
+
+/*
+ * A tombstone to be stored, in a new slot. Nothing is stored if the tag has a tombstone. At 1,024 or more one of least expiry is deleted first,
+ * lowest slot among equals. Actions: that delete, and the put.
+ * Writes: device, tombstones, actions.
+ * Refused by: 1 (actions), 5, 6.
+ * Stack: 456 bytes.
+ */
+goosetable_answer goosetable_stored_tombstone(
+    uint8_t device[GOOSETABLE_DEVICE_SIZE],
+    const uint8_t tag[GOOSETABLE_TAG_SIZE],
+    const uint8_t s[GOOSETABLE_TAG_SIZE],
+    uint32_t expiry,
+    uint8_t *tombstones,
+    size_t tombstones_len,
+    uint8_t *actions,
+    size_t actions_len);
+
+/*
+ * A tomb from a peer: a tag, and the secret s that its commitment is of. A carried row with the tag is looked for first; it turns into a
+ * tombstone that retains its slot and expiry, and its put is listed. Else an own row is ended: an own put, and its tombstone is stored as by
+ * goosetable_stored_tombstone. A wrong secret is MALFORMED, an unknown tag changes nothing.
+ * Writes: device, own, carried, tombstones, actions.
+ * Refused by: 1 (actions), 2, 5, 6.
+ * Stack: 3,448 bytes.
+ */
+goosetable_answer goosetable_tomb(
+    uint8_t device[GOOSETABLE_DEVICE_SIZE],
+    uint64_t peer,
+    const uint8_t tag[GOOSETABLE_TAG_SIZE],
+    const uint8_t s[GOOSETABLE_TAG_SIZE],
+    const uint8_t contacts[GOOSETABLE_CONTACTS_SIZE],
+    uint8_t own[GOOSETABLE_OWN_SIZE],
+    uint8_t carried[GOOSETABLE_CARRIED_SIZE],
+    uint8_t *tombstones,
+    size_t tombstones_len,
+    uint8_t *actions,
+    size_t actions_len);
+
+/*
+ * The host opened an envelope that was ours: peer, tag, secret s, the envelope's expiry. The one reply is the tomb; its tombstone is stored as by
+ * goosetable_stored_tombstone, with the expiry at most the lifetime's end, and the actions are that call's.
+ * Writes: device, tombstones, replies, actions.
+ * Refused by: 1 (replies, actions), 2, 5, 6.
+ * Stack: 520 bytes.
+ */
+goosetable_answer goosetable_opened(
+    uint8_t device[GOOSETABLE_DEVICE_SIZE],
+    uint64_t peer,
+    const uint8_t tag[GOOSETABLE_TAG_SIZE],
+    const uint8_t s[GOOSETABLE_TAG_SIZE],
+    uint32_t expiry,
+    const uint8_t contacts[GOOSETABLE_CONTACTS_SIZE],
+    uint8_t *tombstones,
+    size_t tombstones_len,
+    uint8_t *replies,
+    size_t replies_len,
+    uint8_t *actions,
+    size_t actions_len);
+
+/*
+ * The host could not open an envelope that was ours. It says MALFORMED and adds the tag to those bad for this peer, once.
+ * Writes: device, bad_tags.
+ * Refused by: 2, 9.
+ * Stack: 192 bytes.
+ */
+goosetable_answer goosetable_failed(
+    uint8_t device[GOOSETABLE_DEVICE_SIZE],
+    uint64_t peer,
+    const uint8_t tag[GOOSETABLE_TAG_SIZE],
+    const uint8_t contacts[GOOSETABLE_CONTACTS_SIZE],
+    uint8_t *bad_tags,
+    size_t bad_tags_len);
+
+/* ---- maintenance */
+
+/*
+ * Own rows expired once are renewed, the second time dropped, each with an own put; then held rows with expiry at or before the minute go, each
+ * with a delete, by slot.
+ * Writes: device, own, carried, tombstones, actions.
+ * Refused by: 1 (actions).
+ * Stack: 304 bytes.
+ */
+goosetable_answer goosetable_maintenance(
+    uint8_t device[GOOSETABLE_DEVICE_SIZE],
+    uint8_t own[GOOSETABLE_OWN_SIZE],
+    uint8_t carried[GOOSETABLE_CARRIED_SIZE],
+    uint8_t *tombstones,
+    size_t tombstones_len,
+    uint8_t *actions,
+    size_t actions_len);
+
+/* ---- held rows as blobs, and the saved file */
+
+/*
+ * The blob of the held row in a slot, and in length its bytes; MISSING if no row has the slot. This is what the host stores for a put.
+ * Writes: blob.
+ * Refused by: 1 (blob).
+ * Stack: 224 bytes.
+ */
+goosetable_answer goosetable_row_blob(
+    const uint8_t device[GOOSETABLE_DEVICE_SIZE],
+    uint64_t slot,
+    const uint8_t carried[GOOSETABLE_CARRIED_SIZE],
+    const uint8_t *tombstones,
+    size_t tombstones_len,
+    const uint8_t *carried_cells,
+    size_t carried_cells_len,
+    uint8_t *blob,
+    size_t blob_len);
+
+/*
+ * The saved file, and in length its bytes: HN and the 8-byte next slot; then for each held row HC (carried) or HT (tombstone), 8-byte slot,
+ * 2-byte length, row blob. The area needs 10 + 2,122 per carried cell + 49 R bytes.
+ * Writes: file.
+ * Refused by: 1 (file).
+ * Stack: 2,368 bytes.
+ */
+goosetable_answer goosetable_save(
+    const uint8_t device[GOOSETABLE_DEVICE_SIZE],
+    const uint8_t carried[GOOSETABLE_CARRIED_SIZE],
+    const uint8_t *tombstones,
+    size_t tombstones_len,
+    const uint8_t *carried_cells,
+    size_t carried_cells_len,
+    uint8_t *file,
+    size_t file_len);
+
+/*
+ * Replaces the held rows and the next slot by those of a saved file, nothing else. 8: mark (its kind too), length or place of HN wrong, blob
+ * refused, slot twice or not below next slot, carried tag twice, unknown depositor, over 256 carried or 32 for one. A carried row with copies 0
+ * is saved, and its blob is refused.
+ * Writes: device, carried, tombstones, carried_cells.
+ * Refused by: 8, 4, 5.
+ * Stack: 656 bytes.
+ */
+goosetable_answer goosetable_load(
+    uint8_t device[GOOSETABLE_DEVICE_SIZE],
+    const uint8_t contacts[GOOSETABLE_CONTACTS_SIZE],
+    uint8_t carried[GOOSETABLE_CARRIED_SIZE],
+    uint8_t *tombstones,
+    size_t tombstones_len,
+    uint8_t *carried_cells,
+    size_t carried_cells_len,
+    const uint8_t *file,
+    size_t file_len);
+
+/* ---- functions of their inputs alone */
+
+/*
+ * The message keys that a receiver could still derive, as key rows, and in length how many: the skipped keys (key rows) first, then the chains
+ * (chain rows) last to first, each from its next on, 500 at most. The host makes window rows of them with its contact and the tags.
+ * Writes: answer.
+ * Refused by: 1 (answer), 12.
+ * Stack: 56 bytes.
+ */
+goosetable_answer goosetable_window(
+    const uint8_t *skipped,
+    size_t skipped_len,
+    const uint8_t *chains,
+    size_t chains_len,
+    uint8_t *answer,
+    size_t answer_len);
+
+/*
+ * The held row that a blob is of; kind 0 if it is of none. A carried row's ciphertext is the blob from GOOSETABLE_CARRIED_HEAD on.
+ * Writes: nothing.
+ * Refused by: nothing.
+ * Stack: 352 bytes.
+ */
+goosetable_row goosetable_row_read(const uint8_t *blob, size_t blob_len);
+
+/* ---- reading rows */
+
+/* The number in the first width bytes, at most 8. */
+static inline uint64_t goosetable_number(const uint8_t *bytes, size_t width)
+{
+    uint64_t number = 0;
+    size_t i;
+    for (i = 0; i < width; i++)
+        number = number << 8 | bytes[i];
+    return number;
+}
+
+/* Reply row i of an area: its kind, its cell, its body of GOOSETABLE_BODY_SIZE bytes. */
+static inline uint8_t goosetable_reply_kind(const uint8_t *replies, size_t i)
+{
+    return replies[i * GOOSETABLE_REPLY_ROW];
+}
+
+static inline uint16_t goosetable_reply_cell(const uint8_t *replies, size_t i)
+{
+    return (uint16_t)goosetable_number(replies + i * GOOSETABLE_REPLY_ROW + 1, 2);
+}
+
+static inline const uint8_t *goosetable_reply_body(const uint8_t *replies, size_t i)
+{
+    return replies + i * GOOSETABLE_REPLY_ROW + 3;
+}
+
+/* Where the cell of a reply begins in its area, which is the carried cells' from GOOSETABLE_MAX_ROWS on, else the own cells'. */
+static inline size_t goosetable_cell_start(uint16_t cell)
+{
+    return GOOSETABLE_CELLS_SIZE(cell < GOOSETABLE_MAX_ROWS ? cell : cell - GOOSETABLE_MAX_ROWS);
+}
+
+/* Action row i of an area: its kind, its slot or contact, its message number. */
+static inline uint8_t goosetable_action_kind(const uint8_t *actions, size_t i)
+{
+    return actions[i * GOOSETABLE_ACTION_ROW];
+}
+
+static inline uint64_t goosetable_action_number(const uint8_t *actions, size_t i)
+{
+    return goosetable_number(actions + i * GOOSETABLE_ACTION_ROW + 1, 8);
+}
+
+static inline uint32_t goosetable_action_msgno(const uint8_t *actions, size_t i)
+{
+    return (uint32_t)goosetable_number(actions + i * GOOSETABLE_ACTION_ROW + 9, 4);
+}
+
+#ifdef __cplusplus
+}
+#endif
+
+#endif
