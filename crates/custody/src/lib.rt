@@ -15,7 +15,7 @@ ghost use Rattle.model.specs.Areas.{Areas, view};
 ghost use Rattle.model.specs.Contacts.{minuteOf};
 ghost use Rattle.model.specs.Cells.{cellLength, freeCell};
 ghost use Rattle.model.specs.Window.{windowRows, lookup, wrongDirection, keyBelow, keysRise, wrongWindow, isBad};
-ghost use Rattle.custody.specs.Named.{cellsNamed};
+ghost use Rattle.custody.specs.Named.{cellsNamed, Marked};
 ghost use Rattle.model.specs.Custody.{ownOfTag, carriedOfTag, maxCarriedBytes, envelopeHeader, quota, duplicate, deposited, carriedTotal, full, custodyOf};
 use chain::no_dir;
 use contacts::is_verified;
@@ -185,29 +185,34 @@ pub fn full(
 
 // ---- the cell of a new row
 
-fn names_cell(area: &[u8], width: usize, n: usize, offset: usize, cell: usize) -> bool
+// Which of 256 cells the rows name. A row may name any number: one past them marks nothing.
+fn mark_cells(area: &[u8], width: usize, n: usize, offset: usize) -> [u8; 256]
     requires { ⌜ (n * width ≤ length (now area)) × (offset + 2 ≤ width) ⌝ }
-    ensures { λ r. ⌜ r ≡ any (λ k. eqb k cell) (cellsNamed width offset n (now (area .entry))) ⌝ }
+    ensures { λ r. ⌜ Marked (cellsNamed width offset n (now (area .entry))) r ⌝ }
 {
+    let mut marks = [0; 256];
     let mut i = 0;
     while i < n {
-        if octets::get_u16(area, i * width + offset) as usize == cell {
-            return true;
+        let cell = octets::get_u16(area, i * width + offset) as usize;
+        if cell < 256 {
+            marks[cell] = 1;
         }
         i += 1;
     }
-    false
+    marks
 }
 
 // The first cell that no row names, in a cell area of size bytes: up to 256 cells count.
+// One pass over the rows marks what they name, so that the time grows with the rows and not with their square.
 fn free_cell(area: &[u8], width: usize, n: usize, offset: usize, size: usize) -> Found
     requires { ⌜ (n * width ≤ length (now area)) × (offset + 2 ≤ width) ⌝ }
     ensures { λ r. ⌜ r ≡ freeCell size (cellsNamed width offset n (now (area .entry))) ⌝ }
 {
     let cells = least(256, size / 2064);
+    let marks = mark_cells(area, width, n, offset);
     let mut i = 0;
     while i < cells {
-        if !names_cell(area, width, n, offset, i) {
+        if marks[i] == 0 {
             return Found::At(i);
         }
         i += 1;

@@ -114,10 +114,13 @@ pub fn replace(area: &mut [u8], width: usize, n: usize, i: usize, row: &[u8])
     octets::copy_in(area, i * width, row);
 }
 
-// Moves row i down to place k. A loop that calls it for each row that a test keeps, k counting them, takes the others out.
+// Moves row i down to place k, if it is not there. A loop that calls it for each row that a test keeps, k counting them, takes the others out.
 pub fn keep_row(area: &mut [u8], width: usize, k: usize, i: usize)
     requires { ⌜ (k ≤ i) × (i * width + width ≤ length (now area)) ⌝ }
     ensures { λ _. ⌜ now (area .exit) ≡ splice (now (area .entry)) (k * width) (part (now (area .entry)) (i * width) width) ⌝ }
 {
+    if k == i {
+        return;
+    }
     octets::move_down(area, k * width, i * width, width);
 }

@@ -22,4 +22,11 @@ returns c =
     whole (number 8 _ (number 8 _ (number 8 _ (number 8 _ (number 8 _ (number 8 _ (number 8 _ (number 2 _ (number 1 _ (number 1 _ start (p1 .put-u8 .ensures)) (p2 .put-u82 .ensures)) (p3 .put-u16 .ensures)) (p4 .put-u64 .ensures)) (p5 .put-u642 .ensures)) (p6 .put-u643 .ensures)) (p7 .put-u644 .ensures)) (p8 .put-u645 .ensures)) (p9 .put-u646 .ensures)) (p10 .put-u647 .ensures)) refl
 
 pub device-bytes-spec : {M : Type 1} → statement M
-device-bytes-spec = tie.close (tie.spec (λ c. search needs) (λ c κs. search needs) (λ c. search needs) (λ c κs. search needs) (λ c. search needs) (λ c κs. search needs) (λ c. search needs) (λ c κs. search needs) (λ c. search needs) (λ c κs. search needs) (λ c. search needs) (λ c κs. search needs) (λ c. search needs) (λ c κs. search needs) (λ c. search needs) (λ c κs. search needs) (λ c. search needs) (λ c κs. search needs) (λ c. search needs) (λ c κs. search needs) returns)
+device-bytes-spec =
+    tie.close
+    (tie.spec
+    (λ c. search needs) (λ c κs. search needs) (λ c. search needs) (λ c κs. search needs) (λ c. search needs)
+    (λ c κs. search needs) (λ c. search needs) (λ c κs. search needs) (λ c. search needs) (λ c κs. search needs)
+    (λ c. search needs) (λ c κs. search needs) (λ c. search needs) (λ c κs. search needs) (λ c. search needs)
+    (λ c κs. search needs) (λ c. search needs) (λ c κs. search needs) (λ c. search needs) (λ c κs. search needs)
+    returns)

@@ -17,4 +17,9 @@ returns c =
     whole (number 8 _ (number 8 _ (number 8 _ (number 1 _ (number 1 _ start (p1 .put-u8 .ensures)) (p2 .put-u82 .ensures)) (p3 .put-u64 .ensures)) (p4 .put-u642 .ensures)) (p5 .put-u643 .ensures)) refl
 
 pub exchange-bytes-spec : {M : Type 1} → statement M
-exchange-bytes-spec = tie.close (tie.spec (λ c. search needs) (λ c κs. search needs) (λ c. search needs) (λ c κs. search needs) (λ c. search needs) (λ c κs. search needs) (λ c. search needs) (λ c κs. search needs) (λ c. search needs) (λ c κs. search needs) returns)
+exchange-bytes-spec =
+    tie.close
+    (tie.spec
+    (λ c. search needs) (λ c κs. search needs) (λ c. search needs) (λ c κs. search needs) (λ c. search needs)
+    (λ c κs. search needs) (λ c. search needs) (λ c κs. search needs) (λ c. search needs) (λ c κs. search needs)
+    returns)

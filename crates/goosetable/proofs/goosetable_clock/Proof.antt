@@ -9,7 +9,13 @@ use Rattle.goosetable.proofs.goosetable_clock.Tie as tie
 
 returns : tie.Need-returns
 returns c =
-    hosts deviceKept contactAnswer saidOf (c .contact-answer .ensures) (c .before .before .before .before .before .device-of .ensures) (c .before .put-device .ensures .bytes) (c .before .put-device .ensures .holds) (c .before .before .before .before .clock .ensures)
+    let put = c .before in
+    let call = put .before .before .before in
+    let held = call .before in
+    hosts deviceKept contactAnswer saidOf (c .contact-answer .ensures) (held .device-of .ensures) (put .put-device .ensures .bytes) (put .put-device .ensures .holds) (call .clock .ensures)
 
 pub goosetable-clock-spec : {M : Type 1} → statement M
-goosetable-clock-spec = tie.close (tie.spec (λ c κs. search needs) (λ c κs. search needs) (λ c κs. search needs) (λ c κs. search needs) returns)
+goosetable-clock-spec =
+    tie.close
+    (tie.spec
+    (λ c κs. search needs) (λ c κs. search needs) (λ c κs. search needs) (λ c κs. search needs) returns)

@@ -11,12 +11,23 @@ use Rattle.goosetable.proofs.goosetable_contact.Tie as tie
 
 returns : tie.Need-returns
 returns c =
-    unread (sym (c .before .before .before .verification-of .ensures) ∙ ap verificationRead (c .before .enum-told .given .1)) (record { answer = c .answer-of .ensures; areas = refl })
+    let told = c .before in
+    let read = told .before .before in
+    unread (sym (read .verification-of .ensures) ∙ ap verificationRead (told .enum-told .given .1)) (record { answer = c .answer-of .ensures; areas = refl })
 
 returns-2 : tie.Need-returns-2
 returns-2 c =
-    reads _ (sym (c .before .before .before .before .before .before .before .before .before .before .before .verification-of .ensures) ∙ ap verificationRead (c .before .before .before .before .before .before .before .before .before .v .given .1))
-    (hosts deviceKept contactAnswer saidOf (c .contact-answer .ensures) (c .before .before .before .before .before .before .device-of .ensures) (c .before .put-device .ensures .bytes) (c .before .put-device .ensures .holds) (c .before .before .before .before .contact .ensures))
+    let put = c .before in
+    let call = put .before .before .before in
+    let held = call .before .before in
+    let given = held .before .before .before in
+    let read = given .before .before in
+    reads _ (sym (read .verification-of .ensures) ∙ ap verificationRead (given .v .given .1))
+    (hosts deviceKept contactAnswer saidOf (c .contact-answer .ensures) (held .device-of .ensures) (put .put-device .ensures .bytes) (put .put-device .ensures .holds) (call .contact .ensures))
 
 pub goosetable-contact-spec : {M : Type 1} → statement M
-goosetable-contact-spec = tie.close (tie.spec (λ c κs. search needs) (λ c. search needs) (λ c. search needs) (λ c κs. search needs) returns (λ c κs. search needs) (λ c κs. search needs) (λ c κs. search needs) (λ c κs. search needs) returns-2)
+goosetable-contact-spec =
+    tie.close
+    (tie.spec
+    (λ c κs. search needs) (λ c. search needs) (λ c. search needs) (λ c κs. search needs) returns
+    (λ c κs. search needs) (λ c κs. search needs) (λ c κs. search needs) (λ c κs. search needs) returns-2)

@@ -11,12 +11,26 @@ use Rattle.goosetable.proofs.goosetable_custody_code.Tie as tie
 
 returns : tie.Need-returns
 returns c =
-    unread (ap codeRead (sym (c .before .before .before .from-code .ensures) ∙ c .before .enum-told .given .1)) (record { answer = c .answer-of .ensures; areas = refl })
+    let told = c .before in
+    let read = told .before .before in
+    unread (ap codeRead (sym (read .from-code .ensures) ∙ told .enum-told .given .1)) (record { answer = c .answer-of .ensures; areas = refl })
 
 returns-2 : tie.Need-returns-2
 returns-2 c =
-    reads _ (ap codeRead (sym (c .before .before .before .before .before .before .before .before .before .before .before .before .before .before .before .before .before .before .before .before .before .before .before .before .from-code .ensures) ∙ c .before .before .before .before .before .before .before .before .before .before .before .before .before .before .before .before .before .before .before .before .before .before .k .given .1))
-    (hosts-both codeAnswer says (c .code-answer .ensures) (c .before .before .before .before .before .before .before .before .before .before .before .before .before .before .before .before .before .before .before .device-of .ensures) (c .before .before .before .before .before .before .before .before .before .before .before .before .before .before .before .before .before .exchange-of .ensures) (c .before .before .before .put-device .ensures) (c .before .put-exchange .ensures) (c .before .before .before .before .before .before .before .before .before .before .before .handed-over .ensures))
+    let left = c .before in
+    let put = left .before .before in
+    let call = put .before .before .before .before .before .before .before .before in
+    let stood = call .before .before .before .before .before .before in
+    let held = stood .before .before in
+    let given = held .before .before .before in
+    let read = given .before .before in
+    reads _ (ap codeRead (sym (read .from-code .ensures) ∙ given .k .given .1))
+    (hosts-both codeAnswer says (c .code-answer .ensures) (held .device-of .ensures) (stood .exchange-of .ensures) (put .put-device .ensures) (left .put-exchange .ensures) (call .handed-over .ensures))
 
 pub goosetable-custody-code-spec : {M : Type 1} → statement M
-goosetable-custody-code-spec = tie.close (tie.spec (λ c κs. search needs) (λ c. search needs) (λ c. search needs) (λ c κs. search needs) returns (λ c κs. search needs) (λ c κs. search needs) (λ c κs. search needs) (λ c κs. search needs) (λ c κs. search needs) (λ c κs. search needs) (λ c. search needs) (λ c. search needs) returns-2)
+goosetable-custody-code-spec =
+    tie.close
+    (tie.spec
+    (λ c κs. search needs) (λ c. search needs) (λ c. search needs) (λ c κs. search needs) returns
+    (λ c κs. search needs) (λ c κs. search needs) (λ c κs. search needs) (λ c κs. search needs) (λ c κs. search needs)
+    (λ c κs. search needs) (λ c. search needs) (λ c. search needs) returns-2)

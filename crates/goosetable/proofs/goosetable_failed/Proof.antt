@@ -9,7 +9,14 @@ use Rattle.goosetable.proofs.goosetable_failed.Tie as tie
 
 returns : tie.Need-returns
 returns c =
-    hosts deviceKept (tombAnswer 0) tombSays (c .tomb-answer .ensures) (c .before .before .before .before .before .before .before .before .before .device-of .ensures) (c .before .put-device .ensures .bytes) (c .before .put-device .ensures .holds) (c .before .before .before .before .before .before .report-failed .ensures)
+    let put = c .before in
+    let call = put .before .before .before .before .before in
+    let held = call .before .before .before in
+    hosts deviceKept (tombAnswer 0) tombSays (c .tomb-answer .ensures) (held .device-of .ensures) (put .put-device .ensures .bytes) (put .put-device .ensures .holds) (call .report-failed .ensures)
 
 pub goosetable-failed-spec : {M : Type 1} → statement M
-goosetable-failed-spec = tie.close (tie.spec (λ c κs. search needs) (λ c κs. search needs) (λ c κs. search needs) (λ c κs. search needs) (λ c. search needs) returns)
+goosetable-failed-spec =
+    tie.close
+    (tie.spec
+    (λ c κs. search needs) (λ c κs. search needs) (λ c κs. search needs) (λ c κs. search needs) (λ c. search needs)
+    returns)

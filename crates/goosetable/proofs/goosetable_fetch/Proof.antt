@@ -10,8 +10,12 @@ use Rattle.goosetable.proofs.goosetable_fetch.Tie as tie
 
 returns : tie.Need-returns
 returns c =
-    let held = c .before .before .before .before .before .before .before .device-of .ensures in
-    hosts deviceRead fetchedAnswer (fetchSays _ _) (c .fetch-answer .ensures) held refl (sym held) (c .before .before .before .fetch .ensures)
+    let call = c .before .before .before in
+    let held = call .before .before .before .before .device-of .ensures in
+    hosts deviceRead fetchedAnswer (fetchSays _ _) (c .fetch-answer .ensures) held refl (sym held) (call .fetch .ensures)
 
 pub goosetable-fetch-spec : {M : Type 1} → statement M
-goosetable-fetch-spec = tie.close (tie.spec (λ c κs. search needs) (λ c κs. search needs) (λ c κs. search needs) (λ c. search needs) returns)
+goosetable-fetch-spec =
+    tie.close
+    (tie.spec
+    (λ c κs. search needs) (λ c κs. search needs) (λ c κs. search needs) (λ c. search needs) returns)

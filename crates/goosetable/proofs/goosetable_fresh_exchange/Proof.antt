@@ -8,7 +8,16 @@ use Rattle.goosetable.proofs.goosetable_fresh_exchange.Tie as tie
 
 returns : tie.Need-returns
 returns c =
-    hosts-exchange openedAnswer openedOf (c .opened-answer .ensures) (c .before .before .before .before .before .before .before .device-of .ensures) (c .before .before .before .before .before .exchange-of .ensures) (held-as (c .before .before .exchange-after .ensures) (c .before .put-exchange .ensures)) (c .before .before .before .before .fresh-exchange .ensures _)
+    let left = c .before in
+    let next = left .before in
+    let call = next .before .before in
+    let stood = call .before in
+    let held = stood .before .before in
+    hosts-exchange openedAnswer openedOf (c .opened-answer .ensures) (held .device-of .ensures) (stood .exchange-of .ensures) (held-as (next .exchange-after .ensures) (left .put-exchange .ensures)) (call .fresh-exchange .ensures _)
 
 pub goosetable-fresh-exchange-spec : {M : Type 1} → statement M
-goosetable-fresh-exchange-spec = tie.close (tie.spec (λ c κs. search needs) (λ c κs. search needs) (λ c κs. search needs) (λ c κs. search needs) (λ c κs. search needs) (λ c κs. search needs) returns)
+goosetable-fresh-exchange-spec =
+    tie.close
+    (tie.spec
+    (λ c κs. search needs) (λ c κs. search needs) (λ c κs. search needs) (λ c κs. search needs) (λ c κs. search needs)
+    (λ c κs. search needs) returns)

@@ -8,7 +8,15 @@ use Rattle.goosetable.proofs.goosetable_inventory.Tie as tie
 
 returns : tie.Need-returns
 returns c =
-    hosts-exchange inventoryAnswer receivedSays (c .inventory-answer .ensures) (c .before .before .before .before .before .before .before .before .before .before .before .before .before .before .before .before .device-of .ensures) (c .before .before .before .before .before .before .before .before .before .before .before .before .before .before .exchange-of .ensures) (c .before .put-exchange .ensures) (c .before .before .before .before .before .before .before .before .before .before .receive-inventory .ensures)
+    let left = c .before in
+    let call = left .before .before .before .before .before .before .before .before .before in
+    let stood = call .before .before .before .before in
+    let held = stood .before .before in
+    hosts-exchange inventoryAnswer receivedSays (c .inventory-answer .ensures) (held .device-of .ensures) (stood .exchange-of .ensures) (left .put-exchange .ensures) (call .receive-inventory .ensures)
 
 pub goosetable-inventory-spec : {M : Type 1} → statement M
-goosetable-inventory-spec = tie.close (tie.spec (λ c κs. search needs) (λ c κs. search needs) (λ c κs. search needs) (λ c κs. search needs) (λ c κs. search needs) (λ c. search needs) (λ c. search needs) (λ c. search needs) returns)
+goosetable-inventory-spec =
+    tie.close
+    (tie.spec
+    (λ c κs. search needs) (λ c κs. search needs) (λ c κs. search needs) (λ c κs. search needs) (λ c κs. search needs)
+    (λ c. search needs) (λ c. search needs) (λ c. search needs) returns)

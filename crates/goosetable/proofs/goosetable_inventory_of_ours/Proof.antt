@@ -10,8 +10,12 @@ use Rattle.goosetable.proofs.goosetable_inventory_of_ours.Tie as tie
 
 returns : tie.Need-returns
 returns c =
-    let held = c .before .before .before .before .before .device-of .ensures in
-    hosts deviceRead listedAnswer inventorySays (c .listed-answer .ensures) held refl (sym held) (c .before .before .before .inventory .ensures)
+    let call = c .before .before .before in
+    let held = call .before .before .device-of .ensures in
+    hosts deviceRead listedAnswer inventorySays (c .listed-answer .ensures) held refl (sym held) (call .inventory .ensures)
 
 pub goosetable-inventory-of-ours-spec : {M : Type 1} → statement M
-goosetable-inventory-of-ours-spec = tie.close (tie.spec (λ c κs. search needs) (λ c κs. search needs) (λ c κs. search needs) (λ c. search needs) returns)
+goosetable-inventory-of-ours-spec =
+    tie.close
+    (tie.spec
+    (λ c κs. search needs) (λ c κs. search needs) (λ c κs. search needs) (λ c. search needs) returns)

@@ -11,13 +11,26 @@ use Rattle.goosetable.proofs.goosetable_own_envelope.Tie as tie
 
 returns : tie.Need-returns
 returns c =
-    unread (ap dirRead (sym (c .before .before .before .from-label .ensures) ∙ c .before .enum-told .given .1)) (record { answer = c .answer-of .ensures; areas = refl })
+    let told = c .before in
+    let read = told .before .before in
+    unread (ap dirRead (sym (read .from-label .ensures) ∙ told .enum-told .given .1)) (record { answer = c .answer-of .ensures; areas = refl })
 
 returns-2 : tie.Need-returns-2
 returns-2 c =
-    reads _ (ap dirRead (sym (c .before .before .before .before .before .before .before .before .before .before .before .before .before .before .before .before .before .before .before .from-label .ensures) ∙ c .before .before .before .before .before .before .before .before .before .before .before .before .before .before .before .before .before .d .given .1))
-    (hosts deviceKept (ownAnswers _) answerOf (λ i. (c .own-answer .ensures (c .before .before .before .before .before .before .before .before .before .own-envelope .result .row) i, c .before .own-row .ensures i)) (c .before .before .before .before .before .before .before .before .before .before .before .before .before .before .device-of .ensures) (c .before .before .before .put-device .ensures .bytes)
-    (c .before .before .before .put-device .ensures .holds) (c .before .before .before .before .before .before .before .before .before .own-envelope .ensures))
+    let row = c .before in
+    let put = row .before .before in
+    let call = put .before .before .before .before .before .before in
+    let held = call .before .before .before .before .before in
+    let given = held .before .before .before in
+    let read = given .before .before in
+    reads _ (ap dirRead (sym (read .from-label .ensures) ∙ given .d .given .1))
+    (hosts deviceKept (ownAnswers _) answerOf (λ i. (c .own-answer .ensures (call .own-envelope .result .row) i, row .own-row .ensures i)) (held .device-of .ensures) (put .put-device .ensures .bytes)
+    (put .put-device .ensures .holds) (call .own-envelope .ensures))
 
 pub goosetable-own-envelope-spec : {M : Type 1} → statement M
-goosetable-own-envelope-spec = tie.close (tie.spec (λ c κs. search needs) (λ c. search needs) (λ c. search needs) (λ c κs. search needs) returns (λ c κs. search needs) (λ c κs. search needs) (λ c κs. search needs) (λ c κs. search needs) (λ c κs. search needs) (λ c. search needs) returns-2)
+goosetable-own-envelope-spec =
+    tie.close
+    (tie.spec
+    (λ c κs. search needs) (λ c. search needs) (λ c. search needs) (λ c κs. search needs) returns
+    (λ c κs. search needs) (λ c κs. search needs) (λ c κs. search needs) (λ c κs. search needs) (λ c κs. search needs)
+    (λ c. search needs) returns-2)

@@ -10,8 +10,12 @@ use Rattle.goosetable.proofs.goosetable_row_blob.Tie as tie
 
 returns : tie.Need-returns
 returns c =
-    let held = c .before .before .before .before .before .device-of .ensures in
-    hosts deviceRead blobAnswer blobSays (c .blob-answer .ensures) held refl (sym held) (c .before .before .before .row-blob .ensures)
+    let call = c .before .before .before in
+    let held = call .before .before .device-of .ensures in
+    hosts deviceRead blobAnswer blobSays (c .blob-answer .ensures) held refl (sym held) (call .row-blob .ensures)
 
 pub goosetable-row-blob-spec : {M : Type 1} → statement M
-goosetable-row-blob-spec = tie.close (tie.spec (λ c κs. search needs) (λ c κs. search needs) (λ c κs. search needs) (λ c. search needs) returns)
+goosetable-row-blob-spec =
+    tie.close
+    (tie.spec
+    (λ c κs. search needs) (λ c κs. search needs) (λ c κs. search needs) (λ c. search needs) returns)

@@ -10,8 +10,9 @@ use Rattle.goosetable.proofs.goosetable_save.Tie as tie
 
 returns : tie.Need-returns
 returns c =
-    let held = c .before .before .before .before .before .device-of .ensures in
-    hosts deviceRead saveAnswer saveSays (c .save-answer .ensures) held refl (sym held) (c .before .before .before .save .ensures)
+    let call = c .before .before .before in
+    let held = call .before .before .device-of .ensures in
+    hosts deviceRead saveAnswer saveSays (c .save-answer .ensures) held refl (sym held) (call .save .ensures)
 
 pub goosetable-save-spec : {M : Type 1} → statement M
 goosetable-save-spec = tie.close (tie.spec (λ c κs. search needs) (λ c κs. search needs) (λ c κs. search needs) (λ c. search needs) returns)

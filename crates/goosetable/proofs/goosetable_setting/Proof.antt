@@ -15,8 +15,16 @@ returns c = unread (enabled-wrong _ (c .before .if1 .taken)) (record { answer = 
 
 returns-2 : tie.Need-returns-2
 returns-2 c =
-    reads _ (enabled-right _ (omega (arith, c .before .before .before .before .before .before .before .if1 .left)))
-    (hosts deviceKept contactAnswer saidOf (c .contact-answer .ensures) (c .before .before .before .before .before .device-of .ensures) (c .before .put-device .ensures .bytes) (c .before .put-device .ensures .holds) (c .before .before .before .before .setting .ensures))
+    let put = c .before in
+    let call = put .before .before .before in
+    let held = call .before in
+    let test = held .before .before in
+    reads _ (enabled-right _ (omega (arith, test .if1 .left)))
+    (hosts deviceKept contactAnswer saidOf (c .contact-answer .ensures) (held .device-of .ensures) (put .put-device .ensures .bytes) (put .put-device .ensures .holds) (call .setting .ensures))
 
 pub goosetable-setting-spec : {M : Type 1} → statement M
-goosetable-setting-spec = tie.close (tie.spec (λ c κs. search needs) returns (λ c κs. search needs) (λ c κs. search needs) (λ c κs. search needs) (λ c κs. search needs) returns-2)
+goosetable-setting-spec =
+    tie.close
+    (tie.spec
+    (λ c κs. search needs) returns (λ c κs. search needs) (λ c κs. search needs) (λ c κs. search needs)
+    (λ c κs. search needs) returns-2)

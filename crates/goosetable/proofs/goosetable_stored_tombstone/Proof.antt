@@ -9,7 +9,14 @@ use Rattle.goosetable.proofs.goosetable_stored_tombstone.Tie as tie
 
 returns : tie.Need-returns
 returns c =
-    hosts deviceKept storedAnswer saysStored (c .stored-answer .ensures) (c .before .before .before .before .before .before .before .before .before .before .before .before .before .device-of .ensures) (c .before .put-device .ensures .bytes) (c .before .put-device .ensures .holds) (c .before .before .before .before .before .before .before .before .stored-tombstone .ensures)
+    let put = c .before in
+    let call = put .before .before .before .before .before .before .before in
+    let held = call .before .before .before .before .before in
+    hosts deviceKept storedAnswer saysStored (c .stored-answer .ensures) (held .device-of .ensures) (put .put-device .ensures .bytes) (put .put-device .ensures .holds) (call .stored-tombstone .ensures)
 
 pub goosetable-stored-tombstone-spec : {M : Type 1} → statement M
-goosetable-stored-tombstone-spec = tie.close (tie.spec (λ c κs. search needs) (λ c κs. search needs) (λ c κs. search needs) (λ c κs. search needs) (λ c. search needs) (λ c. search needs) returns)
+goosetable-stored-tombstone-spec =
+    tie.close
+    (tie.spec
+    (λ c κs. search needs) (λ c κs. search needs) (λ c κs. search needs) (λ c κs. search needs) (λ c. search needs)
+    (λ c. search needs) returns)

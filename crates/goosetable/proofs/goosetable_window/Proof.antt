@@ -7,7 +7,8 @@ use Rattle.goosetable.proofs.goosetable_window.Tie as tie
 
 returns : tie.Need-returns
 returns c =
-    let w = c .before .before .before .window .ensures in
+    let call = c .before .before .before in
+    let w = call .window .ensures in
     (c .window-answer .ensures ∙ ap windowAnswer (w .0), w .1 .1)
 
 pub goosetable-window-spec : {M : Type 1} → statement M

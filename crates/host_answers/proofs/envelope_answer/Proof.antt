@@ -15,4 +15,8 @@ returns-3 : tie.Need-returns-3
 returns-3 c = c .refused .ensures ∙ ap envelopeAnswer (sym (c .before .before .answer3 .given .1))
 
 pub envelope-answer-spec : {M : Type 1} → statement M
-envelope-answer-spec = tie.close (tie.spec (λ c. search needs) (λ c. search needs) (λ c κs. search needs) (λ c. search needs) (λ c κs. search needs) returns returns-2 returns-3)
+envelope-answer-spec =
+    tie.close
+    (tie.spec
+    (λ c. search needs) (λ c. search needs) (λ c κs. search needs) (λ c. search needs) (λ c κs. search needs)
+    returns returns-2 returns-3)

@@ -15,4 +15,8 @@ returns-3 : tie.Need-returns-3
 returns-3 c = c .refused .ensures ∙ ap inventoryAnswer (sym (c .before .before .said2 .given .1))
 
 pub inventory-answer-spec : {M : Type 1} → statement M
-inventory-answer-spec = tie.close (tie.spec (λ c. search needs) (λ c κs. search needs) (λ c. search needs) (λ c κs. search needs) (λ c. search needs) (λ c κs. search needs) returns returns-2 returns-3)
+inventory-answer-spec =
+    tie.close
+    (tie.spec
+    (λ c. search needs) (λ c κs. search needs) (λ c. search needs) (λ c κs. search needs) (λ c. search needs)
+    (λ c κs. search needs) returns returns-2 returns-3)

@@ -12,4 +12,8 @@ returns-2 : tie.Need-returns-2
 returns-2 c = c .refused .ensures ∙ ap loadAnswer (sym (c .before .before .said .given .1))
 
 pub load-answer-spec : {M : Type 1} → statement M
-load-answer-spec = tie.close (tie.spec (λ c. search needs) (λ c κs. search needs) (λ c. search needs) (λ c κs. search needs) returns returns-2)
+load-answer-spec =
+    tie.close
+    (tie.spec
+    (λ c. search needs) (λ c κs. search needs) (λ c. search needs) (λ c κs. search needs) returns
+    returns-2)

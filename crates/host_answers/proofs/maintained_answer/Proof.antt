@@ -12,4 +12,8 @@ returns-2 : tie.Need-returns-2
 returns-2 c = c .refused .ensures ∙ ap maintainedAnswer (sym (c .before .before .maintained2 .given .1))
 
 pub maintained-answer-spec : {M : Type 1} → statement M
-maintained-answer-spec = tie.close (tie.spec (λ c. search needs) (λ c κs. search needs) (λ c. search needs) (λ c κs. search needs) returns returns-2)
+maintained-answer-spec =
+    tie.close
+    (tie.spec
+    (λ c. search needs) (λ c κs. search needs) (λ c. search needs) (λ c κs. search needs) returns
+    returns-2)

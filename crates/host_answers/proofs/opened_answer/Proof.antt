@@ -12,4 +12,8 @@ returns-2 : tie.Need-returns-2
 returns-2 c = c .refused .ensures ∙ ap openedAnswer (sym (c .before .before .opened .given .1))
 
 pub opened-answer-spec : {M : Type 1} → statement M
-opened-answer-spec = tie.close (tie.spec (λ c. search needs) (λ c κs. search needs) (λ c. search needs) (λ c κs. search needs) returns returns-2)
+opened-answer-spec =
+    tie.close
+    (tie.spec
+    (λ c. search needs) (λ c κs. search needs) (λ c. search needs) (λ c κs. search needs) returns
+    returns-2)

@@ -17,4 +17,8 @@ returns-3 : tie.Need-returns-3
 returns-3 c row = c .refused .ensures ∙ ap (λ (m : Made). ownAnswer (madeAs m row)) (sym (c .before .before .made .given .1))
 
 pub own-answer-spec : {M : Type 1} → statement M
-own-answer-spec = tie.close (tie.spec (λ c. search needs) (λ c κs. search needs) (λ c. search needs) (λ c κs. search needs) (λ c. search needs) (λ c κs. search needs) returns returns-2 returns-3)
+own-answer-spec =
+    tie.close
+    (tie.spec
+    (λ c. search needs) (λ c κs. search needs) (λ c. search needs) (λ c κs. search needs) (λ c. search needs)
+    (λ c κs. search needs) returns returns-2 returns-3)

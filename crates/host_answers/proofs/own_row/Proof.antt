@@ -11,4 +11,8 @@ returns : tie.Need-returns
 returns c = c .own-bytes .ensures ∙ ap (λ (m : Made). ownRowArea (c .before .before .before .args .before) (madeAs m (c .before .before .before .args .row))) (sym (c .before .enum-told .given .1))
 
 pub own-row-spec : {M : Type 1} → statement M
-own-row-spec = tie.close (tie.spec (λ c. search needs) (λ c κs. search needs) (λ c. search needs) (λ c. search needs) returns (λ c. search needs) (λ c. search needs))
+own-row-spec =
+    tie.close
+    (tie.spec
+    (λ c. search needs) (λ c κs. search needs) (λ c. search needs) (λ c. search needs) returns
+    (λ c. search needs) (λ c. search needs))

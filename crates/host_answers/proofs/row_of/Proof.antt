@@ -16,4 +16,8 @@ returns-3 : tie.Need-returns-3
 returns-3 c = c .tombstone-row2 .ensures ∙ ap (λ (k : HeldKind). rowBy k (c .before .before .before .before .before .args .read)) (sym (c .before .enum-told3 .given .1))
 
 pub row-of-spec : {M : Type 1} → statement M
-row-of-spec = tie.close (tie.spec (λ c. search needs) (λ c κs. search needs) (λ c. search needs) (λ c κs. search needs) (λ c. search needs) (λ c κs. search needs) returns returns-2 returns-3)
+row-of-spec =
+    tie.close
+    (tie.spec
+    (λ c. search needs) (λ c κs. search needs) (λ c. search needs) (λ c κs. search needs) (λ c. search needs)
+    (λ c κs. search needs) returns returns-2 returns-3)

@@ -12,4 +12,8 @@ returns-2 : tie.Need-returns-2
 returns-2 c = c .refused .ensures ∙ ap storedAnswer (sym (c .before .before .stored2 .given .1))
 
 pub stored-answer-spec : {M : Type 1} → statement M
-stored-answer-spec = tie.close (tie.spec (λ c. search needs) (λ c κs. search needs) (λ c. search needs) (λ c κs. search needs) returns returns-2)
+stored-answer-spec =
+    tie.close
+    (tie.spec
+    (λ c. search needs) (λ c κs. search needs) (λ c. search needs) (λ c κs. search needs) returns
+    returns-2)

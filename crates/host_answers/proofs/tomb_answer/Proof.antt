@@ -15,4 +15,8 @@ returns-3 : tie.Need-returns-3
 returns-3 c = c .refused .ensures ∙ ap (tombAnswer _) (sym (c .before .before .said2 .given .1))
 
 pub tomb-answer-spec : {M : Type 1} → statement M
-tomb-answer-spec = tie.close (tie.spec (λ c. search needs) (λ c κs. search needs) (λ c. search needs) (λ c κs. search needs) (λ c. search needs) (λ c κs. search needs) returns returns-2 returns-3)
+tomb-answer-spec =
+    tie.close
+    (tie.spec
+    (λ c. search needs) (λ c κs. search needs) (λ c. search needs) (λ c κs. search needs) (λ c. search needs)
+    (λ c κs. search needs) returns returns-2 returns-3)

@@ -12,4 +12,8 @@ returns-2 : tie.Need-returns-2
 returns-2 c = c .refused .ensures ∙ ap windowAnswer (sym (c .before .before .windowed2 .given .1))
 
 pub window-answer-spec : {M : Type 1} → statement M
-window-answer-spec = tie.close (tie.spec (λ c. search needs) (λ c κs. search needs) (λ c. search needs) (λ c κs. search needs) returns returns-2)
+window-answer-spec =
+    tie.close
+    (tie.spec
+    (λ c. search needs) (λ c κs. search needs) (λ c. search needs) (λ c κs. search needs) returns
+    returns-2)
