@@ -1,14 +1,15 @@
 -- Laws of the tests of the own envelope call, of the place of a new row and of its cell.
 -- Assumes nothing.
 use mathlib.Core.Path.{_≡_, refl, sym, ap, ap₂, _∙_}
-use mathlib.Core.Bool.{Bool, true, false, cond, _&&_, _||_}
+use mathlib.Core.Bool.{Bool, true, false, cond, _&&_, _||_, or-false}
 use mathlib.Core.List.{List}
 use Prim.Native.Nat.{ℕ, zero, suc, _+_, _-_, _*_, _/_, _≤_, _<_, min}
-use native.Mathlib.Nat.{min-le-left, min-le-right, div-mul-le-self}
+use native.Mathlib.Nat.{zero-add, min-le-left, min-le-right, div-mul-le-self}
 use native.Mathlib.Omega.{arith}
 use lib.ListN.{length}
 use lib.Dec.{eqb, leb, ltb}
 use borrow.Author.Tests.{lt-ltb, le-ltb, le-leb, lt-leb, eq-eqb, ne-eqb, ltb-false, leb-false}
+use Rattle.octets.specs.Bytes.{part, num}
 use Rattle.chain.specs.Chain.{isBucket}
 use Rattle.table.specs.declared.Found.the-variants.{At, Nothing}
 use Rattle.table.specs.Lists.{any, position, unwrapOr, insertAt}
@@ -19,11 +20,13 @@ use Rattle.table.proofs.TableLaws.{length-table}
 use Rattle.core.specs.declared.ContactId.{ContactId}
 use Rattle.rows.specs.declared.Contact.{Contact}
 use Rattle.rows.specs.declared.Own.{Own}
-use Rattle.rows.specs.Rows.{ownCodec}
-use Rattle.model.specs.Contacts.{addedBefore}
+use Rattle.rows.specs.Rows.{ownCodec, contactCodec}
+use Rattle.model.specs.Contacts.{isContact, contactPlace, addedBefore}
 use Rattle.model.specs.Cells.{freeFrom, freeCell, cellCount}
 use Rattle.model.specs.Own.{ownLength, noneMade, standsAfter, insertOwn}
+use Rattle.contacts.proofs.FindLaws.{place-next}
 use Rattle.own_envelope.specs.OwnEnvelope.{ownPlace}
+use Rattle.own_envelope.proofs.WalkLaws.{first-found}
 
 -- two numbers and a test: where they are the same, the test decides
 module _ (a b : ℕ) where
@@ -67,21 +70,35 @@ row-left count own l h = omega (arith, l, h, length-table ownCodec count own)
 
 -- ---- the place of a new row
 
-module _ (ps : List Contact) (id : ContactId) (msgno : ℕ) (row : Own) {mine other : ℕ} (em : mine ≡ addedBefore ps id)
-    (eo : other ≡ addedBefore ps (row .contact)) where
-  abbrev after : Bool → Bool
-  after b = b || (eqb (row .contact .0) (id .0) && ltb msgno (row .msgno))
+-- a contact's first place is no later than any other, and than the count
+module _ (count : ℕ) (a : List ℕ) (id : ContactId) where
+  pub first-by : {k v : ℕ} → k < held (length a) 9 count → v ≡ num (part a (k * 9) 8) → v ≡ id .0 → addedBefore (tableOf contactCodec count a) id ≤ k
+  unfolding addedBefore contactPlace
+  first-by {k} {v} h e t = first-found (isContact id) 0 _ k _ (zero-add k) (place-next count a id k v true h e (eq-eqb v (id .0) t))
 
-  before-is : ltb (addedBefore ps id) (addedBefore ps (row .contact)) ≡ ltb mine other
-  before-is = ap₂ ltb (sym em) (sym eo)
+  pub first-inside : {n : ℕ} → n ≡ held (length a) 9 count → addedBefore (tableOf contactCodec count a) id ≤ n
+  unfolding addedBefore contactPlace
+  first-inside h = omega (arith, position-le (isContact id) (tableOf contactCodec count a), length-table contactCodec count a)
 
-  pub after-contact : mine < other → true ≡ standsAfter ps id msgno row
+-- does a row stand after the new one: its number decides if it is of the same contact, else its contact
+module _ (ps : List Contact) (id : ContactId) (msgno : ℕ) (row : Own) where
+  abbrev after : Bool → Bool → Bool
+  after later same = later || (same && ltb msgno (row .msgno))
+
+  pub after-message : row .contact .0 ≡ id .0 → ltb msgno (row .msgno) ≡ standsAfter ps id msgno row
   unfolding standsAfter
-  after-contact h = sym (ap after (before-is ∙ lt-ltb mine other h))
+  after-message e =
+      sym (ap₂ after
+      (ap (λ (n : ℕ). ltb (addedBefore ps id) (addedBefore ps (record { 0 = n }))) e ∙ le-ltb (addedBefore ps id) (addedBefore ps id) (omega arith))
+      (eq-eqb (row .contact .0) (id .0) e))
 
-  pub after-message : other ≤ mine → {r : Bool} → r ≡ (eqb (row .contact .0) (id .0) && ltb msgno (row .msgno)) → r ≡ standsAfter ps id msgno row
-  unfolding standsAfter
-  after-message h e = e ∙ sym (ap after (before-is ∙ le-ltb mine other h))
+  module _ {mine : ℕ} (em : mine ≡ addedBefore ps id) (other : row .contact .0 ≡ id .0 → ⊥) where
+    pub after-contact : {n : ℕ} → n ≡ addedBefore ps (row .contact) → ltb mine n ≡ standsAfter ps id msgno row
+    unfolding standsAfter
+    after-contact {n} e = sym (or-false (ltb mine n)) ∙ ap₂ after (ap₂ ltb em e) (sym (ne-eqb (row .contact .0) (id .0) other))
+
+    pub not-after : {place : ℕ} → addedBefore ps (row .contact) ≤ place → place ≤ mine → false ≡ standsAfter ps id msgno row
+    not-after h k = sym (le-ltb mine (addedBefore ps (row .contact)) (omega arith)) ∙ after-contact refl
 
 module _ (ps : List Contact) (id : ContactId) (msgno count : ℕ) (a : List ℕ) where
   abbrev T : List Own

@@ -82,29 +82,47 @@ fn none_made(own: &[u8], count: usize, len: usize) -> bool
 
 // ---- the row
 
+// Where a contact stands from `at` on, or how many there are: its first place is no later.
+fn place_from(contacts: &[u8], count: usize, at: usize, id: ContactId) -> usize
+    ensures { λ r. ⌜ addedBefore (tableOf contactCodec count (now (contacts .entry))) id ≤ r ⌝ }
+{
+    let n = table::fit(contacts.len(), rows::CONTACT_WIDTH, count);
+    let mut k = at;
+    while k < n {
+        if octets::get_u64(contacts, k * rows::CONTACT_WIDTH) == id.0 {
+            return k;
+        }
+        k += 1;
+    }
+    n
+}
+
 // Does a row stand after one of this contact and message number? `mine` contacts were added before that one.
+// The row's contact stands at `place` or before it: all contacts are searched only where that is past `mine`.
 fn stands_after(
     contacts: &[u8],
     count: usize,
     mine: usize,
+    place: usize,
     id: ContactId,
     msgno: u32,
     row: Own,
 ) -> bool
-    requires { ⌜ mine ≡ addedBefore (tableOf contactCodec count (now contacts)) id ⌝ }
+    requires { ⌜ (mine ≡ addedBefore (tableOf contactCodec count (now contacts)) id) × (addedBefore (tableOf contactCodec count (now contacts)) (row .contact) ≤ place) ⌝ }
     ensures { λ r. ⌜ r ≡ standsAfter (tableOf contactCodec count (now (contacts .entry))) id msgno row ⌝ }
 {
     let contact = row.contact;
-    if mine < contacts::added_before(contacts, count, contact) {
-        return true;
-    }
     if contact.0 == id.0 {
         return msgno < row.msgno;
     }
-    false
+    if place <= mine {
+        return false;
+    }
+    mine < contacts::added_before(contacts, count, contact)
 }
 
 // Where a new row goes: own rows stand by contact as added and message number.
+// So a row's contact is looked for from the place of the row's before it on.
 fn own_place(
     contacts: &[u8],
     known: usize,
@@ -117,10 +135,12 @@ fn own_place(
 {
     let mine = contacts::added_before(contacts, known, id);
     let n = table::fit(own.len(), rows::OWN_WIDTH, count);
+    let mut place = 0;
     let mut i = 0;
     while i < n {
         let row = rows::own_at(own, i * rows::OWN_WIDTH);
-        if stands_after(contacts, known, mine, id, msgno, row) {
+        place = place_from(contacts, known, place, row.contact);
+        if stands_after(contacts, known, mine, place, id, msgno, row) {
             return i;
         }
         i += 1;

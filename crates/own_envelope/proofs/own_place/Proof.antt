@@ -14,12 +14,12 @@ use Rattle.own_envelope.proofs.own_place.Statement.{statement}
 use Rattle.own_envelope.proofs.own_place.Tie as tie
 
 abbrev Inv-loop : tie.InvT-loop
-Inv-loop contacts known own count id msgno mine n i₀ i =
+Inv-loop contacts known own count id msgno mine n place₀ i₀ place i =
     (i ≤ n) × (position (standsAfter (tableOf contactCodec known contacts) id msgno) (tableOf ownCodec count own)
     ≡ positionFrom i (standsAfter (tableOf contactCodec known contacts) id msgno) (drop i (tableOf ownCodec count own)))
 
 abbrev μ-loop : tie.MeasureT-loop
-μ-loop contacts known own count id msgno mine n i₀ i = n - i
+μ-loop contacts known own count id msgno mine n place₀ i₀ place i = n - i
 
 loop-holds : tie.Need-loop-holds Inv-loop μ-loop
 loop-holds c = (omega arith, refl)
@@ -27,7 +27,7 @@ loop-holds c = (omega arith, refl)
 returns : tie.Need-returns Inv-loop μ-loop
 returns c =
     let at-stands-after = c .before in
-    let at-own-at = at-stands-after .before in
+    let at-own-at = at-stands-after .before .before in
     let at-loop = at-own-at .before .before in
     let at-fit = at-loop .before in
     let h = at-fit .fit .ensures .is in
@@ -37,7 +37,7 @@ returns c =
 loop-again : tie.Need-loop-again Inv-loop μ-loop
 loop-again c =
     let at-stands-after = c .before in
-    let at-own-at = at-stands-after .before in
+    let at-own-at = at-stands-after .before .before in
     let at-loop = at-own-at .before .before in
     let at-fit = at-loop .before in
     let h = at-fit .fit .ensures .is in (
@@ -55,6 +55,5 @@ pub own-place-spec : {M : Type 1} → statement M
 own-place-spec =
     tie.close
     (tie.spec
-    Inv-loop μ-loop (λ c κs. search needs) (λ c κs. search needs) loop-holds (λ c. omega arith) (λ c κs. omega arith) (λ c κs. search needs) returns
-    (λ c. omega arith)
-    (λ c. omega arith) loop-again returns-2)
+    Inv-loop μ-loop (λ c κs. search needs) (λ c κs. search needs) loop-holds (λ c. omega arith) (λ c κs. omega arith) (λ c κs. search needs) (λ c κs. search needs)
+    returns (λ c. omega arith) (λ c. omega arith) loop-again returns-2)
