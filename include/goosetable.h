@@ -260,7 +260,7 @@ goosetable_answer goosetable_fresh_exchange(
  * code would be Accepted.
  * Writes: device, carried, carried_cells, replies, actions.
  * Refused by: 1 (replies, actions), 12, 2, 4, 6.
- * Stack: 304 bytes.
+ * Stack: 560 bytes.
  */
 goosetable_answer goosetable_envelope(
     uint8_t device[GOOSETABLE_DEVICE_SIZE],
@@ -313,7 +313,7 @@ goosetable_answer goosetable_fetch(
  * there.
  * Writes: device, own, own_cells, row.
  * Refused by: 12, 2, 10, 11, 4.
- * Stack: 4,152 bytes.
+ * Stack: 4,184 bytes.
  */
 goosetable_answer goosetable_own_envelope(
     uint8_t device[GOOSETABLE_DEVICE_SIZE],
@@ -489,7 +489,7 @@ goosetable_answer goosetable_failed(
  * with a delete, by slot.
  * Writes: device, own, carried, tombstones, actions.
  * Refused by: 1 (actions).
- * Stack: 304 bytes.
+ * Stack: 320 bytes.
  */
 goosetable_answer goosetable_maintenance(
     uint8_t device[GOOSETABLE_DEVICE_SIZE],

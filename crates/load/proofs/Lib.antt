@@ -1,4 +1,5 @@
 pub mod InsertLaws
+pub mod PlaceLaws
 pub mod LoadLaws
 pub mod CallLaws
 pub mod OrderLaws

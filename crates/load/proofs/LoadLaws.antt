@@ -31,6 +31,7 @@ use Rattle.rows.specs.Rows.{carriedCodec, tombstoneCodec}
 use Rattle.rows.specs.Proper.{ProperTombstone}
 use Rattle.rows.proofs.Laws.{carried-laws, tombstone-laws}
 use Rattle.model.specs.Basics.{matchSome}
+use Rattle.history.specs.Order.{empty}
 use Rattle.load_tests.specs.Records.{recordSize, records, recordsAt, WholeAt, isCarried, isTombstone}
 use Rattle.load_tests.specs.Tests.{kindTests, fails}
 use Rattle.load_tests.proofs.RecordLaws.{record-here, whole-here, whole-next, whole-end, size-least}
@@ -38,8 +39,9 @@ use Rattle.load_tests.proofs.BlobLaws.{Decoded, decoded, kind-tested}
 use Rattle.load_tests.proofs.TestLaws.{left-no, right-no}
 use Rattle.load.specs.declared.Have.{Have}
 use Rattle.load.specs.Load.{insertBy, carriedSlot, tombstoneSlot, carriedRow, tombstoneRow, Rows, loadHeld, loadRecord, loadRecords, noRows, loaded}
-use Rattle.load.specs.Laying.{Inserted, Carries, Laid, Room, Loads, Fine, Loading}
-use Rattle.load.proofs.InsertLaws.{insert-proper}
+use Rattle.load.specs.Laying.{Rise, Inserted, Carries, Laid, Room, Loads, Fine, Loading}
+use Rattle.load.proofs.InsertLaws.{insert-proper, carried-starts, tombstone-starts}
+use Rattle.load.proofs.PlaceLaws.{rise-table, by-slot}
 
 -- ---- what a record's kind says
 
@@ -99,10 +101,10 @@ module _ (file : List ℕ) (at n : ℕ) (hn : at + n ≤ length file) (h : Have)
     abbrev seen : (heldDecode (drop 12 b) ≡ some (held.carried (heldRead (heldDecode (drop 12 b)) .carried) (drop 46 (drop 12 b)))) × ((46 ≤ length (drop 12 b)) × (length (drop 12 b) ≤ 2110))
     seen = as-carried (drop 12 b) (heldDecode (drop 12 b)) (decoded (drop 12 b)) (e ∙ ap (λ (r : HeldRead). r .kind) q)
 
-    pub carried-room : ((at + n ≤ length file) × ((58 ≤ n) × (n ≤ 2122))) × ((h .carried < 65536) × ((h .carried * 57 + 57 ≤ length x) × (h .carried * 2064 + 2064 ≤ length z)))
+    pub carried-room : ((at + n ≤ length file) × ((58 ≤ n) × (n ≤ 2122))) × ((h .carried < 65536) × (((h .carried * 57 + 57 ≤ length x) × (h .carried * 2064 + 2064 ≤ length z)) × Rise 57 (h .carried) x))
     carried-room =
         let s = seen in
-        ((hn, (omega (arith, s .1 .0, length-drop 12 b, length-part file at n hn), omega (arith, s .1 .1, length-drop 12 b, length-part file at n hn))), (R .few, R .carried is-carried))
+        ((hn, (omega (arith, s .1 .0, length-drop 12 b, length-part file at n hn), omega (arith, s .1 .1, length-drop 12 b, length-part file at n hn))), (R .few, (R .carried is-carried, R .carriedRise)))
 
     module _ (p : ℕ) (x' z' : List ℕ) (C : Carries file at n (row .carried) (h .carried) x z p x' z') where
       carried-laid : (a t : List ℕ) (l : Rows) → Laid a t l h x y z → Laid a t (loadRecord l b) (record { carried = p; tombstones = h .tombstones }) x' y z'
@@ -143,8 +145,8 @@ module _ (file : List ℕ) (at n : ℕ) (hn : at + n ≤ length file) (h : Have)
     is-tombstone : isTombstone b ≡ true
     is-tombstone = marked-tombstone b (R .kind) (e ∙ ap (λ (r : HeldRead). r .kind) q)
 
-    pub tombstone-room : h .tombstones * 44 + 44 ≤ length y
-    tombstone-room = R .tombstone is-tombstone
+    pub tombstone-room : (h .tombstones * 44 + 44 ≤ length y) × Rise 44 (h .tombstones) y
+    tombstone-room = (R .tombstone is-tombstone, R .tombstonesRise)
 
     module _ (m : ℕ) (y' : List ℕ) (new : Tombstone) (slot : ℕ) (long : 12 ≤ n) (es : slot ≡ num (part file (at + 2) 8)) (et : new ≡ tombstoneRow slot (row .tombstone))
         (I : Inserted tombstoneCodec ProperTombstone tombstoneSlot new (h .tombstones) y m y') where
@@ -184,6 +186,7 @@ module _ (file a t c : List ℕ) (F : Fine file a t c) where
   loading-start = record {
     rows = noRows c;
     laid = record { carried = none-laid carriedCodec a (omega arith); tombstones = none-laid tombstoneCodec t (omega arith); cells = refl };
+    bySlot = record { carried = empty; tombstones = empty };
     left = refl;
     within = F .long;
     whole = F .whole;
@@ -226,6 +229,8 @@ module _ (file a t c : List ℕ) (F : Fine file a t c) where
         tombstone = λ m.
             let o : h .tombstones + 1 ≤ countBy isTombstone (records file) = omega (arith, S .tombstones, count-split isTombstone, one B isTombstone true m) in
             omega (arith, mul-le 44 o, next-row (h .tombstones) 44, F .tombstones, S .tombstoneSize);
+        carriedRise = rise-table carriedSlot carried-starts (omega arith) (S .laid .carried) (S .bySlot .carried);
+        tombstonesRise = rise-table tombstoneSlot tombstone-starts (omega arith) (S .laid .tombstones) (S .bySlot .tombstones);
       }
 
       pub loading-next : {h' : Have} {x' y' z' : List ℕ} → Loads B h x y z h' x' y' z' → Loading file a t c (at + n) h' x' y' z'
@@ -233,6 +238,7 @@ module _ (file a t c : List ℕ) (F : Fine file a t c) where
       loading-next D = record {
         rows = loadRecord (S .rows) B;
         laid = D .laid a t (S .rows) (S .laid);
+        bySlot = by-slot (S .rows) B (S .bySlot);
         left = ap (loadRecords (S .rows)) (sym split) ∙ S .left;
         within = record-within;
         whole = subst (λ (m : ℕ). WholeAt file (at + m)) (sym e) (whole-next file at (omega (arith, e, record-within)) (S .whole));

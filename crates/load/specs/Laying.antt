@@ -11,11 +11,14 @@ use Rattle.table.specs.Lists.{any, countBy}
 use Rattle.table.specs.Codec.{Codec, tableOf, TableNow}
 use Rattle.rows.specs.declared.Device.{Device}
 use Rattle.state.specs.declared.Carried.{Carried as HeldCarried}
+use Rattle.rows.specs.declared.Carried.{Carried}
+use Rattle.rows.specs.declared.Tombstone.{Tombstone}
 use Rattle.rows.specs.Proper.{ProperCarried}
 use Rattle.rows.specs.Rows.{carriedCodec, tombstoneCodec}
 use Rattle.model.specs.Calls.{Result}
 use Rattle.model.specs.Areas.{Areas, Written, view}
 use Rattle.model.specs.Lent.{noAnswers, refusedOr, deviceIn, contactsIn, carriedIn, tombstonesIn, carriedCellsIn}
+use Rattle.history.specs.Order.{Sorted}
 use Rattle.load_tests.specs.Records.{records, recordsAt, WholeAt, isCarried, isTombstone}
 use Rattle.load_tests.specs.Tests.{kindTests, fails}
 use Rattle.load.specs.declared.Have.{Have}
@@ -26,6 +29,10 @@ use Rattle.load.specs.Load.{insertBy, carriedSlot, carriedRow, Rows, loa
 -- every row starts with its slot
 unfoldable pub higher : ℕ → List ℕ → Bool
 higher slot b = ltb slot (num (part b 0 8))
+
+-- no row of an area has a lower slot than one before it
+unfoldable pub Rise : ℕ → ℕ → List ℕ → Type 0
+Rise w n a = (i j : ℕ) → i ≤ j → j < n → num (part a (i * w) 8) ≤ num (part a (j * w) 8)
 
 -- a row is put in by its slot among the n of an area
 pub record Inserted {A : Type 0} (c : Codec A) (Proper : A → Type 0) (key : A → ℕ) (t : A) (n : ℕ) (a : List ℕ) (m : ℕ) (x : List ℕ) : Type 0 where
@@ -40,12 +47,19 @@ pub record Laid (a t : List ℕ) (l : Rows) (h : Have) (x y z : List ℕ) : Type
   pub tombstones : TableNow tombstoneCodec t (l .tombstones) (h .tombstones) y
   pub cells : z ≡ l .cells
 
+-- rows by slot
+pub record BySlot (l : Rows) : Type 0 where
+  pub carried : Sorted (λ (a b : Carried). a .slot ≤ b .slot) (l .carried)
+  pub tombstones : Sorted (λ (a b : Tombstone). a .slot ≤ b .slot) (l .tombstones)
+
 -- there is room for the row of a record, whose mark is its blob's
 pub record Room (b : List ℕ) (h : Have) (x y z : List ℕ) : Type 0 where
   pub kind : fails kindTests b ≡ false
   pub few : h .carried < 65536
   pub carried : isCarried b ≡ true → (h .carried * 57 + 57 ≤ length x) × (h .carried * 2064 + 2064 ≤ length z)
   pub tombstone : isTombstone b ≡ true → h .tombstones * 44 + 44 ≤ length y
+  pub carriedRise : Rise 57 (h .carried) x
+  pub tombstonesRise : Rise 44 (h .tombstones) y
 
 -- a record more
 pub record Loads (b : List ℕ) (h : Have) (x y z : List ℕ) (h' : Have) (x' y' z' : List ℕ) : Type 0 where
@@ -75,6 +89,7 @@ pub record Fine (file x y z : List ℕ) : Type 0 where
 pub record Loading (file a t c : List ℕ) (at : ℕ) (h : Have) (x y z : List ℕ) : Type 0 where
   pub rows : Rows
   pub laid : Laid a t rows h x y z
+  pub bySlot : BySlot rows
   pub left : loadRecords rows (recordsAt file at) ≡ loaded c file
   pub within : at ≤ length file
   pub whole : WholeAt file at

@@ -9,7 +9,7 @@ ghost use Rattle.table.specs.Rows.{rows, RowsNow};
 ghost use Rattle.rows.specs.Rows.{carriedCodec, tombstoneCodec};
 ghost use Rattle.rows.specs.Proper.{ProperCarried, ProperTombstone};
 ghost use Rattle.load.specs.Load.{carriedSlot, tombstoneSlot, carriedRow, tombstoneRow, loaded};
-ghost use Rattle.load.specs.Laying.{higher, Inserted, Carries, Room, Loads, Fine, Laid, deviceWith, loadLent, DoesLoad};
+ghost use Rattle.load.specs.Laying.{higher, Rise, Inserted, Carries, Room, Loads, Fine, Laid, deviceWith, loadLent, DoesLoad};
 use core::Refusal;
 use load_tests::Tested;
 use rows::Carried;
@@ -36,24 +36,24 @@ pub struct Have {
 
 // ---- a row by its slot
 
-// The first of n rows of a higher slot, or the end.
+// The first of n rows of a higher slot, or the end. The rows stand by slot, and a saved file's slots rise: it is looked for from the end.
 fn place(area: &[u8], width: usize, n: usize, slot: u64) -> usize
-    requires { ⌜ (n * width ≤ length (now area)) × (8 ≤ width) ⌝ }
+    requires { ⌜ (n * width ≤ length (now area)) × ((8 ≤ width) × Rise width n (now area)) ⌝ }
     ensures { λ r. ⌜ r ≡ unwrapOr n (position (higher slot) (rows width n (now (area .entry)))) ⌝ }
 {
-    let mut i = 0;
-    while i < n {
-        if slot < octets::get_u64(area, i * width) {
+    let mut i = n;
+    while 0 < i {
+        if octets::get_u64(area, (i - 1) * width) <= slot {
             return i;
         }
-        i += 1;
+        i -= 1;
     }
-    n
+    0
 }
 
 // Puts a row in before it.
 fn insert_row(area: &mut [u8], width: usize, n: usize, row: &[u8]) -> usize
-    requires { ⌜ (8 ≤ width) × ((n * width + width ≤ length (now area)) × (length (now row) ≡ width)) ⌝ }
+    requires { ⌜ ((8 ≤ width) × Rise width n (now area)) × ((n * width + width ≤ length (now area)) × (length (now row) ≡ width)) ⌝ }
     ensures { λ r. ⌜ RowsNow width (now (area .entry))
         (insertAt (unwrapOr n (position (higher (num (part (now (row .entry)) 0 8))) (rows width n (now (area .entry))))) (now (row .entry)) (rows width n (now (area .entry))))
         r (now (area .exit)) ⌝ }
@@ -63,7 +63,7 @@ fn insert_row(area: &mut [u8], width: usize, n: usize, row: &[u8]) -> usize
 }
 
 fn insert_carried(carried: &mut [u8], n: usize, row: Carried) -> usize
-    requires { ⌜ n * 57 + 57 ≤ length (now carried) ⌝ }
+    requires { ⌜ (n * 57 + 57 ≤ length (now carried)) × Rise 57 n (now carried) ⌝ }
     ensures { λ r. ⌜ Inserted carriedCodec ProperCarried carriedSlot row n (now (carried .entry)) r (now (carried .exit)) ⌝ }
 {
     let b = rows::carried_bytes(row);
@@ -71,7 +71,7 @@ fn insert_carried(carried: &mut [u8], n: usize, row: Carried) -> usize
 }
 
 fn insert_tombstone(tombstones: &mut [u8], n: usize, row: Tombstone) -> usize
-    requires { ⌜ n * 44 + 44 ≤ length (now tombstones) ⌝ }
+    requires { ⌜ (n * 44 + 44 ≤ length (now tombstones)) × Rise 44 n (now tombstones) ⌝ }
     ensures { λ r. ⌜ Inserted tombstoneCodec ProperTombstone tombstoneSlot row n (now (tombstones .entry)) r (now (tombstones .exit)) ⌝ }
 {
     let b = rows::tombstone_bytes(row);
@@ -124,7 +124,7 @@ fn load_carried(
     carried: &mut [u8],
     cells: &mut [u8],
 ) -> usize
-    requires { ⌜ ((at + n ≤ length (now file)) × ((58 ≤ n) × (n ≤ 2122))) × ((p < 65536) × ((p * 57 + 57 ≤ length (now carried)) × (p * 2064 + 2064 ≤ length (now cells)))) ⌝ }
+    requires { ⌜ ((at + n ≤ length (now file)) × ((58 ≤ n) × (n ≤ 2122))) × ((p < 65536) × (((p * 57 + 57 ≤ length (now carried)) × (p * 2064 + 2064 ≤ length (now cells))) × Rise 57 p (now carried))) ⌝ }
     ensures { λ r. ⌜ Carries (now (file .entry)) at n row p (now (carried .entry)) (now (cells .entry)) r (now (carried .exit)) (now (cells .exit)) ⌝ }
 {
     let slot = octets::get_u64(file, at + 2);

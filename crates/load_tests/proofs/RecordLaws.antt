@@ -12,9 +12,9 @@ use lib.Dec.{eqb, leb}
 use borrow.Author.Tests.{lt-leb, le-leb, lt-ltb, le-ltb, leb-true, leb-false, ltb-false}
 use Rattle.octets.specs.Bytes.{part, num, sameBytes}
 use Rattle.octets.proofs.Parts.{part-part, part-whole, length-part, lent-part}
-use Rattle.table.specs.Lists.{any, countBy}
+use Rattle.table.specs.Lists.{countBy}
 use Rattle.table.specs.Rows.{join, hasKey}
-use Rattle.load_tests.specs.Records.{recordSize, recordsIn, recordsAt, records, WholeAt, isCarried, counted, Counting}
+use Rattle.load_tests.specs.Records.{recordSize, recordsIn, recordsAt, records, WholeAt, counted, Counting}
 use Rattle.load_tests.specs.Tests.{cutShort}
 
 -- ---- the record at a place
@@ -209,23 +209,8 @@ module _ (file : List ℕ) (at n o : ℕ) (key : List ℕ) (h : at + n ≤ lengt
   unfolding hasKey
   key-here k e = e ∙ ap₂ sameBytes (sym (part-part file at n o (length key) k)) (part-whole key (length key) refl)
 
-module _ (o : ℕ) (key b : List ℕ) where
-  pub counted-carried : {r : Bool} → r ≡ hasKey o key b → true ≡ hasKey 0 (72 ∷ 67 ∷ []) b → r ≡ counted true o key b
-  unfolding counted isCarried
-  counted-carried e m = e ∙ ap (λ (t : Bool). t && hasKey o key b) m
-
-  pub counted-not : false ≡ hasKey 0 (72 ∷ 67 ∷ []) b → false ≡ counted true o key b
-  unfolding counted isCarried
-  counted-not m = ap (λ (t : Bool). t && hasKey o key b) m
-
-  pub counted-any : {r only : Bool} → only ≡ false → r ≡ hasKey o key b → r ≡ counted only o key b
-  unfolding counted
-  counted-any f e = e ∙ ap (λ (t : Bool). cond t (isCarried b && hasKey o key b) (hasKey o key b)) (sym f)
-
-  pub counted-only : {r only : Bool} → only ≡ true → r ≡ counted true o key b → r ≡ counted only o key b
-  counted-only f e = e ∙ ap (λ (t : Bool). counted t o key b) (sym f)
-
 -- a key that is lent as a part of a file
-pub count-lent : (only : Bool) (o : ℕ) (rs : List (List ℕ)) (file : List ℕ) (at n : ℕ) {r : ℕ} → r ≡ countBy (counted only o (take (at + n - at) (drop at file))) rs
-    → r ≡ countBy (counted only o (part file at n)) rs
-count-lent only o rs file at n e = lent-part (λ (k : List ℕ). countBy (counted only o k) rs) file at n e
+pub count-lent : (o : ℕ) (rs : List (List ℕ)) (file : List ℕ) (at n : ℕ) {r : ℕ} → r ≡ countBy (hasKey o (take (at + n - at) (drop at file))) rs
+    → r ≡ countBy (counted false o (part file at n)) rs
+unfolding counted
+count-lent o rs file at n e = lent-part (λ (k : List ℕ). countBy (hasKey o k) rs) file at n e

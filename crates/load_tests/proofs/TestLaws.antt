@@ -102,19 +102,19 @@ module _ (file : List ℕ) (at n : ℕ) (cs : List Contact) (rs : List (List ℕ
       pub row-past : next ≤ slot → true ≡ Fails
       row-past t = sym (row-read ∙ ap (λ (x : Bool). x || (ltb 1 ofSlot || forCarried (isCarried b))) (past-read true (le-leb next slot t)))
 
-      module _ (t : slot < next) {m : ℕ} (em : m ≡ ofSlot) where
-        row-slots : (x : Bool) → ltb 1 m ≡ x → Fails ≡ (x || forCarried (isCarried b))
+      module _ (t : slot < next) {m : Bool} (em : m ≡ ltb 1 ofSlot) where
+        row-slots : (x : Bool) → m ≡ x → Fails ≡ (x || forCarried (isCarried b))
         row-slots x f =
             row-read ∙ ap (λ (y : Bool). y || (ltb 1 ofSlot || forCarried (isCarried b))) (past-read false (lt-leb next slot t))
-            ∙ ap (λ (y : Bool). y || forCarried (isCarried b)) (ap (ltb 1) (sym em) ∙ f)
+            ∙ ap (λ (y : Bool). y || forCarried (isCarried b)) (sym em ∙ f)
 
-        pub row-twice : 1 < m → true ≡ Fails
-        row-twice f = sym (row-slots true (lt-ltb 1 m f))
+        pub row-twice : m ≡ true → true ≡ Fails
+        row-twice f = sym (row-slots true f)
 
-        module _ (f : m ≤ 1) {c : Bool} (ec : c ≡ hasKey 0 (72 ∷ 67 ∷ []) b) where
+        module _ (f : m ≡ false) {c : Bool} (ec : c ≡ hasKey 0 (72 ∷ 67 ∷ []) b) where
           row-kind : (x : Bool) → c ≡ x → Fails ≡ forCarried x
           unfolding isCarried
-          row-kind x g = row-slots false (le-ltb 1 m f) ∙ ap forCarried (sym ec ∙ g)
+          row-kind x g = row-slots false f ∙ ap forCarried (sym ec ∙ g)
 
           pub row-other : c ≡ false → false ≡ Fails
           row-other g = sym (row-kind false g)
@@ -153,6 +153,9 @@ module _ (p : List ℕ → Bool) (file : List ℕ) where
 
     pub asked-found : true ≡ p (part file at n) → true ≡ any p (records file)
     asked-found t = sym (asked true (sym t))
+
+    pub asked-none : any p (records file) ≡ false → p (part file at n) ≡ false
+    asked-none f = left-no (p (part file at n)) (any p (recordsAt file (at + n))) (sym (asked (p (part file at n)) refl) ∙ f)
 
     pub asking-next : false ≡ p (part file at n) → Asking (at + n)
     asking-next t = record {
@@ -196,6 +199,20 @@ of-records (r ∷ rs) ts = split ts ∙ ap (λ (x : Bool). any (λ (t : List ℕ
         ≡ (any (λ (t : List ℕ → Bool). t r) us || any (λ (x : Bool). x) (map (λ (t : List ℕ → Bool). any t rs) us))
     split [] = refl
     split (u ∷ us) = ap (λ (x : Bool). (u r || any u rs) || x) (split us) ∙ swap (u r) (any u rs) (any (λ (t : List ℕ → Bool). t r) us) (any (λ (x : Bool). x) (map (λ (t : List ℕ → Bool). any t rs) us))
+
+-- the tests of kinds, of all records, and then those of rows
+module _ (next : ℕ) (cs : List Contact) (all rs : List (List ℕ)) where
+  in-turn : (x : Bool) → any (fails kindTests) rs ≡ x → any (fails (recordTests next cs all)) rs ≡ (x || any (fails (rowTests next cs all)) rs)
+  in-turn x e =
+      sym (of-records rs (recordTests next cs all))
+      ∙ any-append (λ (b : Bool). b) (map (λ (t : List ℕ → Bool). any t rs) kindTests) (map (λ (t : List ℕ → Bool). any t rs) (rowTests next cs all))
+      ∙ ap₂ (λ (u v : Bool). u || v) (of-records rs kindTests ∙ e) (of-records rs (rowTests next cs all))
+
+  pub kinds-wrong : true ≡ any (fails kindTests) rs → true ≡ any (fails (recordTests next cs all)) rs
+  kinds-wrong e = sym (in-turn true (sym e))
+
+  pub rows-wrong : {r : Bool} → any (fails kindTests) rs ≡ false → r ≡ any (fails (rowTests next cs all)) rs → r ≡ any (fails (recordTests next cs all)) rs
+  rows-wrong e f = f ∙ sym (in-turn false e)
 
 module _ (cs : List Contact) (file : List ℕ) where
   abbrev wrong : Bool
@@ -247,6 +264,26 @@ module _ (cs : List Contact) (file : List ℕ) where
 
         pub file-wrong : r ≡ true → false ≡ cutShort file → true ≡ wrong → Is
         file-wrong e g k = e ∙ sym (marked false true (sym g) (sym k))
+
+        -- where over 256 are carried, and where not
+        module _ (g : false ≡ cutShort file) {n : ℕ} (en : n ≡ countBy (hasKey 0 (72 ∷ 67 ∷ [])) (records file)) where
+          counted-all : (x : Bool) → ltb 256 n ≡ x → holds (wrongs cs file) ≡ (wrong || (x || false))
+          unfolding manyCarried isCarried
+          counted-all x t = marked false wrong (sym g) refl ∙ ap (λ (y : Bool). wrong || (y || false)) (ap (ltb 256) (sym en) ∙ t)
+
+          pub file-over : r ≡ true → 256 < n → Is
+          file-over e k = e ∙ sym (counted-all true (lt-ltb 256 n k) ∙ ends wrong)
+            where
+              ends : (x : Bool) → (x || (true || false)) ≡ true
+              ends true = refl
+              ends false = refl
+
+          pub file-records : n ≤ 256 → r ≡ wrong → Is
+          file-records k e = e ∙ sym (counted-all false (le-ltb 256 n k) ∙ ends wrong)
+            where
+              ends : (x : Bool) → (x || (false || false)) ≡ x
+              ends true = refl
+              ends false = refl
 
         pub file-many : false ≡ cutShort file → false ≡ wrong → {n : ℕ} → n ≡ countBy (hasKey 0 (72 ∷ 67 ∷ [])) (records file) → r ≡ ltb 256 n → Is
         unfolding manyCarried isCarried

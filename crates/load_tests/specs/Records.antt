@@ -1,14 +1,14 @@
 -- The records of a saved file behind its first ten bytes, each as its bytes: mark 2, slot 8, length 2, row blob.
 -- Assumes nothing.
-use Prim.Native.Nat.{ℕ, zero, suc, _+_, _-_, _≤_}
+use Prim.Native.Nat.{ℕ, zero, suc, _+_, _-_, _*_, _≤_}
 use mathlib.Core.Path.{_≡_}
-use mathlib.Core.Bool.{Bool, cond, _&&_}
-use mathlib.Core.List.{List, [], _∷_}
+use mathlib.Core.Bool.{Bool, false, cond, _&&_}
+use mathlib.Core.List.{List, [], _∷_, map}
 use lib.ListN.{length, take, drop}
 use lib.Dec.{leb}
 use Rattle.octets.specs.Bytes.{part, num}
-use Rattle.table.specs.Lists.{countBy}
-use Rattle.table.specs.Rows.{join, hasKey}
+use Rattle.table.specs.Lists.{countBy, filter}
+use Rattle.table.specs.Rows.{join, rows, hasKey}
 
 -- the bytes of the record at the front, by its length
 unfoldable pub recordSize : List ℕ → ℕ
@@ -54,6 +54,19 @@ isTombstone b = hasKey 0 (72 ∷ 84 ∷ []) b
 -- has a record the key at the offset, and is it carried where that is asked
 unfoldable pub counted : Bool → ℕ → List ℕ → List ℕ → Bool
 counted carriedOnly offset key b = cond carriedOnly (isCarried b && hasKey offset key b) (hasKey offset key b)
+
+-- no slot is that of two records
+unfoldable pub SlotsOnce : List (List ℕ) → Type 0
+SlotsOnce rs = (slot : List ℕ) → length slot ≡ 8 → countBy (counted false 2 slot) rs ≤ 1
+
+-- the depositor and the tag of each carried record
+unfoldable pub carriedKeys : List (List ℕ) → List (List ℕ)
+carriedKeys rs = map (λ (b : List ℕ). part b 13 24) (filter isCarried rs)
+
+-- the k rows of an area are those of a file's records
+pub record Gathered (file keys : List ℕ) (k : ℕ) : Type 0 where
+  pub inside : k * 24 ≤ length keys
+  pub are : rows 24 k keys ≡ carriedKeys (records file)
 
 -- some records are counted: k before the place at
 pub record Counting (p : List ℕ → Bool) (file : List ℕ) (at k : ℕ) : Type 0 where

@@ -1,6 +1,7 @@
 -- Number 8 of a load, condition by condition; then 4 and 5.
 -- Assumes nothing.
-use Prim.Native.Nat.{ℕ, _+_}
+use Prim.Native.Nat.{ℕ, _+_, _≤_}
+use mathlib.Core.Path.{_≡_}
 use mathlib.Core.Bool.{Bool, true, false, not, _&&_, _||_}
 use mathlib.Core.List.{List, [], _∷_, _++_, map}
 use lib.ListN.{length}
@@ -19,7 +20,7 @@ use Rattle.model.specs.Cells.{cellCount}
 use Rattle.model.specs.Saved.{heldMark}
 use Rattle.load_tests.specs.declared.Tested.{Tested}
 use Rattle.load_tests.specs.declared.Tested.the-variants as tested
-use Rattle.load_tests.specs.Records.{records, slotIn, blobIn, depositorIn, tagIn, isCarried, isTombstone, counted}
+use Rattle.load_tests.specs.Records.{records, WholeAt, slotIn, blobIn, depositorIn, tagIn, isCarried, isTombstone, counted, SlotsOnce, Gathered}
 
 -- ---- of a record
 
@@ -83,6 +84,15 @@ unfoldable pub carriedFails : List Contact → List (List ℕ) → List ℕ → 
 carriedFails contacts rs b =
     not (known contacts (record { 0 = num (depositorIn b) }))
     || (ltb 1 (countBy (counted true 21 (tagIn b)) rs) || ltb 32 (countBy (counted true 13 (depositorIn b)) rs))
+
+-- the record of n bytes at a place, of the right kind, is asked for its row: where rise is true no slot is there twice
+pub record RowAsked (file : List ℕ) (at n : ℕ) (rise : Bool) (keys : List ℕ) (k : ℕ) : Type 0 where
+  pub start : 10 ≤ length file
+  pub whole : WholeAt file 10
+  pub inside : at + n ≤ length file
+  pub kind : fails kindTests (part file at n) ≡ false
+  pub once : rise ≡ true → SlotsOnce (records file)
+  pub gathered : Gathered file keys k
 
 -- ---- of a file
 

@@ -2,15 +2,16 @@
 ghost use mathlib.Core.Path.{_≡_};
 ghost use mathlib.Core.Bool.{true, false};
 ghost use mathlib.Core.List.{[], _∷_};
-ghost use Prim.Native.Nat.{_+_, _≤_, _<_};
+ghost use Prim.Native.Nat.{_+_, _*_, _≤_, _<_};
+ghost use lib.Dec.{ltb};
 ghost use lib.ListN.{length, drop};
 ghost use Rattle.octets.specs.Bytes.{part, num};
 ghost use Rattle.table.specs.Lists.{any, countBy};
-ghost use Rattle.table.specs.Rows.{hasKey};
+ghost use Rattle.table.specs.Rows.{rows, hasKey};
 ghost use Rattle.table.specs.Codec.{tableOf};
 ghost use Rattle.rows.specs.Rows.{contactCodec};
-ghost use Rattle.load_tests.specs.Records.{recordSize, records, WholeAt, isCarried, counted};
-ghost use Rattle.load_tests.specs.Tests.{fails, kindTests, rowTests, recordTests, carriedFails, cutShort, holds, wrongs, loadTests, testedAs};
+ghost use Rattle.load_tests.specs.Records.{recordSize, records, WholeAt, counted, SlotsOnce, Gathered};
+ghost use Rattle.load_tests.specs.Tests.{fails, kindTests, rowTests, recordTests, carriedFails, RowAsked, cutShort, carriedCount, holds, wrongs, loadTests, testedAs};
 use core::ContactId;
 use core::Refusal;
 use state::HeldKind;
@@ -73,43 +74,88 @@ fn has_mark(file: &[u8], at: usize, n: usize, letter: u8) -> bool
     has_key(file, at, n, 0, &mark)
 }
 
-// Is it carried, and has it the key?
-fn is_carried_with(file: &[u8], at: usize, n: usize, offset: usize, key: &[u8]) -> bool
-    requires { ⌜ (at + n ≤ length (now file)) × (0 < length (now key)) ⌝ }
-    ensures { λ r. ⌜ r ≡ counted true offset (now (key .entry)) (part (now (file .entry)) at n) ⌝ }
-{
-    if has_mark(file, at, n, 67) {
-        return has_key(file, at, n, offset, key);
-    }
-    false
-}
-
-// Has it the key at the offset, and is it carried where that is asked?
-fn is_counted(file: &[u8], at: usize, n: usize, only: bool, offset: usize, key: &[u8]) -> bool
-    requires { ⌜ (at + n ≤ length (now file)) × (0 < length (now key)) ⌝ }
-    ensures { λ r. ⌜ r ≡ counted only offset (now (key .entry)) (part (now (file .entry)) at n) ⌝ }
-{
-    if only {
-        return is_carried_with(file, at, n, offset, key);
-    }
-    has_key(file, at, n, offset, key)
-}
-
-// How many records have it?
-fn count(file: &[u8], only: bool, offset: usize, key: &[u8]) -> usize
+// How many records have the key at the offset?
+fn count(file: &[u8], offset: usize, key: &[u8]) -> usize
     requires { ⌜ (10 ≤ length (now file)) × (WholeAt (now file) 10 × (0 < length (now key))) ⌝ }
-    ensures { λ r. ⌜ r ≡ countBy (counted only offset (now (key .entry))) (records (now (file .entry))) ⌝ }
+    ensures { λ r. ⌜ r ≡ countBy (hasKey offset (now (key .entry))) (records (now (file .entry))) ⌝ }
 {
     let mut at = 10;
     let mut k = 0;
     while at < file.len() {
         let n = size_at(file, at);
-        if is_counted(file, at, n, only, offset, key) {
+        if has_key(file, at, n, offset, key) {
             k += 1;
         }
         at += n;
     }
     k
+}
+
+// How many records are of a mark?
+fn marked(file: &[u8], letter: u8) -> usize
+    requires { ⌜ (10 ≤ length (now file)) × WholeAt (now file) 10 ⌝ }
+    ensures { λ r. ⌜ r ≡ countBy (hasKey 0 (72 ∷ letter ∷ [])) (records (now (file .entry))) ⌝ }
+{
+    let mark = [72u8, letter];
+    count(file, 0, &mark)
+}
+
+// Do the slots rise along the file? Then no slot is there twice.
+fn slots_rise(file: &[u8]) -> bool
+    requires { ⌜ (10 ≤ length (now file)) × WholeAt (now file) 10 ⌝ }
+    ensures { λ r. ⌜ (r ≡ true → SlotsOnce (records (now (file .entry)))) ⌝ }
+{
+    let mut at = 10;
+    let mut low = 0;
+    while at < file.len() {
+        let n = size_at(file, at);
+        let slot = octets::get_u64(file, at + 2);
+        if slot < low {
+            return false;
+        }
+        if slot == u64::MAX {
+            return false;
+        }
+        low = slot + 1;
+        at += n;
+    }
+    true
+}
+
+// ---- the depositors and tags of the carried records, side by side: each is counted there, not by a walk through the file
+
+// Writes those of each carried record, in rows of 24. Answers how many there are.
+fn gather(file: &[u8], keys: &mut [u8]) -> usize
+    requires { ⌜ ((10 ≤ length (now file)) × WholeAt (now file) 10) × ((any (fails kindTests) (records (now file)) ≡ false) × (carriedCount (now file) * 24 ≤ length (now keys))) ⌝ }
+    ensures { λ r. ⌜ Gathered (now (file .entry)) (now (keys .exit)) r ⌝ }
+{
+    let mut at = 10;
+    let mut k = 0;
+    while at < file.len() {
+        let n = size_at(file, at);
+        if has_mark(file, at, n, 67) {
+            let more = table::push(keys, 24, k, &file[at + 13..at + 37]);
+            k = more;
+        }
+        at += n;
+    }
+    k
+}
+
+// How many of k rows have at the offset the len bytes of the file at a place?
+fn count_keys(keys: &[u8], k: usize, offset: usize, file: &[u8], at: usize, len: usize) -> usize
+    requires { ⌜ ((k * 24 ≤ length (now keys)) × (offset + len ≤ 24)) × (at + len ≤ length (now file)) ⌝ }
+    ensures { λ r. ⌜ r ≡ countBy (hasKey offset (part (now (file .entry)) at len)) (rows 24 k (now (keys .entry))) ⌝ }
+{
+    let mut i = 0;
+    let mut found = 0;
+    while i < k {
+        if octets::same(keys, i * 24 + offset, file, at, len) {
+            found += 1;
+        }
+        i += 1;
+    }
+    found
 }
 
 // ---- number 8, record by record
@@ -128,45 +174,10 @@ fn wrong_kind(file: &[u8], at: usize, n: usize) -> bool
     }
 }
 
-// A carried record: is its depositor unknown, its tag there twice, or are over 32 of its depositor?
-fn wrong_carried(file: &[u8], at: usize, n: usize, contacts: &[u8], known: usize) -> bool
-    requires { ⌜ ((at + n ≤ length (now file)) × (37 ≤ n)) × ((10 ≤ length (now file)) × WholeAt (now file) 10) ⌝ }
-    ensures { λ r. ⌜ r ≡ carriedFails (tableOf contactCodec known (now (contacts .entry))) (records (now (file .entry))) (part (now (file .entry)) at n) ⌝ }
-{
-    let whose = at + 13;
-    let tag = at + 21;
-    let id = octets::get_u64(file, whose);
-    if !contacts::known(contacts, known, ContactId(id)) {
-        return true;
-    }
-    if 1 < count(file, true, 21, &file[tag..tag + 16]) {
-        return true;
-    }
-    32 < count(file, true, 13, &file[whose..whose + 8])
-}
-
-// Is its slot not below the next, or there twice; or is it a wrong carried one?
-fn wrong_row(file: &[u8], at: usize, n: usize, next: u64, contacts: &[u8], known: usize) -> bool
-    requires { ⌜ ((at + n ≤ length (now file)) × (fails kindTests (part (now file) at n) ≡ false)) × ((10 ≤ length (now file)) × WholeAt (now file) 10) ⌝ }
-    ensures { λ r. ⌜ r ≡ fails (rowTests next (tableOf contactCodec known (now (contacts .entry))) (records (now (file .entry)))) (part (now (file .entry)) at n) ⌝ }
-{
-    let slot = at + 2;
-    if next <= octets::get_u64(file, slot) {
-        return true;
-    }
-    if 1 < count(file, false, 2, &file[slot..slot + 8]) {
-        return true;
-    }
-    if has_mark(file, at, n, 67) {
-        return wrong_carried(file, at, n, contacts, known);
-    }
-    false
-}
-
-// Is a record wrong?
-fn wrong_records(file: &[u8], next: u64, contacts: &[u8], known: usize) -> bool
+// Is the mark, the blob or the kind of a record wrong?
+fn wrong_kinds(file: &[u8]) -> bool
     requires { ⌜ (10 ≤ length (now file)) × WholeAt (now file) 10 ⌝ }
-    ensures { λ r. ⌜ r ≡ any (fails (recordTests next (tableOf contactCodec known (now (contacts .entry))) (records (now (file .entry))))) (records (now (file .entry))) ⌝ }
+    ensures { λ r. ⌜ r ≡ any (fails kindTests) (records (now (file .entry))) ⌝ }
 {
     let mut at = 10;
     while at < file.len() {
@@ -174,7 +185,83 @@ fn wrong_records(file: &[u8], next: u64, contacts: &[u8], known: usize) -> bool
         if wrong_kind(file, at, n) {
             return true;
         }
-        if wrong_row(file, at, n, next, contacts, known) {
+        at += n;
+    }
+    false
+}
+
+// A carried record: is its depositor unknown, its tag there twice, or are over 32 of its depositor?
+fn wrong_carried(
+    file: &[u8],
+    at: usize,
+    n: usize,
+    keys: &[u8],
+    k: usize,
+    contacts: &[u8],
+    known: usize,
+) -> bool
+    requires { ⌜ ((at + n ≤ length (now file)) × (37 ≤ n)) × Gathered (now file) (now keys) k ⌝ }
+    ensures { λ r. ⌜ r ≡ carriedFails (tableOf contactCodec known (now (contacts .entry))) (records (now (file .entry))) (part (now (file .entry)) at n) ⌝ }
+{
+    let id = octets::get_u64(file, at + 13);
+    if !contacts::known(contacts, known, ContactId(id)) {
+        return true;
+    }
+    if 1 < count_keys(keys, k, 8, file, at + 21, 16) {
+        return true;
+    }
+    32 < count_keys(keys, k, 0, file, at + 13, 8)
+}
+
+// Is the slot at a place that of two records? Where slots rise it is not, and the file is not walked.
+fn slot_twice(file: &[u8], slot: usize, rise: bool) -> bool
+    requires { ⌜ ((slot + 8 ≤ length (now file)) × (rise ≡ true → SlotsOnce (records (now file)))) × ((10 ≤ length (now file)) × WholeAt (now file) 10) ⌝ }
+    ensures { λ r. ⌜ r ≡ ltb 1 (countBy (counted false 2 (part (now (file .entry)) slot 8)) (records (now (file .entry)))) ⌝ }
+{
+    if rise {
+        return false;
+    }
+    1 < count(file, 2, &file[slot..slot + 8])
+}
+
+// Is its slot not below the next, or there twice; or is it a wrong carried one?
+fn wrong_row(
+    file: &[u8],
+    at: usize,
+    n: usize,
+    next: u64,
+    rise: bool,
+    keys: &[u8],
+    k: usize,
+    contacts: &[u8],
+    known: usize,
+) -> bool
+    requires { ⌜ RowAsked (now file) at n rise (now keys) k ⌝ }
+    ensures { λ r. ⌜ r ≡ fails (rowTests next (tableOf contactCodec known (now (contacts .entry))) (records (now (file .entry)))) (part (now (file .entry)) at n) ⌝ }
+{
+    let slot = at + 2;
+    if next <= octets::get_u64(file, slot) {
+        return true;
+    }
+    if slot_twice(file, slot, rise) {
+        return true;
+    }
+    if has_mark(file, at, n, 67) {
+        return wrong_carried(file, at, n, keys, k, contacts, known);
+    }
+    false
+}
+
+// Is the row of a record wrong?
+fn wrong_rows(file: &[u8], next: u64, keys: &[u8], k: usize, contacts: &[u8], known: usize) -> bool
+    requires { ⌜ ((10 ≤ length (now file)) × WholeAt (now file) 10) × ((any (fails kindTests) (records (now file)) ≡ false) × Gathered (now file) (now keys) k) ⌝ }
+    ensures { λ r. ⌜ r ≡ any (fails (rowTests next (tableOf contactCodec known (now (contacts .entry))) (records (now (file .entry))))) (records (now (file .entry))) ⌝ }
+{
+    let rise = slots_rise(file);
+    let mut at = 10;
+    while at < file.len() {
+        let n = size_at(file, at);
+        if wrong_row(file, at, n, next, rise, keys, k, contacts, known) {
             return true;
         }
         at += n;
@@ -182,16 +269,20 @@ fn wrong_records(file: &[u8], next: u64, contacts: &[u8], known: usize) -> bool
     false
 }
 
-// ---- a file
-
-// How many records are of a mark?
-fn marked(file: &[u8], letter: u8) -> usize
-    requires { ⌜ (10 ≤ length (now file)) × WholeAt (now file) 10 ⌝ }
-    ensures { λ r. ⌜ r ≡ countBy (hasKey 0 (72 ∷ letter ∷ [])) (records (now (file .entry))) ⌝ }
+// Is a record wrong? At most 256 are carried, so their keys fit 256 rows of 24.
+fn wrong_records(file: &[u8], next: u64, contacts: &[u8], known: usize) -> bool
+    requires { ⌜ ((10 ≤ length (now file)) × WholeAt (now file) 10) × (carriedCount (now file) ≤ 256) ⌝ }
+    ensures { λ r. ⌜ r ≡ any (fails (recordTests next (tableOf contactCodec known (now (contacts .entry))) (records (now (file .entry))))) (records (now (file .entry))) ⌝ }
 {
-    let mark = [72u8, letter];
-    count(file, false, 0, &mark)
+    if wrong_kinds(file) {
+        return true;
+    }
+    let mut keys = [0u8; 6144];
+    let k = gather(file, &mut keys);
+    wrong_rows(file, next, &keys, k, contacts, known)
 }
+
+// ---- a file
 
 // Number 8.
 fn wrong_file(file: &[u8], contacts: &[u8], known: usize) -> bool
@@ -207,11 +298,11 @@ fn wrong_file(file: &[u8], contacts: &[u8], known: usize) -> bool
     if cut_short(file) {
         return true;
     }
-    let next = octets::get_u64(file, 2);
-    if wrong_records(file, next, contacts, known) {
+    if 256 < marked(file, 67) {
         return true;
     }
-    256 < marked(file, 67)
+    let next = octets::get_u64(file, 2);
+    wrong_records(file, next, contacts, known)
 }
 
 // All that a load tests: 8, then 4 by the bytes of the cells, then 5.

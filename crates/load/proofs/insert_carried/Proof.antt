@@ -21,7 +21,7 @@ proper s = record {
 }
 
 returns : tie.Need-returns
-returns c = let s = c .before .before .before .before .before .before .before in inserted-by carried-laws carriedSlot carried-starts _ _ _ _ _ _ (s .pre) (proper s) (c .before .before .before .before .before .carried-bytes .ensures) (c .before .before .insert-row .ensures)
+returns c = let s = c .before .before .before .before .before .before .before in inserted-by carried-laws carriedSlot carried-starts _ _ _ _ _ _ (s .pre .0) (proper s) (c .before .before .before .before .before .carried-bytes .ensures) (c .before .before .insert-row .ensures)
 
 pub insert-carried-spec : {M : Type 1} → statement M
 insert-carried-spec =

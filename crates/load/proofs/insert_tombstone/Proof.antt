@@ -17,7 +17,7 @@ proper s = record {
 }
 
 returns : tie.Need-returns
-returns c = let s = c .before .before .before .before .before .before .before in inserted-by tombstone-laws tombstoneSlot tombstone-starts _ _ _ _ _ _ (s .pre) (proper s) (c .before .before .before .before .before .tombstone-bytes .ensures) (c .before .before .insert-row .ensures)
+returns c = let s = c .before .before .before .before .before .before .before in inserted-by tombstone-laws tombstoneSlot tombstone-starts _ _ _ _ _ _ (s .pre .0) (proper s) (c .before .before .before .before .before .tombstone-bytes .ensures) (c .before .before .insert-row .ensures)
 
 pub insert-tombstone-spec : {M : Type 1} → statement M
 insert-tombstone-spec =

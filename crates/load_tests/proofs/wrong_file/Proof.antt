@@ -1,9 +1,10 @@
 -- `wrong_file`: each test of number 8 in turn. Assumes nothing.
-use native.Mathlib.Omega.{arith}
-use Rattle.load_tests.proofs.TestLaws.{by-next, file-short, file-mark, file-cut, file-wrong, file-many}
+use Rattle.load_tests.proofs.TestLaws.{by-next, file-short, file-mark, file-cut, file-over, file-records}
 use Rattle.load_tests.proofs.RecordLaws.{not-cut-whole}
+use Rattle.load_tests.specs.Records.{isCarried}
 use borrow.Author.Tests.{not-true, not-false}
 use mathlib.Core.Path.{refl, sym, _∙_}
+use native.Mathlib.Omega.{arith}
 use borrow.Author.Needs.{needs}
 use Rattle.load_tests.proofs.wrong_file.Statement.{statement}
 use Rattle.load_tests.proofs.wrong_file.Tie as tie
@@ -17,21 +18,22 @@ returns-2 c = file-mark _ _ _ (omega arith) refl (c .before .same .ensures) (not
 returns-3 : tie.Need-returns-3
 returns-3 c = file-cut _ _ _ (omega arith) (c .before .before .before .same .ensures) (not-false _ (c .before .before .if2 .left)) refl (sym (c .if3 .taken) ∙ c .before .cut-short .ensures)
 
-wrong-records-requires : tie.Need-wrong-records-requires
-wrong-records-requires c κs = (omega arith, not-cut-whole _ (omega arith) (sym (c .before .before .cut-short .ensures) ∙ c .before .if3 .left))
+marked-requires : tie.Need-marked-requires
+marked-requires c κs = (omega arith, not-cut-whole _ (omega arith) (sym (c .before .cut-short .ensures) ∙ c .if3 .left))
 
 returns-4 : tie.Need-returns-4
-returns-4 c = file-wrong _ _ _ (omega arith) (c .before .before .before .before .before .before .same .ensures) (not-false _ (c .before .before .before .before .before .if2 .left)) refl (sym (c .before .before .before .if3 .left) ∙ c .before .before .before .before .cut-short .ensures) (by-next _ _ (c .before .before .get-u64 .ensures) (sym (c .if4 .taken) ∙ c .before .wrong-records .ensures))
+returns-4 c = file-over _ _ _ (omega arith) (c .before .before .before .before .before .same .ensures) (not-false _ (c .before .before .before .before .if2 .left)) (sym (c .before .before .if3 .left) ∙ c .before .before .before .cut-short .ensures) (c .before .marked .ensures) refl (c .if4 .taken)
 
-marked-requires : tie.Need-marked-requires
-marked-requires c κs = (omega arith, not-cut-whole _ (omega arith) (sym (c .before .before .before .before .cut-short .ensures) ∙ c .before .before .before .if3 .left))
+wrong-records-requires : tie.Need-wrong-records-requires
+unfolding isCarried
+wrong-records-requires c κs = ((omega arith, not-cut-whole _ (omega arith) (sym (c .before .before .before .before .cut-short .ensures) ∙ c .before .before .before .if3 .left)), omega (arith, c .before .before .marked .ensures, c .before .if4 .left))
 
 returns-5 : tie.Need-returns-5
-returns-5 c = file-many _ _ _ (omega arith) (c .before .before .before .before .before .before .before .same .ensures) (not-false _ (c .before .before .before .before .before .before .if2 .left)) (sym (c .before .before .before .before .if3 .left) ∙ c .before .before .before .before .before .cut-short .ensures) (by-next _ _ (c .before .before .before .get-u64 .ensures) (sym (c .before .if4 .left) ∙ c .before .before .wrong-records .ensures)) (c .marked .ensures) refl
+returns-5 c = file-records _ _ _ (omega arith) (c .before .before .before .before .before .before .before .same .ensures) (not-false _ (c .before .before .before .before .before .before .if2 .left)) (sym (c .before .before .before .before .if3 .left) ∙ c .before .before .before .before .before .cut-short .ensures) (c .before .before .before .marked .ensures) (c .before .before .if4 .left) (by-next _ _ (c .before .get-u64 .ensures) (c .wrong-records .ensures))
 
 pub wrong-file-spec : {M : Type 1} → statement M
 wrong-file-spec =
     tie.close
     (tie.spec
-    returns (λ c. search needs) (λ c κs. search needs) returns-2 (λ c κs. search needs) returns-3 (λ c κs. search needs)
-    wrong-records-requires returns-4 marked-requires returns-5)
+    returns (λ c. search needs) (λ c κs. search needs) returns-2 (λ c κs. search needs) returns-3 marked-requires returns-4
+    (λ c κs. search needs) wrong-records-requires returns-5)
