@@ -542,7 +542,7 @@ goosetable_answer goosetable_save(
  * is saved, and its blob is refused.
  * Writes: device, carried, tombstones, carried_cells.
  * Refused by: 8, 4, 5.
- * Stack: 656 bytes.
+ * Stack: 6,752 bytes.
  */
 goosetable_answer goosetable_load(
     uint8_t device[GOOSETABLE_DEVICE_SIZE],
