@@ -12,7 +12,7 @@ use state::CourierConfig;
 
 // ---- flags
 
-pub fn is_on(byte: u8) -> bool
+fn is_on(byte: u8) -> bool
     ensures { λ r. ⌜ r ≡ isOn byte ⌝ }
 {
     byte != 0

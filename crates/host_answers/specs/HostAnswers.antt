@@ -8,7 +8,6 @@ use lib.ListN as lists
 use lib.Dec.{eqb}
 use Rattle.core.specs.Core.{refusalNumber}
 use Rattle.core.specs.declared.Refusal.{Refusal}
-use Rattle.rows.specs.declared.Own.{Own}
 use Rattle.rows.specs.Rows.{ownBytes}
 use Rattle.chain.specs.declared.Windowed.{Windowed}
 use Rattle.chain.specs.declared.Windowed.the-variants as windowed

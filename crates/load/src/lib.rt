@@ -3,7 +3,7 @@
 ghost use mathlib.Core.Path.{_≡_};
 ghost use Prim.Native.Nat.{_+_, _*_, _≤_, _<_};
 ghost use lib.ListN.{length};
-ghost use Rattle.octets.specs.Bytes.{part, num, splice};
+ghost use Rattle.octets.specs.Bytes.{part, num};
 ghost use Rattle.table.specs.Lists.{position, unwrapOr, insertAt};
 ghost use Rattle.table.specs.Rows.{rows, RowsNow};
 ghost use Rattle.rows.specs.Rows.{carriedCodec, tombstoneCodec};

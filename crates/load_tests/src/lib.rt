@@ -5,7 +5,7 @@ ghost use mathlib.Core.List.{[], _∷_};
 ghost use Prim.Native.Nat.{_+_, _*_, _≤_, _<_};
 ghost use lib.Dec.{ltb};
 ghost use lib.ListN.{length, drop};
-ghost use Rattle.octets.specs.Bytes.{part, num};
+ghost use Rattle.octets.specs.Bytes.{part};
 ghost use Rattle.table.specs.Lists.{any, countBy};
 ghost use Rattle.table.specs.Rows.{rows, hasKey};
 ghost use Rattle.table.specs.Codec.{tableOf};

@@ -3,7 +3,6 @@ use mathlib.Core.Path.{sym, ap, ap₂}
 use mathlib.Core.Bool.{Bool, cond}
 use borrow.Author.Tests.{eq-eqb, ne-eqb, not-true, not-false}
 use Rattle.boundary.specs.Boundary.{flagOver}
-use borrow.Author.Needs.{needs}
 use Rattle.boundary.proofs.flag_over.Statement.{statement}
 use Rattle.boundary.proofs.flag_over.Tie as tie
 

@@ -1,6 +1,5 @@
 -- The bytes are those of a fresh device, which they hold.
 use mathlib.Core.Path.{refl, ap, _∙_}
-use Prim.Native.Nat.{ℕ}
 use native.Mathlib.Omega.{arith}
 use Rattle.rows.specs.declared.Device.{Device}
 use Rattle.rows.specs.Device.{freshDevice}

@@ -1,7 +1,6 @@
 -- The bytes are the definition's, and what they hold is the device.
 use mathlib.Core.Path.{ap, _∙_}
 use Prim.Native.Nat.{ℕ}
-use mathlib.Core.Bool.{Bool}
 use Rattle.boundary.specs.Boundary.{flagOver, isOn, deviceOf, deviceBytes, deviceArea}
 use Rattle.boundary.proofs.AreaLaws.{flag-says, device-back}
 use borrow.Author.Needs.{needs}
