@@ -7,16 +7,20 @@
  *
  * What is asked of a caller, and nothing else:
  *
- *   - no pointer is null, also where its length is 0;
+ *   - no pointer is null, also where its length is 0: an empty area (no window row, no skipped key, an empty list) is a pointer to any byte
+ *     with length 0, (const uint8_t *)"", 0 where it is only read; NULL, 0 is excluded;
  *   - an area that a call writes (a pointer without const) overlaps no other area of the same call;
  *   - an area with a size in brackets has at least that many bytes, and one with a length beside it has that many.
  *
  * Areas are bytes: any alignment, any length and any contents will do. What is wrong with them is answered by a refusal, and a row or a count
  * that no call left is read as what fits. A refused call (1 to 13) changes no byte of any area.
  *
- * The device area is made by goosetable_fresh. An exchange area starts as zeros: an exchange that was opened for nobody; the areas for its
- * prefixes and offers go with it. The other areas may hold anything at first: the counts in the device and exchange areas say how many rows
- * of a table are there. R, the number of tombstone rows, and the numbers of cells and of bad-tag rows are the whole rows that fit their area.
+ * docs/HOST.md says how a host runs a post with these calls: how much memory it lends, a meeting call by call, what it stores, how it starts again.
+ *
+ * The device area is made by goosetable_fresh, an exchange by goosetable_fresh_exchange, over any bytes; zeros are an exchange that was opened
+ * for nobody. The areas for its prefixes and offers go with it. The other areas may hold anything at first: the counts in the device and exchange
+ * areas say how many rows of a table are there. R, the number of tombstone rows, and the numbers of cells and of bad-tag rows are the whole rows
+ * that fit their area.
  *
  * Numbers in areas are big-endian, rows stand one after the other without gaps, and this is how they lie (bytes in all, then field by field):
  *
@@ -37,6 +41,14 @@
  * The body of a reply begins with the tag (16). Then an envelope has commitment 16, expiry 4, copies 1; a custody reply the code 1; a tomb the
  * secret 16; the rest is zeros. An expiry is in minutes; the minute is the clock's seconds / 60. A flag (enabled, opened, complete) is on unless
  * its byte is 0, and a call that leaves a flag on or off leaves its byte.
+ *
+ * The cell of a reply is 0 unless it is an envelope's. An envelope has the cell of its row: 0 to 255 is that cell of the own cells, 256 to 511 is
+ * cell 0 to 255 of the carried cells. The first 256 cells of an area count: a row of another cell, which no call makes, has no ciphertext, and its
+ * reply has cell 65,535 (GOOSETABLE_NO_CELL). The share of a contact (docs/PROMISES.md, demand 3) is promised for 256 carried cells
+ * alone: with fewer, 4 comes where the code would be Accepted, and the peer gets no code.
+ *
+ * The functions at the end read all of this: fields of the device, of an exchange, of rows and bodies, the ciphertext of a reply's envelope, and
+ * the names of what calls say. Whatever the areas hold, they read nothing outside them.
  *
  * Each call's comment has what it does, what it writes, and the refusals in the order in which they are tested; the areas behind 1 are those
  * that 1 speaks of, each asked for whole. "Stack" is what the call takes below its caller's frame, its return address included:
@@ -81,6 +93,8 @@ extern "C" {
 
 /* The most rows of each table of fixed size, and the most cells of an area that count. */
 #define GOOSETABLE_MAX_ROWS 256
+/* The cell in the reply of a row whose cell does not count: the envelope has no ciphertext here. */
+#define GOOSETABLE_NO_CELL 65535
 /* The most prefixes that an exchange lists, and the most offers that it has. */
 #define GOOSETABLE_MAX_LISTED 512
 
@@ -148,7 +162,7 @@ enum goosetable_custody {
 /* What a reply tells the peer. */
 enum goosetable_reply {
     GOOSETABLE_REPLY_FETCH = 0,    /* asks for the envelope of a tag */
-    GOOSETABLE_REPLY_ENVELOPE = 1, /* an envelope; its ciphertext is in the reply's cell: own from 0, carried from 256 */
+    GOOSETABLE_REPLY_ENVELOPE = 1, /* an envelope; its ciphertext is in the reply's cell: own from 0, carried from 256, none in NO_CELL */
     GOOSETABLE_REPLY_CUSTODY = 2,  /* the code for an envelope */
     GOOSETABLE_REPLY_TOMB = 3      /* the secret that proves a delivery */
 };
@@ -157,7 +171,7 @@ enum goosetable_reply {
 enum goosetable_action {
     GOOSETABLE_ACTION_PUT = 0,    /* the held row in a slot: goosetable_row_blob has its bytes */
     GOOSETABLE_ACTION_DELETE = 1, /* the held row in a slot goes */
-    GOOSETABLE_ACTION_OWN_PUT = 2 /* the queued message of a contact and message number */
+    GOOSETABLE_ACTION_OWN_PUT = 2 /* the own row of a contact and message number; it has ended if the own rows no longer have it (a tomb, a drop) */
 };
 
 /* What a held row is. */
@@ -254,10 +268,10 @@ goosetable_answer goosetable_fresh_exchange(
 
 /*
  * An envelope from a peer: tag, commitment c, expiry, copies, ciphertext ct. If the tag is in a window row it says OURS with contact, generation
- * and index, and changes nothing; the host opens it and reports goosetable_opened or goosetable_failed. Else there is one custody reply. The
- * tests are Off, Invalid, Duplicate, Full, and the first that applies is the code. Accepted gives one carried row, with copies and expiry the
- * lesser of their own and the configured, its ciphertext in the first free cell, and one action, a put of its slot. 4 and 6 come only where the
- * code would be Accepted.
+ * and index of the first such row, which also has the direction, and changes nothing; the host opens it and reports goosetable_opened or
+ * goosetable_failed. Else there is one custody reply. The tests are Off, Invalid, Duplicate, Full, and the first that applies is the code. Accepted
+ * gives one carried row, with copies and expiry the lesser of their own and the configured, its ciphertext in the first free cell, and one action,
+ * a put of its slot. 4 and 6 come only where the code would be Accepted.
  * Writes: device, carried, carried_cells, replies, actions.
  * Refused by: 1 (replies, actions), 12, 2, 4, 6.
  * Stack: 560 bytes.
@@ -287,7 +301,8 @@ goosetable_answer goosetable_envelope(
 
 /*
  * A peer asks for the envelope of a tag: own rows that are not for this peer come first, then carried rows. The one reply is the envelope, its
- * cell says where the ciphertext begins, and length is the ciphertext's; MISSING if there is none. It takes no copies off.
+ * cell says where the ciphertext begins, and length is the ciphertext's, 0 where the cell is NO_CELL or outside its area; MISSING if there is no
+ * envelope. It takes no copies off.
  * Writes: replies.
  * Refused by: 1 (replies), 2.
  * Stack: 3,224 bytes.
@@ -354,11 +369,13 @@ goosetable_answer goosetable_inventory_of_ours(
  * A list of prefixes from a peer, gathered in the exchange; the empty list is the terminator and is answered: fetches for listed prefixes in the
  * window, in listed order, unless the tag of the first such row is bad for this peer; then the tombs of listed prefixes; then offers, which are
  * envelopes with half of the copies, own rows before carried rows, but none with copies 1 or 0, of a tombstoned tag or a listed prefix, nor own
- * ones for this peer. The row or a fetch of its tag says how long an offered ciphertext is. MALFORMED: over 512 prefixes in all, or any list
- * after the terminator.
+ * ones for this peer. goosetable_ciphertext and goosetable_ciphertext_length have the ciphertext of an offer; a fetch would write its own reply,
+ * with all of the copies, over the replies that are being read. Rows are looked up in the window for the terminator alone, but all of it is tested
+ * (12, 2) with each list, which takes its time: lend an empty window until the terminator. MALFORMED: over 512 prefixes in all, or any list after
+ * the terminator.
  * Writes: exchange, prefixes, offers, replies.
  * Refused by: 1 (replies, prefixes, offers), 12, 2, 3.
- * Stack: 3,352 bytes.
+ * Stack: 3,336 bytes.
  */
 goosetable_answer goosetable_inventory(
     const uint8_t device[GOOSETABLE_DEVICE_SIZE],
@@ -429,7 +446,7 @@ goosetable_answer goosetable_stored_tombstone(
 /*
  * A tomb from a peer: a tag, and the secret s that its commitment is of. A carried row with the tag is looked for first; it turns into a
  * tombstone that retains its slot and expiry, and its put is listed. Else an own row is ended: an own put, and its tombstone is stored as by
- * goosetable_stored_tombstone. A wrong secret is MALFORMED, an unknown tag changes nothing.
+ * goosetable_stored_tombstone. A wrong secret is MALFORMED; an unknown tag changes nothing, and is DONE.
  * Writes: device, own, carried, tombstones, actions.
  * Refused by: 1 (actions), 2, 5, 6.
  * Stack: 3,448 bytes.
@@ -469,7 +486,8 @@ goosetable_answer goosetable_opened(
     size_t actions_len);
 
 /*
- * The host could not open an envelope that was ours. It says MALFORMED and adds the tag to those bad for this peer, once.
+ * The host could not open an envelope that was ours. It says MALFORMED and adds the tag to those bad for this peer, once. A bad tag stops the
+ * fetches of goosetable_inventory and nothing else.
  * Writes: device, bad_tags.
  * Refused by: 2, 9.
  * Stack: 192 bytes.
@@ -521,7 +539,8 @@ goosetable_answer goosetable_row_blob(
 
 /*
  * The saved file, and in length its bytes: HN and the 8-byte next slot; then for each held row HC (carried) or HT (tombstone), 8-byte slot,
- * 2-byte length, row blob. The area needs 10 + 2,122 per carried cell + 49 R bytes.
+ * 2-byte length, row blob. The area needs 10 + 2,122 per carried cell + 49 R bytes. In areas that no call left, as where fewer cells are lent than
+ * before, there may be more carried rows than cells that count: the first so many are saved, and the others are not.
  * Writes: file.
  * Refused by: 1 (file).
  * Stack: 2,368 bytes.
@@ -539,7 +558,8 @@ goosetable_answer goosetable_save(
 /*
  * Replaces the held rows and the next slot by those of a saved file, nothing else. 8: mark (its kind too), length or place of HN wrong, blob
  * refused, slot twice or not below next slot, carried tag twice, unknown depositor, over 256 carried or 32 for one. A carried row with copies 0
- * is saved, and its blob is refused.
+ * is saved, and its blob is refused. Rows may stand in any order, but where slots do not rise along the file the time grows with the square of the
+ * number of rows (1,024 tombstones: over a hundred times as long). Of areas that calls left, goosetable_save writes no file whose slots do not rise.
  * Writes: device, carried, tombstones, carried_cells.
  * Refused by: 8, 4, 5.
  * Stack: 6,752 bytes.
@@ -558,8 +578,11 @@ goosetable_answer goosetable_load(
 /* ---- functions of their inputs alone */
 
 /*
- * The message keys that a receiver could still derive, as key rows, and in length how many: the skipped keys (key rows) first, then the chains
- * (chain rows) last to first, each from its next on, 500 at most. The host makes window rows of them with its contact and the tags.
+ * The message keys of one contact that a receiver could still derive, as key rows, and in length how many: the skipped keys (key rows) first, then
+ * the chains (chain rows) last to first, each from its next on, 500 at most. In this order the keys need not rise, and rows of it that are lent as
+ * they stand meet 12. For a window the host makes of each key row (6 bytes) a window row (30): the contact, the key row as it stands, the key's
+ * tag. It puts the window rows of all contacts together, sorts them by their first 14 bytes (contact, direction, generation, index) as memcmp
+ * compares them, and keeps one of each key.
  * Writes: answer.
  * Refused by: 1 (answer), 12.
  * Stack: 56 bytes.
@@ -573,14 +596,41 @@ goosetable_answer goosetable_window(
     size_t answer_len);
 
 /*
- * The held row that a blob is of; kind 0 if it is of none. A carried row's ciphertext is the blob from GOOSETABLE_CARRIED_HEAD on.
+ * The held row that a blob is of; kind 0 if it is of none. The blob of a carried row: 0 (1 byte), depositor 8, tag 16, commitment 16, expiry 4,
+ * copies 1, and from GOOSETABLE_CARRIED_HEAD on the ciphertext; of a tombstone: 1 (1 byte), tag 16, secret 16, expiry 4.
  * Writes: nothing.
  * Refused by: nothing.
  * Stack: 352 bytes.
  */
 goosetable_row goosetable_row_read(const uint8_t *blob, size_t blob_len);
 
-/* ---- reading rows */
+/* ---- reading answers, the device, an exchange and rows */
+
+/* The name of what a call says, as above in lower case ("short area", "ours"); "unknown" of a number that none says. */
+static inline const char *goosetable_said_name(uint8_t said)
+{
+    switch (said) {
+    case GOOSETABLE_DONE: return "done";
+    case GOOSETABLE_REFUSED_SHORT_AREA: return "short area";
+    case GOOSETABLE_REFUSED_UNKNOWN_CONTACT: return "unknown contact";
+    case GOOSETABLE_REFUSED_WRONG_EXCHANGE: return "wrong exchange";
+    case GOOSETABLE_REFUSED_NO_CELL: return "no cell";
+    case GOOSETABLE_REFUSED_NO_TOMBSTONE_ROW: return "no tombstone row";
+    case GOOSETABLE_REFUSED_NO_SLOT: return "no slot";
+    case GOOSETABLE_REFUSED_CONFIGURATION: return "configuration";
+    case GOOSETABLE_REFUSED_SAVED_FILE: return "saved file";
+    case GOOSETABLE_REFUSED_NO_BAD_TAG_ROW: return "no bad tag row";
+    case GOOSETABLE_REFUSED_MESSAGE_NUMBER_TAKEN: return "message number taken";
+    case GOOSETABLE_REFUSED_OWN_LENGTH: return "own length";
+    case GOOSETABLE_REFUSED_WINDOW_ROWS: return "window rows";
+    case GOOSETABLE_REFUSED_LOG_RECORD: return "log record";
+    case GOOSETABLE_MALFORMED: return "malformed";
+    case GOOSETABLE_OURS: return "ours";
+    case GOOSETABLE_MISSING: return "missing";
+    case GOOSETABLE_NO_ENVELOPE: return "no envelope";
+    default: return "unknown";
+    }
+}
 
 /* The number in the first width bytes, at most 8. */
 static inline uint64_t goosetable_number(const uint8_t *bytes, size_t width)
@@ -591,6 +641,77 @@ static inline uint64_t goosetable_number(const uint8_t *bytes, size_t width)
         number = number << 8 | bytes[i];
     return number;
 }
+
+/* A count of rows: the number in 8 bytes, or what fits if it is above. */
+static inline size_t goosetable_count(const uint8_t *bytes, size_t fit)
+{
+    uint64_t count = goosetable_number(bytes, 8);
+    return count < fit ? (size_t)count : fit;
+}
+
+/* The device. How many tombstones and bad tags there are depends on what fits their areas. */
+static inline int goosetable_device_enabled(const uint8_t *device) { return device[0] != 0; }
+static inline uint8_t goosetable_device_copies(const uint8_t *device) { return device[1]; }
+static inline uint16_t goosetable_device_lifetime(const uint8_t *device) { return (uint16_t)goosetable_number(device + 2, 2); }
+static inline uint64_t goosetable_device_clock(const uint8_t *device) { return goosetable_number(device + 4, 8); }
+static inline size_t goosetable_device_contacts(const uint8_t *device) { return goosetable_count(device + 12, GOOSETABLE_MAX_ROWS); }
+static inline size_t goosetable_device_own(const uint8_t *device) { return goosetable_count(device + 20, GOOSETABLE_MAX_ROWS); }
+static inline size_t goosetable_device_carried(const uint8_t *device) { return goosetable_count(device + 28, GOOSETABLE_MAX_ROWS); }
+static inline size_t goosetable_device_tombstones(const uint8_t *device, size_t tombstones_len)
+{
+    return goosetable_count(device + 36, tombstones_len / GOOSETABLE_TOMBSTONE_ROW);
+}
+static inline size_t goosetable_device_bad_tags(const uint8_t *device, size_t bad_tags_len)
+{
+    return goosetable_count(device + 44, bad_tags_len / GOOSETABLE_BAD_TAG_ROW);
+}
+static inline uint64_t goosetable_device_next_slot(const uint8_t *device) { return goosetable_number(device + 52, 8); }
+
+/* An exchange: its peer counts if it was opened. */
+static inline int goosetable_exchange_opened(const uint8_t *exchange) { return exchange[0] != 0; }
+static inline int goosetable_exchange_complete(const uint8_t *exchange) { return exchange[1] != 0; }
+static inline uint64_t goosetable_exchange_peer(const uint8_t *exchange) { return goosetable_number(exchange + 2, 8); }
+static inline size_t goosetable_exchange_listed(const uint8_t *exchange) { return goosetable_count(exchange + 10, GOOSETABLE_MAX_LISTED); }
+static inline size_t goosetable_exchange_offers(const uint8_t *exchange) { return goosetable_count(exchange + 18, GOOSETABLE_MAX_LISTED); }
+
+/* One row of a table, which begins at its area + i * GOOSETABLE_..._ROW; an own row also where goosetable_own_envelope wrote it. */
+static inline uint64_t goosetable_contact_id(const uint8_t *row) { return goosetable_number(row, 8); }
+static inline uint8_t goosetable_contact_verification(const uint8_t *row) { return row[8]; }
+
+static inline uint64_t goosetable_own_contact(const uint8_t *row) { return goosetable_number(row, 8); }
+static inline uint32_t goosetable_own_msgno(const uint8_t *row) { return (uint32_t)goosetable_number(row + 8, 4); }
+static inline const uint8_t *goosetable_own_tag(const uint8_t *row) { return row + 12; }
+static inline const uint8_t *goosetable_own_secret(const uint8_t *row) { return row + 28; }
+static inline uint32_t goosetable_own_expiry(const uint8_t *row) { return (uint32_t)goosetable_number(row + 44, 4); }
+static inline uint8_t goosetable_own_copies(const uint8_t *row) { return row[48]; }
+static inline int goosetable_own_renewed(const uint8_t *row) { return row[49] != 0; }
+static inline uint16_t goosetable_own_length(const uint8_t *row) { return (uint16_t)goosetable_number(row + 50, 2); }
+static inline uint16_t goosetable_own_cell(const uint8_t *row) { return (uint16_t)goosetable_number(row + 52, 2); }
+
+static inline uint64_t goosetable_carried_slot(const uint8_t *row) { return goosetable_number(row, 8); }
+static inline uint64_t goosetable_carried_depositor(const uint8_t *row) { return goosetable_number(row + 8, 8); }
+static inline const uint8_t *goosetable_carried_tag(const uint8_t *row) { return row + 16; }
+static inline const uint8_t *goosetable_carried_commitment(const uint8_t *row) { return row + 32; }
+static inline uint32_t goosetable_carried_expiry(const uint8_t *row) { return (uint32_t)goosetable_number(row + 48, 4); }
+static inline uint8_t goosetable_carried_copies(const uint8_t *row) { return row[52]; }
+static inline uint16_t goosetable_carried_length(const uint8_t *row) { return (uint16_t)goosetable_number(row + 53, 2); }
+static inline uint16_t goosetable_carried_cell(const uint8_t *row) { return (uint16_t)goosetable_number(row + 55, 2); }
+
+static inline uint64_t goosetable_tombstone_slot(const uint8_t *row) { return goosetable_number(row, 8); }
+static inline const uint8_t *goosetable_tombstone_tag(const uint8_t *row) { return row + 8; }
+static inline const uint8_t *goosetable_tombstone_secret(const uint8_t *row) { return row + 24; }
+static inline uint32_t goosetable_tombstone_expiry(const uint8_t *row) { return (uint32_t)goosetable_number(row + 40, 4); }
+
+static inline uint64_t goosetable_bad_tag_peer(const uint8_t *row) { return goosetable_number(row, 8); }
+static inline const uint8_t *goosetable_bad_tag_tag(const uint8_t *row) { return row + 8; }
+
+static inline const uint8_t *goosetable_offer_tag(const uint8_t *row) { return row; }
+static inline uint8_t goosetable_offer_copies(const uint8_t *row) { return row[16]; }
+
+/* A key row of goosetable_window, from which the host derives the key's tag. */
+static inline uint8_t goosetable_key_direction(const uint8_t *row) { return row[0]; }
+static inline uint8_t goosetable_key_generation(const uint8_t *row) { return row[1]; }
+static inline uint32_t goosetable_key_index(const uint8_t *row) { return (uint32_t)goosetable_number(row + 2, 4); }
 
 /* Reply row i of an area: its kind, its cell, its body of GOOSETABLE_BODY_SIZE bytes. */
 static inline uint8_t goosetable_reply_kind(const uint8_t *replies, size_t i)
@@ -608,11 +729,13 @@ static inline const uint8_t *goosetable_reply_body(const uint8_t *replies, size_
     return replies + i * GOOSETABLE_REPLY_ROW + 3;
 }
 
-/* Where the cell of a reply begins in its area, which is the carried cells' from GOOSETABLE_MAX_ROWS on, else the own cells'. */
-static inline size_t goosetable_cell_start(uint16_t cell)
-{
-    return GOOSETABLE_CELLS_SIZE(cell < GOOSETABLE_MAX_ROWS ? cell : cell - GOOSETABLE_MAX_ROWS);
-}
+/* A body: the tag of any; the code of a custody reply; the secret of a tomb; and of an envelope, where it is the header that is sent, the rest. */
+static inline const uint8_t *goosetable_body_tag(const uint8_t *body) { return body; }
+static inline uint8_t goosetable_body_code(const uint8_t *body) { return body[16]; }
+static inline const uint8_t *goosetable_body_secret(const uint8_t *body) { return body + 16; }
+static inline const uint8_t *goosetable_body_commitment(const uint8_t *body) { return body + 16; }
+static inline uint32_t goosetable_body_expiry(const uint8_t *body) { return (uint32_t)goosetable_number(body + 32, 4); }
+static inline uint8_t goosetable_body_copies(const uint8_t *body) { return body[36]; }
 
 /* Action row i of an area: its kind, its slot or contact, its message number. */
 static inline uint8_t goosetable_action_kind(const uint8_t *actions, size_t i)
@@ -628,6 +751,83 @@ static inline uint64_t goosetable_action_number(const uint8_t *actions, size_t i
 static inline uint32_t goosetable_action_msgno(const uint8_t *actions, size_t i)
 {
     return (uint32_t)goosetable_number(actions + i * GOOSETABLE_ACTION_ROW + 9, 4);
+}
+
+/* ---- the ciphertext of a reply's envelope */
+
+/*
+ * Where the cell of a reply begins in its area, which is the carried cells' from GOOSETABLE_MAX_ROWS on, else the own cells'. Nothing lies in a
+ * cell that is neither, as GOOSETABLE_NO_CELL is, and it begins at 0.
+ */
+static inline size_t goosetable_cell_start(uint16_t cell)
+{
+    if (cell >= 2 * GOOSETABLE_MAX_ROWS)
+        return 0;
+    return GOOSETABLE_CELLS_SIZE(cell < GOOSETABLE_MAX_ROWS ? cell : cell - GOOSETABLE_MAX_ROWS);
+}
+
+/* Where the ciphertext of reply row i begins, if it has any: goosetable_ciphertext_length says how long it is. */
+static inline const uint8_t *goosetable_ciphertext(
+    const uint8_t *own_cells, const uint8_t *carried_cells, const uint8_t *replies, size_t i)
+{
+    uint16_t cell = goosetable_reply_cell(replies, i);
+    return (cell < GOOSETABLE_MAX_ROWS ? own_cells : carried_cells) + goosetable_cell_start(cell);
+}
+
+/* Are two tags the same? */
+static inline int goosetable_same_tag(const uint8_t *a, const uint8_t *b)
+{
+    return goosetable_number(a, 8) == goosetable_number(b, 8) && goosetable_number(a + 8, 8) == goosetable_number(b + 8, 8);
+}
+
+/* The length that the first own row, or the first carried row, of a tag and a cell has; 0 if there is none. */
+static inline size_t goosetable_own_length_of(const uint8_t *device, const uint8_t *own, const uint8_t *tag, uint16_t cell)
+{
+    const uint8_t *row, *end = own + goosetable_device_own(device) * GOOSETABLE_OWN_ROW;
+    for (row = own; row < end; row += GOOSETABLE_OWN_ROW)
+        if (goosetable_own_cell(row) == cell && goosetable_same_tag(goosetable_own_tag(row), tag))
+            return goosetable_own_length(row);
+    return 0;
+}
+
+static inline size_t goosetable_carried_length_of(const uint8_t *device, const uint8_t *carried, const uint8_t *tag, uint16_t cell)
+{
+    const uint8_t *row, *end = carried + goosetable_device_carried(device) * GOOSETABLE_CARRIED_ROW;
+    for (row = carried; row < end; row += GOOSETABLE_CARRIED_ROW)
+        if (goosetable_carried_cell(row) == cell && goosetable_same_tag(goosetable_carried_tag(row), tag))
+            return goosetable_carried_length(row);
+    return 0;
+}
+
+/*
+ * How long the ciphertext of reply row i is, by the row with its tag that names its cell: 0 if it is no envelope's, or of GOOSETABLE_NO_CELL, or
+ * if the row has gone since the call that replied (its cell may then have another ciphertext). Never more than lies in the cell and the area.
+ */
+static inline size_t goosetable_ciphertext_length(
+    const uint8_t *device,
+    const uint8_t *own,
+    const uint8_t *carried,
+    size_t own_cells_len,
+    size_t carried_cells_len,
+    const uint8_t *replies,
+    size_t i)
+{
+    const uint8_t *tag = goosetable_body_tag(goosetable_reply_body(replies, i));
+    uint16_t cell = goosetable_reply_cell(replies, i);
+    size_t start = goosetable_cell_start(cell), length, room;
+    if (goosetable_reply_kind(replies, i) != GOOSETABLE_REPLY_ENVELOPE || cell >= 2 * GOOSETABLE_MAX_ROWS)
+        return 0;
+    if (cell < GOOSETABLE_MAX_ROWS) {
+        length = goosetable_own_length_of(device, own, tag, cell);
+        room = own_cells_len;
+    } else {
+        length = goosetable_carried_length_of(device, carried, tag, (uint16_t)(cell - GOOSETABLE_MAX_ROWS));
+        room = carried_cells_len;
+    }
+    room = room < start ? 0 : room - start;
+    if (room > GOOSETABLE_CELL_SIZE)
+        room = GOOSETABLE_CELL_SIZE;
+    return length < room ? length : room;
 }
 
 #ifdef __cplusplus

@@ -3,7 +3,7 @@ set -euo pipefail
 
 oracle=$(cd "$(dirname "${BASH_SOURCE[0]}")" && pwd)
 program="$oracle/target/release/oracle"
-export CAIRN_SRC="${CAIRN_SRC:-$oracle/../../shared/docs/src}"
+source "$oracle/source.sh"
 export CARGO_NET_OFFLINE=true
 
 # What crates/replay/stdin was made of.
@@ -11,16 +11,14 @@ sample_seeds=3,5,26,27,33,37,40,43,74 sample_calls=300
 
 # $1: "pass over" where a run without the source is passed over, unless it is the gate's.
 find_source() {
-  if [ -d "$CAIRN_SRC/core/cairn-proto/src" ]; then
-    CAIRN_SRC=$(cd "$CAIRN_SRC" && pwd)
+  if source_found; then
     return
   fi
-  local missing="oracle: no Rust source at $CAIRN_SRC; it is repository trancee/cairn, commit 045324b408: check it out and name its folder in CAIRN_SRC"
   if [ "${CI:-}" = true ] || [ "$1" != "pass over" ]; then
-    echo "$missing" >&2
+    echo "oracle: $no_source" >&2
     exit 1
   fi
-  echo "$missing; the comparison was passed over"
+  echo "oracle: $no_source; the comparison was passed over"
   exit 0
 }
 
@@ -35,14 +33,12 @@ build() {
 
 # Proves and builds the library, unless nothing under crates/ is newer than it. One that GOOSETABLE_LIB names is taken as it is.
 build_library() {
-  local root library
-  root=$(cd "$oracle/.." && pwd)
-  library="$root/target/staticlib/libgoosetable.a"
+  local library="$repository/target/staticlib/libgoosetable.a"
   if [ -n "${GOOSETABLE_LIB:-}" ]; then
     echo "oracle: the library is $GOOSETABLE_LIB/libgoosetable.a" >&2
-  elif [ ! -f "$library" ] || [ -n "$(find "$root/crates" "$root/crates.txt" -newer "$library" -print -quit)" ]; then
+  elif [ ! -f "$library" ] || [ -n "$(find "$repository/crates" "$repository/crates.txt" -newer "$library" -print -quit)" ]; then
     mkdir -p "$oracle/target"
-    (cd "$root" && rt staticlib goosetable >"$oracle/target/staticlib.log" 2>&1)
+    (cd "$repository" && rt staticlib goosetable >"$oracle/target/staticlib.log" 2>&1)
   fi
 }
 

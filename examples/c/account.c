@@ -24,13 +24,9 @@ void tag(const uint8_t *bytes)
 
 static void said(goosetable_answer a)
 {
-    static const char *const names[] = {"malformed", "ours", "missing", "no envelope"};
-    if (a.said == GOOSETABLE_DONE)
-        printf("done");
-    else if (a.said < GOOSETABLE_MALFORMED)
-        printf("refused %d", a.said);
-    else
-        printf("%s", names[a.said - GOOSETABLE_MALFORMED]);
+    if (a.said != GOOSETABLE_DONE && a.said < GOOSETABLE_MALFORMED)
+        printf("refused %d, ", a.said);
+    printf("%s", goosetable_said_name(a.said));
     if (a.said == GOOSETABLE_OURS)
         printf(", contact %" PRIu64 ", generation %d, index %" PRIu32, a.contact, a.generation, a.idx);
 }
@@ -42,11 +38,12 @@ static void reply(const uint8_t *replies, size_t i)
     uint8_t kind = goosetable_reply_kind(replies, i);
     const uint8_t *body = goosetable_reply_body(replies, i);
     printf("; %s ", kinds[kind]);
-    tag(body);
+    tag(goosetable_body_tag(body));
     if (kind == GOOSETABLE_REPLY_ENVELOPE)
-        printf(" of cell %d, copies %d, expiry %" PRIu64, goosetable_reply_cell(replies, i), body[36], goosetable_number(body + 32, 4));
+        printf(" of cell %d, copies %d, expiry %" PRIu32,
+               goosetable_reply_cell(replies, i), goosetable_body_copies(body), goosetable_body_expiry(body));
     if (kind == GOOSETABLE_REPLY_CUSTODY)
-        printf(" %s", codes[body[16]]);
+        printf(" %s", codes[goosetable_body_code(body)]);
 }
 
 /* What the host stores for a put: the row's blob. */

@@ -67,14 +67,12 @@ void exchange_close(struct exchange *e)
     free(e->offers);
 }
 
-struct envelope envelope_of(const struct post *p, const uint8_t *reply, size_t ct_len)
+struct envelope envelope_of(const struct post *p, const uint8_t *replies, size_t i)
 {
     struct envelope e;
-    uint16_t cell = goosetable_reply_cell(reply, 0);
-    const uint8_t *cells = cell < GOOSETABLE_MAX_ROWS ? p->own_cells : p->carried_cells;
-    memcpy(e.header, goosetable_reply_body(reply, 0), sizeof e.header);
-    e.ct_len = ct_len;
-    e.ct = memcpy(area(ct_len), cells + goosetable_cell_start(cell), ct_len);
+    memcpy(e.header, goosetable_reply_body(replies, i), sizeof e.header);
+    e.ct_len = goosetable_ciphertext_length(p->device, p->own, p->carried, GOOSETABLE_CELLS_SIZE(CELLS), GOOSETABLE_CELLS_SIZE(CELLS), replies, i);
+    e.ct = memcpy(area(e.ct_len), goosetable_ciphertext(p->own_cells, p->carried_cells, replies, i), e.ct_len);
     return e;
 }
 
@@ -85,8 +83,9 @@ goosetable_answer post_contact(struct post *p, const struct post *other, uint8_t
 
 goosetable_answer post_envelope(struct post *p, uint64_t peer, const struct envelope *e)
 {
-    uint32_t expiry = (uint32_t)goosetable_number(e->header + 32, 4);
-    return goosetable_envelope(p->device, peer, e->header, e->header + 16, expiry, e->header[36], e->ct, e->ct_len,
+    const uint8_t *h = e->header;
+    return goosetable_envelope(p->device, peer, goosetable_body_tag(h), goosetable_body_commitment(h), goosetable_body_expiry(h),
+                               goosetable_body_copies(h), e->ct, e->ct_len,
                                p->window, p->window_len, p->contacts, p->own, p->carried,
                                p->tombstones, GOOSETABLE_TOMBSTONES_SIZE(TOMBSTONES),
                                p->carried_cells, GOOSETABLE_CELLS_SIZE(CELLS),
@@ -111,12 +110,14 @@ goosetable_answer post_fresh_exchange(struct post *p, struct exchange *e, uint64
                                      e->prefixes, GOOSETABLE_PREFIXES_SIZE, e->offers, GOOSETABLE_OFFERS_SIZE);
 }
 
+/* Only the terminator, which is the empty list, needs the window. */
 goosetable_answer post_inventory(struct post *p, struct exchange *e, uint64_t peer, const uint8_t *listed, size_t listed_len)
 {
+    size_t window_len = listed_len ? 0 : p->window_len;
     return goosetable_inventory(p->device, e->state, peer, p->contacts, p->own, p->carried,
                                 p->tombstones, GOOSETABLE_TOMBSTONES_SIZE(TOMBSTONES),
                                 p->bad_tags, GOOSETABLE_BAD_TAGS_SIZE(BAD_TAGS),
-                                p->window, p->window_len, listed, listed_len,
+                                p->window, window_len, listed, listed_len,
                                 e->prefixes, GOOSETABLE_PREFIXES_SIZE, e->offers, GOOSETABLE_OFFERS_SIZE,
                                 p->replies, GOOSETABLE_REPLIES_SIZE);
 }

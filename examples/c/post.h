@@ -4,8 +4,12 @@
 
 #include "goosetable.h"
 
-/* How many ciphertexts of each kind, tombstones and bad tags a post has room for. */
-#define CELLS 4
+/*
+ * How many ciphertexts of each kind a post has room for: as many as count. The share of a contact is promised for 256 carried cells alone; with
+ * fewer there comes a refusal, 4, where a code should go back.
+ */
+#define CELLS GOOSETABLE_MAX_ROWS
+/* How many tombstones and bad tags: few are enough here. docs/HOST.md says what a post needs. */
 #define TOMBSTONES 8
 #define BAD_TAGS 2
 
@@ -51,8 +55,8 @@ void post_close(struct post *p);
 void exchange_open(struct exchange *e);
 void exchange_close(struct exchange *e);
 
-/* An envelope that a reply row tells of, with a copy of its ciphertext, which is so many bytes long. */
-struct envelope envelope_of(const struct post *p, const uint8_t *reply, size_t ct_len);
+/* The envelope that reply row i tells of, with a copy of its ciphertext. */
+struct envelope envelope_of(const struct post *p, const uint8_t *replies, size_t i);
 
 /* The calls. Those with a peer name it by its id. */
 goosetable_answer post_contact(struct post *p, const struct post *other, uint8_t verification);

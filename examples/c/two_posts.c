@@ -14,6 +14,9 @@ static const uint8_t route_key[GOOSETABLE_KEY_SIZE] = "the key of this pair of p
 static const uint8_t secret[GOOSETABLE_TAG_SIZE] = "it was delivered";
 static const uint8_t ciphertext[48] = "sealed by the sender, opened by the recipient";
 
+/* The most prefixes that are sent in one list. */
+#define LIST 500
+
 static struct post sender, recipient, post_a, post_b;
 
 /* ---- a meeting */
@@ -21,66 +24,74 @@ static struct post sender, recipient, post_a, post_b;
 /* An envelope arrives: the code for one of the offers goes back, or the tomb of one that was ours. */
 static void hand_envelope(struct post *from, struct post *to, struct exchange *offers, const struct envelope *e)
 {
+    const uint8_t *tag = goosetable_body_tag(e->header), *reply = goosetable_reply_body(to->replies, 0);
     goosetable_answer a = post_envelope(to, from->id, e);
     begin(to, "envelope of %s, %zu bytes", from->name, e->ct_len);
     end(to, a);
     if (a.said == GOOSETABLE_OURS) {
-        a = post_opened(to, from->id, e->header, secret, (uint32_t)goosetable_number(e->header + 32, 4));
+        a = post_opened(to, from->id, tag, secret, goosetable_body_expiry(e->header));
         begin(to, "opened it");
         end(to, a);
         begin(from, "tomb of %s", to->name);
-        end(from, post_tomb(from, to->id, e->header, goosetable_reply_body(to->replies, 0) + 16));
+        end(from, post_tomb(from, to->id, tag, goosetable_body_secret(reply)));
     } else if (a.said == GOOSETABLE_DONE && offers) {
-        a = post_custody_code(from, offers, to->id, e->header, goosetable_reply_body(to->replies, 0)[16]);
+        a = post_custody_code(from, offers, to->id, tag, goosetable_body_code(reply));
         begin(from, "custody code of %s", to->name);
         end(from, a);
     }
 }
 
-/* Hands on the envelope of a tag, which a fetch finds: one that was asked for, or one of the offers, whose header has half of the copies. */
-static void hand_fetched(struct post *from, struct post *to, struct exchange *offers, const uint8_t *header)
+/* A peer asks for the envelope of a tag. */
+static void hand_fetched(struct post *from, struct post *to, const uint8_t *tag)
 {
     struct envelope e;
-    goosetable_answer a = post_fetch(from, to->id, header);
-    if (!offers) {
-        begin(from, "fetch of %s", to->name);
-        end(from, a);
-    }
+    goosetable_answer a = post_fetch(from, to->id, tag);
+    begin(from, "fetch of %s", to->name);
+    end(from, a);
     if (a.said != GOOSETABLE_DONE)
         return;
-    e = envelope_of(from, from->replies, a.length);
-    if (offers)
-        memcpy(e.header, header, sizeof e.header);
-    hand_envelope(from, to, offers, &e);
+    e = envelope_of(from, from->replies, 0);
+    hand_envelope(from, to, NULL, &e);
     free(e.ct);
 }
 
-static void hand_reply(struct post *from, struct post *to, struct exchange *e, const uint8_t *reply)
+/* An envelope is offered, unless its row has gone since. */
+static void hand_offer(struct post *from, struct post *to, struct exchange *offers, const uint8_t *replies, size_t i)
 {
-    const uint8_t *body = goosetable_reply_body(reply, 0);
-    switch (goosetable_reply_kind(reply, 0)) {
+    struct envelope e = envelope_of(from, replies, i);
+    if (e.ct_len)
+        hand_envelope(from, to, offers, &e);
+    free(e.ct);
+}
+
+static void hand_reply(struct post *from, struct post *to, struct exchange *e, const uint8_t *replies, size_t i)
+{
+    const uint8_t *body = goosetable_reply_body(replies, i);
+    switch (goosetable_reply_kind(replies, i)) {
     case GOOSETABLE_REPLY_FETCH:
-        hand_fetched(to, from, NULL, body);
+        hand_fetched(to, from, goosetable_body_tag(body));
         break;
     case GOOSETABLE_REPLY_ENVELOPE:
-        hand_fetched(from, to, e, body);
+        hand_offer(from, to, e, replies, i);
         break;
     case GOOSETABLE_REPLY_TOMB:
         begin(to, "tomb of %s", from->name);
-        end(to, post_tomb(to, from->id, body, body + 16));
+        end(to, post_tomb(to, from->id, goosetable_body_tag(body), goosetable_body_secret(body)));
         break;
     }
 }
 
-/* What one side has goes to the other in one list, and then the empty one, which is answered. */
+/* What one side has goes to the other in lists of at most 500, and then the empty one, which is answered. */
 static goosetable_answer list(struct post *answers, struct post *lists, struct exchange *e)
 {
     uint8_t *prefixes = area(GOOSETABLE_PREFIXES_SIZE);
     goosetable_answer a = post_inventory_of_ours(lists, answers->id, prefixes);
+    size_t at, count = a.length;
     begin(lists, "inventory of ours for %s", answers->name);
     end_with(a, "prefixes");
-    if (a.length) {
-        a = post_inventory(answers, e, lists->id, prefixes, a.length * GOOSETABLE_PREFIX_SIZE);
+    for (at = 0; at < count; at += LIST) {
+        size_t listed = count - at < LIST ? count - at : LIST;
+        a = post_inventory(answers, e, lists->id, prefixes + at * GOOSETABLE_PREFIX_SIZE, listed * GOOSETABLE_PREFIX_SIZE);
         begin(answers, "inventory of %s", lists->name);
         end(answers, a);
     }
@@ -91,7 +102,10 @@ static goosetable_answer list(struct post *answers, struct post *lists, struct e
     return a;
 }
 
-/* One side lists; the other answers, and its replies are handed over one by one. */
+/*
+ * One side lists; the other answers, and its replies are handed over one by one. They are copied first: an envelope that was asked for comes in
+ * between, and its call replies too.
+ */
 static void meet(struct post *answers, struct post *lists)
 {
     struct exchange e;
@@ -105,7 +119,7 @@ static void meet(struct post *answers, struct post *lists)
     a = list(answers, lists, &e);
     replies = memcpy(area(a.replies * GOOSETABLE_REPLY_ROW), answers->replies, a.replies * GOOSETABLE_REPLY_ROW);
     for (i = 0; i < a.replies; i++)
-        hand_reply(answers, lists, &e, replies + i * GOOSETABLE_REPLY_ROW);
+        hand_reply(answers, lists, &e, replies, i);
     free(replies);
     exchange_close(&e);
 }
@@ -123,20 +137,23 @@ static void write_message(void)
     begin(&sender, "own envelope for %s", recipient.name);
     end(&sender, a);
     begin(&sender, "its row");
-    tag(row + 12);
-    printf(", copies %d, expiry %" PRIu64 "\n", row[48], goosetable_number(row + 44, 4));
+    tag(goosetable_own_tag(row));
+    printf(", copies %d, expiry %" PRIu32 "\n", goosetable_own_copies(row), goosetable_own_expiry(row));
 
-    a = goosetable_window(ciphertext, 0, chain, sizeof chain, keys, GOOSETABLE_KEYS_SIZE);
+    a = goosetable_window((const uint8_t *)"", 0, chain, sizeof chain, keys, GOOSETABLE_KEYS_SIZE);
     begin(&recipient, "window of a chain from index 7");
     end_with(a, "keys");
-    /* A phone derives the tag of every key from the route key. The first key's tag is the sender's, and its row is all that is lent here. */
+    /*
+     * A phone derives the tag of every key from the route key, and sorts the window rows of all contacts by their first 14 bytes. The first key's
+     * tag is the sender's, and its row is all that is lent here.
+     */
     free(recipient.window);
     recipient.window_len = GOOSETABLE_WINDOW_SIZE(1);
     recipient.window = area(recipient.window_len);
     memset(recipient.window, 0, 8);
     recipient.window[7] = (uint8_t)sender.id;
     memcpy(recipient.window + 8, keys, GOOSETABLE_KEY_ROW);
-    memcpy(recipient.window + 14, row + 12, GOOSETABLE_TAG_SIZE);
+    memcpy(recipient.window + 14, goosetable_own_tag(row), GOOSETABLE_TAG_SIZE);
     free(row);
     free(keys);
 }
@@ -175,7 +192,7 @@ static void forge_tomb(struct post *p, const struct post *peer)
     static const uint8_t wrong[GOOSETABLE_TAG_SIZE] = "was it delivered";
     printf("\na forged tomb\n");
     begin(p, "tomb of %s", peer->name);
-    end(p, post_tomb(p, peer->id, sender.own + 12, wrong));
+    end(p, post_tomb(p, peer->id, goosetable_own_tag(sender.own), wrong));
 }
 
 static void at_minute(struct post *p, uint64_t minute)

@@ -6,7 +6,7 @@ ghost use lib.ListN.{length, drop, replicate};
 ghost use Rattle.octets.specs.Bytes.{splice};
 ghost use Rattle.rows.specs.Rows.{actionBytes, replyBytes};
 ghost use Rattle.model.specs.Exchange.{ownEnvelopeOf, carriedEnvelopeOf};
-ghost use Rattle.model.specs.Calls.{ofOwn, ofCarried, replyCell, putCourier, deleteCourier, putQueued, fetchReply, envelopeReply, custodyReply, tombReply};
+ghost use Rattle.model.specs.Calls.{ofOwn, ofCarried, cellFrom, replyCell, putCourier, deleteCourier, putQueued, fetchReply, envelopeRow, custodyReply, tombReply};
 use core::ContactId;
 use courier::Custody;
 use courier::Header;
@@ -44,10 +44,27 @@ pub fn carried_header(row: Carried) -> Header
     }
 }
 
+// In a reply, the cell of a row that names one past the 256 that count: it has no ciphertext.
+pub const NO_CELL: u16 = 65535;
+
+// A cell that counts, from the first number of its kind on.
+fn cell_from(first: u16, cell: u16) -> u16
+    requires { ⌜ first ≤ 256 ⌝ }
+    ensures { λ r. ⌜ r ≡ cellFrom first cell ⌝ }
+{
+    if cell < 256 { first + cell } else { NO_CELL }
+}
+
+pub fn own_cell(cell: u16) -> u16
+    ensures { λ r. ⌜ r ≡ replyCell ofOwn cell ⌝ }
+{
+    cell_from(0, cell)
+}
+
 pub fn carried_cell(cell: u16) -> u16
     ensures { λ r. ⌜ r ≡ replyCell ofCarried cell ⌝ }
 {
-    ((256 + cell as u64) % 65536) as u16
+    cell_from(256, cell)
 }
 
 // ---- actions
@@ -129,10 +146,10 @@ pub fn put_fetch(replies: &mut [u8], at: usize, tag: [u8; 16])
     put_reply(replies, at, row);
 }
 
-// The cell is as a reply says it: an own cell from 0, a carried cell from 256.
+// The cell is as a reply says it: `own_cell` or `carried_cell`.
 pub fn put_envelope(replies: &mut [u8], at: usize, cell: u16, head: Header)
     requires { ⌜ at + 40 ≤ length (now replies) ⌝ }
-    ensures { λ _. ⌜ now (replies .exit) ≡ splice (now (replies .entry)) at (replyBytes (envelopeReply ofOwn cell head)) ⌝ }
+    ensures { λ _. ⌜ now (replies .exit) ≡ splice (now (replies .entry)) at (replyBytes (envelopeRow cell head)) ⌝ }
 {
     let body = courier::header_bytes(head);
     let row = Reply {

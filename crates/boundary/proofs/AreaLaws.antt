@@ -93,23 +93,6 @@ exchange-back one two id e fits =
       offered = q i .1;
     }
 
--- an exchange is put into an area by its parts: the flags' bytes o and t, and the peer's number p, over what the area had
-pub exchange-put : (a x : List ℕ) (e : Exchange) {o t p one two id : ℕ} {opened : Bool} → x ≡ exchangeBytes o t p (e .listed) (e .offered)
-    → o ≡ flagOver one opened → opened ≡ isOpen (e .peer) → one ≡ num (part a 0 1) → t ≡ flagOver two (e .complete) → two ≡ num (part a 1 1)
-    → p ≡ peerOver id (e .peer) → id ≡ num (part a 2 8) → o < 2 ^ 8 → t < 2 ^ 8 → p < 2 ^ 64 → e .listed < 2 ^ 64 → e .offered < 2 ^ 64 → HoldsExchange a e x
-unfolding exchangeArea
-exchange-put a x e {o} {t} {p} {one} {two} {id} {opened} x-is o-is opened-is one-is t-is two-is p-is id-is o-fits t-fits p-fits listed offered =
-    let oo : o ≡ flagOver (num (part a 0 1)) (isOpen (e .peer)) = o-is ∙ (λ i. flagOver (one-is i) (opened-is i)) in
-    let tt : t ≡ flagOver (num (part a 1 1)) (e .complete) = t-is ∙ ap (λ (b : ℕ). flagOver b (e .complete)) two-is in
-    let pp : p ≡ peerOver (num (part a 2 8)) (e .peer) = p-is ∙ ap (λ (n : ℕ). peerOver n (e .peer)) id-is in
-    let bytes : x ≡ exchangeArea a e = x-is ∙ (λ i. exchangeBytes (oo i) (tt i) (pp i) (e .listed) (e .offered)) in
-    record {
-      bytes = bytes;
-      holds = ap exchangeOf bytes
-          ∙ exchange-back (num (part a 0 1)) (num (part a 1 1)) (num (part a 2 8)) e
-          ((((subst (λ (n : ℕ). n < 2 ^ 8) oo o-fits, subst (λ (n : ℕ). n < 2 ^ 8) tt t-fits), subst (λ (n : ℕ). n < 2 ^ 64) pp p-fits), listed), offered);
-    }
-
 peer-opened : (opened : Bool) (id : ℕ) → isOpen (peerFrom opened id) ≡ opened
 peer-opened true id = refl
 peer-opened false id = refl
@@ -127,3 +110,21 @@ exchange-stays a l bytes =
     let opened : flagOver one (isOpen (peerFrom (isOn one) id)) ≡ one = ap (flagOver one) (peer-opened (isOn one) id) ∙ flag-stays one in
     (λ i. exchangeBytes (opened i) (flag-stays (num (part a 1 1)) i) (peer-stays (isOn one) id i) (num (part a 10 8)) (num (part a 18 8)))
     ∙ write-read a bytes exchangeShape 0 (omega arith) ∙ part-whole a 26 l
+
+-- an exchange is put into an area by its parts: the flags' bytes o and t, and the peer's number p, over what the area had
+pub exchange-put : (a x : List ℕ) (e : Exchange) {o t p one two id : ℕ} {opened : Bool} → x ≡ exchangeBytes o t p (e .listed) (e .offered)
+    → o ≡ flagOver one opened → opened ≡ isOpen (e .peer) → one ≡ num (part a 0 1) → t ≡ flagOver two (e .complete) → two ≡ num (part a 1 1)
+    → p ≡ peerOver id (e .peer) → id ≡ num (part a 2 8) → o < 2 ^ 8 → t < 2 ^ 8 → p < 2 ^ 64 → e .listed < 2 ^ 64 → e .offered < 2 ^ 64 → length a ≡ 26 → Bytes a → HoldsExchange a e x
+unfolding exchangeArea
+exchange-put a x e {o} {t} {p} {one} {two} {id} {opened} x-is o-is opened-is one-is t-is two-is p-is id-is o-fits t-fits p-fits listed offered l all =
+    let oo : o ≡ flagOver (num (part a 0 1)) (isOpen (e .peer)) = o-is ∙ (λ i. flagOver (one-is i) (opened-is i)) in
+    let tt : t ≡ flagOver (num (part a 1 1)) (e .complete) = t-is ∙ ap (λ (b : ℕ). flagOver b (e .complete)) two-is in
+    let pp : p ≡ peerOver (num (part a 2 8)) (e .peer) = p-is ∙ ap (λ (n : ℕ). peerOver n (e .peer)) id-is in
+    let bytes : x ≡ exchangeArea a e = x-is ∙ (λ i. exchangeBytes (oo i) (tt i) (pp i) (e .listed) (e .offered)) in
+    record {
+      bytes = bytes;
+      holds = ap exchangeOf bytes
+          ∙ exchange-back (num (part a 0 1)) (num (part a 1 1)) (num (part a 2 8)) e
+          ((((subst (λ (n : ℕ). n < 2 ^ 8) oo o-fits, subst (λ (n : ℕ). n < 2 ^ 8) tt t-fits), subst (λ (n : ℕ). n < 2 ^ 64) pp p-fits), listed), offered);
+      stays = λ same. bytes ∙ ap (exchangeArea a) same ∙ exchange-stays a l all;
+    }

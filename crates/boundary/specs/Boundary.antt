@@ -86,11 +86,12 @@ exchangeArea a e =
     exchangeBytes (flagOver (num (part a 0 1)) (isOpen (e .peer))) (flagOver (num (part a 1 1)) (e .complete)) (peerOver (num (part a 2 8)) (e .peer))
     (e .listed) (e .offered)
 
--- ---- what putting one says: the area's bytes, and that it holds what was put
+-- ---- what putting one says: the area's bytes, that it holds what was put, and that what it held already changes no byte
 
 pub record HoldsDevice (before : List ℕ) (d : Device) (after : List ℕ) : Type 0 where
   pub bytes : after ≡ deviceArea before d
   pub holds : deviceOf after ≡ d
+  pub stays : d ≡ deviceOf before → after ≡ before
 
 pub record FreshArea (a : List ℕ) : Type 0 where
   pub bytes : a ≡ deviceBytes 1 freshDevice
@@ -99,6 +100,7 @@ pub record FreshArea (a : List ℕ) : Type 0 where
 pub record HoldsExchange (before : List ℕ) (e : Exchange) (after : List ℕ) : Type 0 where
   pub bytes : after ≡ exchangeArea before e
   pub holds : exchangeOf after ≡ e
+  pub stays : e ≡ exchangeOf before → after ≡ before
 
 -- ---- small areas in general: what they hold, and what they are once something else is put into them
 

@@ -1,6 +1,9 @@
 // What goes by value in a call lies in small areas at a host of another language: the device in 60 bytes, an exchange in 26, numbers
 // with the highest byte first. A flag is on unless its byte is 0. What a call leaves as it is keeps its bytes, whatever they are.
 ghost use mathlib.Core.Path.{_≡_};
+ghost use Prim.Native.Nat.{_+_, _≤_};
+ghost use lib.ListN.{length};
+ghost use Rattle.octets.specs.Bytes.{Bytes, part, num};
 ghost use Rattle.wire.specs.Log.{verificationOf};
 ghost use Rattle.boundary.specs.Boundary.{verificationRead, isOn, flagOver, deviceOf, deviceBytes, HoldsDevice, FreshArea, peerFrom, isOpen, peerOver, exchangeOf, exchangeBytes, HoldsExchange};
 use core::ContactId;
@@ -16,6 +19,14 @@ fn is_on(byte: u8) -> bool
     ensures { λ r. ⌜ r ≡ isOn byte ⌝ }
 {
     byte != 0
+}
+
+// The byte of a flag in an area, all of whose elements are bytes.
+fn byte_in(area: &[u8], at: usize) -> u8
+    requires { ⌜ at + 1 ≤ length (now area) ⌝ }
+    ensures { λ r. ⌜ (r ≡ num (part (now (area .entry)) at 1)) × Bytes (now (area .entry)) ⌝ }
+{
+    area[at]
 }
 
 // The byte of a flag that is now on or off: the one that was there, if it says so.
@@ -91,7 +102,7 @@ pub fn put_device(area: &mut [u8; 60], device: Device)
     ensures { λ _. ⌜ HoldsDevice (now (area .entry)) device (now (area .exit)) ⌝ }
 {
     let courier = device.courier;
-    let enabled = flag_over(octets::get_u8(area, 0), courier.enabled);
+    let enabled = flag_over(byte_in(area, 0), courier.enabled);
     *area = device_bytes(enabled, device);
 }
 
@@ -161,8 +172,8 @@ pub fn put_exchange(area: &mut [u8; 26], exchange: Exchange)
     ensures { λ _. ⌜ HoldsExchange (now (area .entry)) exchange (now (area .exit)) ⌝ }
 {
     let peer = exchange.peer;
-    let opened = flag_over(octets::get_u8(area, 0), is_open(peer));
-    let complete = flag_over(octets::get_u8(area, 1), exchange.complete);
+    let opened = flag_over(byte_in(area, 0), is_open(peer));
+    let complete = flag_over(byte_in(area, 1), exchange.complete);
     let id = peer_over(octets::get_u64(area, 2), peer);
     *area = exchange_bytes(opened, complete, id, exchange.listed, exchange.offered);
 }

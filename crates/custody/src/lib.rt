@@ -91,15 +91,16 @@ pub fn deposited(carried: &[u8], count: usize, peer: ContactId) -> usize
     sum
 }
 
-// The length of a ciphertext in a cell area of size bytes: what lies inside the cell and the area.
+// The length of a ciphertext in a cell area of size bytes: what lies inside the cell, the area, and the cells that count.
 pub fn cell_length(size: usize, cell: u16, len: u16) -> usize
     ensures { λ r. ⌜ (r ≡ cellLength size cell len) × (r ≤ 2064) ⌝ }
 {
     let start = cell as usize * 2064;
-    if size < start {
+    let end = least(size, 256 * 2064);
+    if end < start {
         return 0;
     }
-    least(least(len as usize, 2064), size - start)
+    least(least(len as usize, 2064), end - start)
 }
 
 // The same, of the carried row at a place.

@@ -1,80 +1,63 @@
-// Reads a log from standard input, performs its records, and writes their lines to standard output.
-ghost use Prim.Native.Nat.{_+_, _<_, _≤_};
-ghost use mathlib.Core.Path.{_≡_};
+// Reads a log from standard input, and writes its lines to standard output. What it keeps, hands on and puts at the end is `drill_turn`'s.
+ghost use Prim.Native.Nat.{_≤_, _<_};
 ghost use lib.ListN.{length};
-ghost use Rattle.drill.specs.Turn.{Steady, Filling};
+ghost use Rattle.drill_turn.specs.Stream.{Inside, Waits, Fed, Stops};
+ghost use Rattle.drill.specs.Reads.{Reads};
+use drill_reason::Reason;
+use drill_turn::Turn;
 use libc::STDERR_FILENO;
 use libc::STDIN_FILENO;
 use libc::STDOUT_FILENO;
-use rows::Device;
-use rows::Exchange;
 
-// Moves input[from..have] to the front.
-fn shift(input: &mut [u8], from: usize, have: usize)
-    requires { ⌜ from ≤ have ⌝ }
-    requires { ⌜ have ≤ length (now input) ⌝ }
+// ---- reading
+
+struct Got {
+    n: usize,
+    failed: bool,
+}
+
+// Reads once behind the first bytes. A read of no bytes is the end of the input, so that there must be room.
+fn read_behind(input: &mut [u8], at: usize) -> Got
+    requires { ⌜ at < length (now input) ⌝ }
+    ensures { λ r. ⌜ Reads (now (input .entry)) at (r .n) (now (input .exit)) ⌝ }
 {
-    if from == 0 {
-        return;
-    }
-    let mut i = 0;
-    while i < have - from {
-        input[i] = input[from + i];
-        i += 1;
+    let got = libc::read(STDIN_FILENO, &mut input[at..]);
+    Got {
+        n: io::count(got, &input[at..]),
+        failed: got < 0,
     }
 }
 
-// The bytes in the buffer, and what the read said: 0 some came, 1 the input has ended, 2 the read failed.
-struct Filled {
-    have: usize,
-    said: u8,
-}
-
-// Keeps what is left of a record, and reads once behind it. There is always room: a record and its head are at most 8,196 bytes.
-fn refill(input: &mut [u8], from: usize, have: usize) -> Filled
-    requires { ⌜ from ≤ have ⌝ }
-    requires { ⌜ have ≤ 65536 ⌝ }
-    requires { ⌜ length (now input) ≡ 65536 ⌝ }
-    requires { ⌜ have < from + 8196 ⌝ }
-    ensures { λ r. ⌜ r .have ≤ 65536 ⌝ }
+// Reads once, if more input is wanted. There is room: what is kept is less than a record and its head, 8,196 bytes.
+fn fill(turn: Turn, input: &mut [u8; 65536]) -> Turn
+    requires { ⌜ Waits turn (now input) ⌝ }
+    ensures { λ r. ⌜ Fed turn (now (input .entry)) r (now (input .exit)) ⌝ }
 {
-    shift(input, from, have);
-    let kept = have - from;
-    let got = libc::read(STDIN_FILENO, &mut input[kept..]);
-    if got < 0 {
-        return Filled {
-            have: kept,
-            said: 2,
-        };
+    if turn.why > drill_turn::MORE {
+        return turn;
     }
-    if got == 0 {
-        return Filled {
-            have: kept,
-            said: 1,
-        };
-    }
-    Filled {
-        have: kept + io::count(got, &input[kept..]),
-        said: 0,
-    }
+    let kept = drill_turn::keep(turn, input);
+    let got = read_behind(input, kept.have);
+    drill_turn::grow(kept, got.n, got.failed)
 }
 
-// Where the program stands between two turns: input[from..have] is not done. why: 0 more input is wanted, 1 the lines had no
-// room, 3 stop. So many records stand before input[from], and so many bytes of the log before input[0].
-struct State {
-    device: Device,
-    exchange: Exchange,
-    from: usize,
-    have: usize,
-    why: u8,
-    records: u64,
-    bytes: u64,
+// ---- writing
+
+// Writes the first n bytes.
+fn write_front(out: &[u8], n: usize) -> bool
+    requires { ⌜ n ≤ length (now out) ⌝ }
+{
+    io::write_all(STDOUT_FILENO, &out[..n])
 }
 
-// ---- where number 13 stands: the lines do not say it, so standard error does
-
-fn further(total: u64, more: usize) -> u64 {
-    std::num::wrapping_add_u64(total, more as u64)
+fn emit(out: &[u8; 655360], n: usize) -> bool
+    requires { ⌜ n ≤ 655360 ⌝ }
+{
+    if write_front(out, n) {
+        return true;
+    }
+    os::fail(b"standard output");
+    false
 }
 
 fn write_number(n: u64) {
@@ -83,156 +66,50 @@ fn write_number(n: u64) {
     io::write_all(STDERR_FILENO, &text[..k]);
 }
 
-// The first record has number 1, and the log's first byte is byte 0.
-fn tell(record: u64, byte: u64) {
+fn write_reason(reason: Reason) -> bool {
+    match reason {
+        Reason::Mark => io::write_all(STDERR_FILENO, b"unknown mark\n"),
+        Reason::Length => io::write_all(STDERR_FILENO, b"body over 8192 bytes\n"),
+        Reason::Shape => io::write_all(STDERR_FILENO, b"body of wrong shape\n"),
+        Reason::Code => io::write_all(STDERR_FILENO, b"code above 4\n"),
+        Reason::Verification => io::write_all(STDERR_FILENO, b"verification above 2\n"),
+        Reason::Enabled => io::write_all(STDERR_FILENO, b"enabled above 1\n"),
+        Reason::Contacts => io::write_all(STDERR_FILENO, b"a 257th contact\n"),
+        Reason::End => io::write_all(STDERR_FILENO, b"end of input inside it\n"),
+    }
+}
+
+// Where number 13 stands, and why: the lines do not say it, so standard error does. The first record has number 1, and the log's first byte
+// is byte 0.
+fn tell(turn: Turn, input: &[u8; 65536])
+    requires { ⌜ Inside (turn .from) (turn .have) ⌝ }
+{
     io::write_all(STDERR_FILENO, b"record ");
-    write_number(record);
+    write_number(drill_turn::further(turn.records, 1));
     io::write_all(STDERR_FILENO, b" at byte ");
-    write_number(byte);
-    io::write_all(STDERR_FILENO, b": refused 13\n");
+    write_number(drill_turn::further(turn.bytes, turn.from));
+    io::write_all(STDERR_FILENO, b": refused 13: ");
+    write_reason(drill_reason::reason_at(input, turn.from, turn.have));
 }
 
-// ---- a turn
-
-fn stopped(state: State) -> State
-    ensures { λ r. ⌜ Steady (r .from) (r .have) (r .why) ⌝ }
+// The end of the input, or a read that failed.
+fn finish(turn: Turn, input: &[u8; 65536], out: &mut [u8; 655360])
+    requires { ⌜ Stops turn (now input) ⌝ }
 {
-    let device = state.device;
-    let exchange = state.exchange;
-    State {
-        device,
-        exchange,
-        from: 0,
-        have: 0,
-        why: 3,
-        records: 0,
-        bytes: 0,
-    }
-}
-
-// Reads once, if more input is wanted. Input that ends inside a record is number 13.
-fn fill(state: State, input: &mut [u8; 65536]) -> State
-    requires { ⌜ Steady (state .from) (state .have) (state .why) ⌝ }
-    ensures { λ r. ⌜ Filling (r .from) (r .have) ⌝ }
-{
-    if state.why > 0 {
-        return state;
-    }
-    let bytes = further(state.bytes, state.from);
-    let f = refill(input, state.from, state.have);
-    if f.said == 2 {
+    if turn.why == drill_turn::FAILED {
         os::fail(b"standard input");
-        return stopped(state);
+        return;
     }
-    if f.said == 1 {
-        if f.have > 0 {
-            io::write_all(STDOUT_FILENO, b"refused 13\n");
-            tell(further(state.records, 1), bytes);
+    let n = drill_turn::at_end(turn, out);
+    if n > 0 {
+        if emit(out, n) {
+            tell(turn, input);
         }
-        return stopped(state);
-    }
-    let device = state.device;
-    let exchange = state.exchange;
-    State {
-        device,
-        exchange,
-        from: 0,
-        have: f.have,
-        why: 0,
-        records: state.records,
-        bytes,
-    }
-}
-
-fn emit(out: &[u8], n: usize) -> bool
-    requires { ⌜ n ≤ length (now out) ⌝ }
-{
-    if io::write_all(STDOUT_FILENO, &out[..n]) {
-        true
-    } else {
-        os::fail(b"standard output");
-        false
-    }
-}
-
-// Performs the records that are there, and writes their lines.
-fn advance(
-    state: State,
-    input: &[u8; 65536],
-    contacts: &mut [u8; 2304],
-    own: &mut [u8; 13824],
-    carried: &mut [u8; 14592],
-    tombstones: &mut [u8; 45056],
-    own_cells: &[u8; 33024],
-    cells: &mut [u8; 33024],
-    prefixes: &mut [u8; 4096],
-    offers: &mut [u8; 8704],
-    replies: &mut [u8; 61440],
-    actions: &mut [u8; 19968],
-    blob: &mut [u8; 2110],
-    out: &mut [u8; 655360],
-) -> State
-    requires { ⌜ Filling (state .from) (state .have) ⌝ }
-    ensures { λ r. ⌜ Steady (r .from) (r .have) (r .why) ⌝ }
-{
-    let device = state.device;
-    let exchange = state.exchange;
-    let p = drill_log::run_some(
-        input,
-        state.from,
-        state.have,
-        device,
-        exchange,
-        contacts,
-        own,
-        carried,
-        tombstones,
-        own_cells,
-        cells,
-        prefixes,
-        offers,
-        replies,
-        actions,
-        blob,
-        out,
-    );
-    if emit(out, p.put) {
-        let records = further(state.records, p.count);
-        if p.why == 2 {
-            tell(further(records, 1), further(state.bytes, p.used));
-            return stopped(state);
-        }
-        let device = p.device;
-        let exchange = p.exchange;
-        return State {
-            device,
-            exchange,
-            from: p.used,
-            have: state.have,
-            why: p.why,
-            records,
-            bytes: state.bytes,
-        };
-    }
-    stopped(state)
-}
-
-fn start() -> State
-    ensures { λ r. ⌜ Steady (r .from) (r .have) (r .why) ⌝ }
-{
-    State {
-        device: Device::fresh(),
-        exchange: Exchange::closed(),
-        from: 0,
-        have: 0,
-        why: 0,
-        records: 0,
-        bytes: 0,
     }
 }
 
 // Nothing says that the input ends, so the turns are counted down, from a number that no run uses up.
-fn main() {
+fn run() {
     let mut input = [0u8; 65536];
     let mut out = [0u8; 655360];
     let mut contacts = [0u8; 2304];
@@ -246,15 +123,16 @@ fn main() {
     let mut replies = [0u8; 61440];
     let mut actions = [0u8; 19968];
     let mut blob = [0u8; 2110];
-    let mut state = start();
+    let mut turn = drill_turn::start();
     let mut turns = u64::MAX;
     while turns > 0 {
         turns -= 1;
-        let filled = fill(state, &mut input);
-        if filled.why == 3 {
+        let filled = fill(turn, &mut input);
+        if filled.why > drill_turn::REFUSED {
+            finish(filled, &input, &mut out);
             return;
         }
-        let next = advance(
+        let next = drill_turn::advance(
             filled,
             &input,
             &mut contacts,
@@ -270,9 +148,36 @@ fn main() {
             &mut blob,
             &mut out,
         );
-        if next.why == 3 {
+        if emit(&out, next.put) {
+            if next.why > drill_turn::FULL {
+                tell(next, &input);
+                return;
+            }
+            turn = next;
+        } else {
             return;
         }
-        state = next;
     }
+}
+
+// ---- how it is used
+
+fn say_use() {
+    io::write_all(
+        STDERR_FILENO,
+        b"usage: drill < LOG\nIt reads a log from standard input and prints a line for each action and reply, and one for each record.\nsamples/README.md tells the format; tools/drill-log makes a log from text.\n",
+    );
+}
+
+// A log is not typed on a terminal, and the program takes no word.
+fn main() {
+    if os::arg_count() > 1 {
+        say_use();
+        return;
+    }
+    if libc::isatty(STDIN_FILENO) == 1 {
+        say_use();
+        return;
+    }
+    run();
 }

@@ -6,10 +6,10 @@ use mathlib.Core.List.{List, [], _∷_, _++_, map, flatMap}
 use mathlib.Core.Option as option
 use mathlib.Core.Option.{Option}
 use Prim.Native.Nat.{ℕ, zero, suc, _+_, _*_, _^_, _≤_, _<_}
-use native.Mathlib.Nat.{mod-lt}
 use native.Mathlib.Omega.{arith}
 use lib.ListN.{length, getD, take, replicate, length-append, length-map, length-take}
-use lib.Dec.{leb, eqb}
+use lib.Dec.{leb, ltb, eqb}
+use borrow.Author.Tests.{ltb-true}
 use Rattle.octets.specs.Bytes.{Bytes, be}
 use Rattle.octets.proofs.Numbers.{bytes-append, bytes-be, be-1, bytes-take}
 use Rattle.core.specs.declared.ContactId.{ContactId}
@@ -41,7 +41,8 @@ use Rattle.wire.specs.Log as log
 use Rattle.wire.specs.Log.{Record}
 use Rattle.model.specs.Basics.{matchFound, matchSome, find, merge}
 use Rattle.model.specs.State.{State, Change, apply}
-use Rattle.model.specs.Calls.{Answer, Result, result, only, refused, done, malformed, missing, stepOf, Cells, ofOwn, ofCarried, putCourier, deleteCourier, putQueued, custodyReply, tombReply, replyCell}
+use Rattle.model.specs.Calls.{Answer, Result, result, only, refused, done, malformed, missing, stepOf, Cells, ofOwn, ofCarried, putCourier, deleteCourier, putQueued, custodyReply, tombReply, noCell, cellFrom, replyCell}
+use Rattle.model.specs.Cells.{maxCells}
 use Rattle.model.specs.Contacts.{contactTests, setContact, settingTests, setConfig, setClock, openExchangeTests, openExchanged, minuteOf}
 use Rattle.model.specs.Window.{windowRows, prefixRows, noReachable, lookup}
 use Rattle.model.specs.Custody.{custodyOf, envelopeTests, oursAt, answerCustody, receiveEnvelope, ownOfTag, carriedOfTag}
@@ -156,13 +157,21 @@ tomb-proper tag s p q = record {
   };
 }
 
--- an envelope that is held: its header is proper, and its cell has two bytes
+-- an envelope that is held
 abbrev ProperEnvelope : Envelope → Type 0
-ProperEnvelope e = ProperHeader (e .head) × (e .cell < 2 ^ 16)
+ProperEnvelope e = ProperHeader (e .head)
 
-cell-proper : (cells : Cells) (cell : ℕ) → cell < 2 ^ 16 → replyCell cells cell < 2 ^ 16
-cell-proper ofOwn cell h = h
-cell-proper ofCarried cell h = mod-lt (256 + cell) (omega arith)
+-- a reply's cell has two bytes
+from-proper : (first cell : ℕ) → first ≤ maxCells → cellFrom first cell < 2 ^ 16
+from-proper first cell h = go (ltb cell maxCells) refl
+  where
+    go : (b : Bool) → ltb cell maxCells ≡ b → cond b (first + cell) noCell < 2 ^ 16
+    go true e = omega (arith, ltb-true cell maxCells e)
+    go false e = omega arith
+
+cell-proper : (cells : Cells) (cell : ℕ) → replyCell cells cell < 2 ^ 16
+cell-proper ofOwn cell = from-proper 0 cell (omega arith)
+cell-proper ofCarried cell = from-proper maxCells cell (omega arith)
 
 header-run : (h : Header) → ProperHeader h → Run 37 (headerBytes h)
 unfolding headerBytes
@@ -175,7 +184,7 @@ header-run h p =
     }
 
 envelope-proper : (e : Envelope) → ProperEnvelope e → ProperReply (replyFor e)
-envelope-proper e p = record { kind = omega arith; cell = cell-proper (e .cells) (e .cell) (p .1); body = header-run (e .head) (p .0) }
+envelope-proper e p = record { kind = omega arith; cell = cell-proper (e .cells) (e .cell); body = header-run (e .head) p }
 
 commitment-run : (s : List ℕ) → Run 16 (commitmentOf s)
 unfolding commitmentOf hash
@@ -236,11 +245,11 @@ module _ (s : State) (g : Good s) where
 
   own-envelope : (o : Own) → ProperOwn o → ProperEnvelope (ownEnvelopeOf o)
   unfolding ownEnvelopeOf
-  own-envelope o p = (record { tag = p .tag; c = commitment-run (o .s); «expiry_min» = p .«expiry_min»; copies = p .copies }, p .cell)
+  own-envelope o p = record { tag = p .tag; c = commitment-run (o .s); «expiry_min» = p .«expiry_min»; copies = p .copies }
 
   carried-envelope : (r : Carried) → ProperCarried r → ProperEnvelope (carriedEnvelopeOf r)
   unfolding carriedEnvelopeOf
-  carried-envelope r p = (record { tag = p .tag; c = p .c; «expiry_min» = p .«expiry_min»; copies = p .copies }, p .cell)
+  carried-envelope r p = record { tag = p .tag; c = p .c; «expiry_min» = p .«expiry_min»; copies = p .copies }
 
   envelopes-proper : (peer : ContactId) → All ProperEnvelope (envelopes (s .own) (s .carried) peer)
   unfolding envelopes
@@ -274,7 +283,7 @@ module _ (s : State) (g : Good s) where
 
   half-proper : (e : Envelope) → ProperEnvelope e → ProperEnvelope (halved e)
   unfolding halved
-  half-proper e p = (record { tag = p .0 .tag; c = p .0 .c; «expiry_min» = p .0 .«expiry_min»; copies = omega (arith, p .0 .copies) }, p .1)
+  half-proper e p = record { tag = p .tag; c = p .c; «expiry_min» = p .«expiry_min»; copies = omega (arith, p .copies) }
 
   offers-whole : (peer : ContactId) → All ProperReply (map replyFor (offers s peer))
   unfolding offers

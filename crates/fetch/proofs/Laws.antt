@@ -21,9 +21,9 @@ use Rattle.rows.specs.declared.Own.{Own}
 use Rattle.rows.specs.declared.Carried.{Carried}
 use Rattle.rows.specs.Rows.{ownCodec, ownOf, replyBytes}
 use Rattle.courier.specs.declared.Header.{Header}
-use Rattle.model.specs.Calls.{ofOwn, ofCarried, replyCell, envelopeReply}
+use Rattle.model.specs.Calls.{ofOwn, ofCarried, replyCell, envelopeRow}
 use Rattle.model.specs.Exchange.{ownEnvelopeOf, carriedEnvelopeOf}
-use Rattle.model.specs.Cells.{cellStart, cellLength, ciphertext}
+use Rattle.model.specs.Cells.{cellSize, maxCells, cellStart, cellLength, ciphertext}
 use Rattle.fetch.specs.Fetch.{forOthers, Given}
 
 -- the row at a place, by its contact and its tag
@@ -55,32 +55,35 @@ module _ (count n : ℕ) (a : List ℕ) (peer : ContactId) (tag : List ℕ) (hel
 
 -- ---- the ciphertext
 
-pub part-inside : (a : List ℕ) (cell len n : ℕ) → cell * 2064 ≤ length a → n ≡ min (min len 2064) (length a - cell * 2064)
-    → take (cell * 2064 + n - cell * 2064) (drop (cell * 2064) a) ≡ ciphertext a cell len
-unfolding ciphertext cellStart cellLength part
-part-inside a cell len n h q =
-    let x : cell * 2064 ≡ min (cell * 2064) (length a) = omega arith in
-    let y : cell * 2064 + n - cell * 2064 ≡ min (min len 2064) (length a - cell * 2064) = omega arith in
-    ap₂ (λ (s m : ℕ). take m (drop s a)) x y
+-- the cells that count end at `end`
+module _ (a : List ℕ) (cell len : ℕ) {end : ℕ} (e : end ≡ min (length a) (maxCells * cellSize)) where
+  pub part-inside : {n m : ℕ} → cell * cellSize ≤ end → m ≡ min len cellSize → n ≡ min m (end - cell * cellSize)
+      → take (cell * cellSize + n - cell * cellSize) (drop (cell * cellSize) a) ≡ ciphertext a cell len
+  unfolding ciphertext cellStart cellLength part
+  part-inside {n} h l q =
+      let x : cell * cellSize ≡ min (cell * cellSize) (length a) = omega arith in
+      let y : cell * cellSize + n - cell * cellSize ≡ n = omega arith in
+      ap₂ (λ (s k : ℕ). take k (drop s a)) x (y ∙ q ∙ ap₂ (λ (i j : ℕ). min i (j - cell * cellSize)) l e)
 
-pub part-outside : (a : List ℕ) (cell len : ℕ) → length a < cell * 2064 → take 0 a ≡ ciphertext a cell len
-unfolding ciphertext cellStart cellLength part
-part-outside a cell len h =
-    let z : min (min len 2064) (length a - cell * 2064) ≡ 0 = omega arith in ap (λ (m : ℕ). take m (drop (min (cell * 2064) (length a)) a)) (sym z)
+  pub part-outside : end < cell * cellSize → take 0 a ≡ ciphertext a cell len
+  unfolding ciphertext cellStart cellLength part
+  part-outside h =
+      let z : min (min len cellSize) (min (length a) (maxCells * cellSize) - cell * cellSize) ≡ 0 = omega arith in
+      ap (λ (m : ℕ). take m (drop (min (cell * cellSize) (length a)) a)) (sym z)
 
 -- ---- what is written
 
 module _ (cells lent ct back : List ℕ) (head : Header) where
-  pub given-own : (o x : Own) → o ≡ x → head ≡ ownEnvelopeOf o .head → back ≡ splice lent 0 (replyBytes (envelopeReply ofOwn (o .cell) head))
-      → ct ≡ ciphertext cells (o .cell) (o .len) → Given (ownEnvelopeOf x) cells lent ct back
+  pub given-own : (k : ℕ) (o x : Own) → o ≡ x → k ≡ replyCell ofOwn (o .cell) → head ≡ ownEnvelopeOf o .head
+      → back ≡ splice lent 0 (replyBytes (envelopeRow k head)) → ct ≡ ciphertext cells (o .cell) (o .len) → Given (ownEnvelopeOf x) cells lent ct back
   unfolding ownEnvelopeOf
-  given-own o x e h f g =
+  given-own k o x e q h f g =
       subst (λ (y : Own). Given (ownEnvelopeOf y) cells lent ct back) e
-      (record { bytes = g; row = f ∙ ap (λ (y : Header). splice lent 0 (replyBytes (envelopeReply ofOwn (o .cell) y))) h })
+      (record { bytes = g; row = f ∙ ap₂ (λ (n : ℕ) (y : Header). splice lent 0 (replyBytes (envelopeRow n y))) q h })
 
   pub given-carried : (k : ℕ) (o x : Carried) → o ≡ x → k ≡ replyCell ofCarried (o .cell) → head ≡ carriedEnvelopeOf o .head
-      → back ≡ splice lent 0 (replyBytes (envelopeReply ofOwn k head)) → ct ≡ ciphertext cells (o .cell) (o .len) → Given (carriedEnvelopeOf x) cells lent ct back
+      → back ≡ splice lent 0 (replyBytes (envelopeRow k head)) → ct ≡ ciphertext cells (o .cell) (o .len) → Given (carriedEnvelopeOf x) cells lent ct back
   unfolding carriedEnvelopeOf
   given-carried k o x e q h f g =
       subst (λ (y : Carried). Given (carriedEnvelopeOf y) cells lent ct back) e
-      (record { bytes = g; row = f ∙ ap₂ (λ (n : ℕ) (y : Header). splice lent 0 (replyBytes (envelopeReply ofOwn n y))) q h })
+      (record { bytes = g; row = f ∙ ap₂ (λ (n : ℕ) (y : Header). splice lent 0 (replyBytes (envelopeRow n y))) q h })

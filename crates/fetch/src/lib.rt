@@ -58,15 +58,16 @@ pub fn carried_of_tag(carried: &[u8], count: usize, tag: [u8; 16]) -> Found
 
 // ---- its ciphertext
 
-// The ciphertext of a row that names a cell and a length: what lies inside the cell and the area.
+// The ciphertext of a row that names a cell and a length: what lies inside the cell, the area, and the cells that count.
 pub fn cell_part(cells: &[u8], cell: u16, len: u16) -> &[u8]
     ensures { λ r. ⌜ now r ≡ ciphertext (now (cells .entry)) cell len ⌝ }
 {
     let at = cell as usize * 2064;
-    if cells.len() < at {
+    let end = least(cells.len(), 256 * 2064);
+    if end < at {
         return &cells[..0];
     }
-    let n = least(least(len as usize, 2064), cells.len() - at);
+    let n = least(least(len as usize, 2064), end - at);
     &cells[at..at + n]
 }
 
@@ -78,7 +79,12 @@ fn give_own<'c>(own: &[u8], at: usize, cells: &'c [u8], replies: &mut [u8]) -> &
     ensures { λ r. ⌜ Given (ownEnvelopeOf (ownOf (part (now (own .entry)) at 54))) (now (cells .entry)) (now (replies .entry)) (now r) (now (replies .exit)) ⌝ }
 {
     let row = rows::own_at(own, at);
-    answers::put_envelope(replies, 0, row.cell, answers::own_header(row));
+    answers::put_envelope(
+        replies,
+        0,
+        answers::own_cell(row.cell),
+        answers::own_header(row),
+    );
     cell_part(cells, row.cell, row.len)
 }
 

@@ -1,2 +1,5 @@
-pub mod HostLaws
 pub mod StayLaws
+pub mod TellLaws
+pub mod CountLaws
+pub mod HostLaws
+pub mod QuietLaws

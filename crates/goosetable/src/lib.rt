@@ -13,7 +13,7 @@ ghost use Rattle.model.specs.Lent.{noAnswers, repliesLent, actionsLent, answers
 ghost use Rattle.contacts.specs.Answers.{saidOf, openedOf};
 ghost use Rattle.envelope.specs.Answers.{envelopeSays, envelopeIn};
 ghost use Rattle.fetch.specs.Fetch.{fetchSays, fetchIn};
-ghost use Rattle.own_envelope.specs.OwnEnvelope.{answerOf, lentOwn};
+ghost use Rattle.own_envelope.specs.OwnEnvelope.{ownSays, lentOwn};
 ghost use Rattle.inventory.specs.Inventory.{inventorySays, heldIn as rowsLent, receivedSays, receivedIn};
 ghost use Rattle.handover.specs.Handing.{says as codeSays, codeLent};
 ghost use Rattle.tombstones.specs.Tombstones.{saysStored, tombstonesLent};
@@ -25,7 +25,7 @@ ghost use Rattle.saved.specs.Saving.{saveSays};
 ghost use Rattle.load.specs.Load.{loadStep};
 ghost use Rattle.load.specs.Laying.{says as loadSays, loadLent};
 ghost use Rattle.host_answers.specs.HostAnswers.{contactAnswer, openedAnswer, envelopeAnswer, fetchedAnswer, ownAnswers, listedAnswer, inventoryAnswer, codeAnswer, storedAnswer, tombAnswer, maintainedAnswer, blobAnswer, saveAnswer, loadAnswer, windowAnswer, rowOf};
-ghost use Rattle.goosetable.specs.Hosts.{Hosts, HostsCall, OnRead, dirRead, Stays, contactId, headerFrom};
+ghost use Rattle.goosetable.specs.Hosts.{Hosts, HostsCall, HostsOwn, alone, OnRead, dirRead, Stays, contactId, headerFrom};
 use boundary::VerificationRead;
 use boundary::device_of;
 use boundary::exchange_of;
@@ -213,7 +213,7 @@ pub extern "C" fn goosetable_fetch<'c>(
     carried_cells: &'c [u8],
     replies: &mut [u8],
 ) -> Answer
-    ensures { λ r. ⌜ HostsCall deviceRead (λ o. fetchedAnswer (fetchSays (now («own_cells» .entry)) (now («carried_cells» .entry)) o)) (fetchCall (length (now (replies .entry))) (contactId peer) (now (tag .entry))) r (now (device .entry)) (now (device .entry))
+    ensures { λ r. ⌜ HostsCall deviceRead (λ o. fetchedAnswer (length (o .replies)) (fetchSays (now («own_cells» .entry)) (now («carried_cells» .entry)) o)) (fetchCall (length (now (replies .entry))) (contactId peer) (now (tag .entry))) r (now (device .entry)) (now (device .entry))
         (λ d. fetchIn d (now (contacts .entry)) (now (own .entry)) (now (carried .entry)) (now («own_cells» .entry)) (now («carried_cells» .entry)))
         (λ d. fetchIn d (now (contacts .entry)) (now (own .entry)) (now (carried .entry)) (now («own_cells» .entry)) (now («carried_cells» .entry)))
         (repliesLent (now (replies .entry))) (repliesLent (now (replies .exit))) ⌝ }
@@ -232,7 +232,7 @@ pub extern "C" fn goosetable_fetch<'c>(
         &mut number,
     );
     let length = ciphertext.len();
-    fetch_answer(number, length)
+    fetch_answer(number, 1, length)
 }
 
 // A direction other than `I` and `R` is refused with 12. The row is written where there is one.
@@ -252,10 +252,10 @@ pub extern "C" fn goosetable_own_envelope(
     own_cells: &mut [u8],
     row: &mut [u8; 54],
 ) -> Answer
-    ensures { λ r. ⌜ OnRead (dirRead (dirOf dir)) (λ way. HostsCall deviceKept (λ o. ownAnswers (now (row .entry)) (answerOf o))
+    ensures { λ r. ⌜ OnRead (dirRead (dirOf dir)) (λ way. HostsOwn (λ o. ownAnswers (now (row .entry)) (ownSays o))
         (addOwn (contactId contact) msgno (now (key .entry)) way generation idx (now (s .entry)) (now (ct .entry))) (r, now (row .exit)) (now (device .entry)) (now (device .exit))
         (λ d. lentOwn d (now (contacts .entry)) (now (own .entry)) (now («own_cells» .entry)))
-        (λ d. lentOwn d (now (contacts .entry)) (now (own .exit)) (now («own_cells» .exit))) noAnswers noAnswers)
+        (λ d. lentOwn d (now (contacts .entry)) (now (own .exit)) (now («own_cells» .exit))))
         (Stays 12 r (now (device .entry) ∷ now (own .entry) ∷ now («own_cells» .entry) ∷ now (row .entry) ∷ []) (now (device .exit) ∷ now (own .exit) ∷ now («own_cells» .exit) ∷ now (row .exit) ∷ [])) ⌝ }
 {
     let DirRead::Is(d) = Dir::from_label(dir) else {
@@ -429,7 +429,7 @@ pub extern "C" fn goosetable_tomb(
     tombstones: &mut [u8],
     actions: &mut [u8],
 ) -> Answer
-    ensures { λ r. ⌜ HostsCall deviceKept (λ o. tombAnswer 0 (tombSays o)) (tombCall (length (now (actions .entry))) (contactId peer) (now (tag .entry)) (now (s .entry))) r (now (device .entry)) (now (device .exit))
+    ensures { λ r. ⌜ HostsCall deviceKept (λ o. tombAnswer (length (o .replies)) (tombSays o)) (tombCall (length (now (actions .entry))) (contactId peer) (now (tag .entry)) (now (s .entry))) r (now (device .entry)) (now (device .exit))
         (λ d. tombLent d (now (contacts .entry)) (now (own .entry)) (now (carried .entry)) (now (tombstones .entry)))
         (λ d. tombLent d (now (contacts .entry)) (now (own .exit)) (now (carried .exit)) (now (tombstones .exit)))
         (actionsLent (now (actions .entry))) (actionsLent (now (actions .exit))) ⌝ }
@@ -464,7 +464,7 @@ pub extern "C" fn goosetable_opened(
     replies: &mut [u8],
     actions: &mut [u8],
 ) -> Answer
-    ensures { λ r. ⌜ HostsCall deviceKept (λ o. tombAnswer 1 (tombSays o)) (openedCall (length (now (replies .entry))) (length (now (actions .entry))) (contactId peer) (now (tag .entry)) (now (s .entry)) expiry) r (now (device .entry)) (now (device .exit))
+    ensures { λ r. ⌜ HostsCall deviceKept (λ o. tombAnswer (length (o .replies)) (tombSays o)) (openedCall (length (now (replies .entry))) (length (now (actions .entry))) (contactId peer) (now (tag .entry)) (now (s .entry)) expiry) r (now (device .entry)) (now (device .exit))
         (λ d. openedLent d (now (contacts .entry)) (now (tombstones .entry))) (λ d. openedLent d (now (contacts .entry)) (now (tombstones .exit)))
         (answersLent (now (replies .entry)) (now (actions .entry))) (answersLent (now (replies .exit)) (now (actions .exit))) ⌝ }
 {
@@ -494,7 +494,7 @@ pub extern "C" fn goosetable_failed(
     contacts: &[u8; 2304],
     bad_tags: &mut [u8],
 ) -> Answer
-    ensures { λ r. ⌜ HostsCall deviceKept (λ o. tombAnswer 0 (tombSays o)) (failedCall (contactId peer) (now (tag .entry))) r (now (device .entry)) (now (device .exit))
+    ensures { λ r. ⌜ HostsCall deviceKept (λ o. tombAnswer (length (o .replies)) (tombSays o)) (failedCall (contactId peer) (now (tag .entry))) r (now (device .entry)) (now (device .exit))
         (λ d. failedLent d (now (contacts .entry)) (now («bad_tags» .entry))) (λ d. failedLent d (now (contacts .entry)) (now («bad_tags» .exit))) noAnswers noAnswers ⌝ }
 {
     let d = device_of(device);
@@ -574,7 +574,7 @@ pub extern "C" fn goosetable_load(
     carried_cells: &mut [u8],
     file: &[u8],
 ) -> Answer
-    ensures { λ r. ⌜ Hosts deviceKept (λ o. loadAnswer (loadSays o)) (λ s. loadStep s (now (file .entry))) r (now (device .entry)) (now (device .exit))
+    ensures { λ r. ⌜ Hosts deviceKept alone (λ o. loadAnswer (loadSays o)) (λ s. loadStep s (now (file .entry))) r (now (device .entry)) (now (device .exit))
         (λ d. loadLent d (now (contacts .entry)) (now (carried .entry)) (now (tombstones .entry)) (now («carried_cells» .entry)))
         (λ d. loadLent d (now (contacts .entry)) (now (carried .exit)) (now (tombstones .exit)) (now («carried_cells» .exit))) noAnswers noAnswers ⌝ }
 {

@@ -1,10 +1,10 @@
 -- Laws of cells: the free one that a new row gets, and the ciphertexts that stay where they are.
 -- Assumes nothing.
-use mathlib.Core.Path.{_≡_, refl, sym, ap, ap₂, _∙_}
+use mathlib.Core.Path.{_≡_, refl, sym, ap, _∙_}
 use mathlib.Core.Bool.{Bool, true, false, cond, not, _||_, false≢true}
 use mathlib.Core.List.{List, [], _∷_}
-use Prim.Native.Nat.{ℕ, zero, suc, _+_, _-_, _*_, _/_, _≤_, _<_, min}
-use native.Mathlib.Nat.{min-le-right}
+use Prim.Native.Nat.{ℕ, zero, suc, _+_, _-_, _*_, _/_, _≤_, _<_}
+use native.Mathlib.Nat.{min-le-left, min-le-right}
 use native.Mathlib.Omega.{arith}
 use lib.ListN.{length}
 use lib.Dec.{eqb, ltb}
@@ -17,7 +17,8 @@ use Rattle.table.specs.Lists.{All, any, filter, countBy, isAt}
 use Rattle.table.proofs.ListLaws.{all-imp}
 use Rattle.table.proofs.RowLaws.{row-of}
 use Rattle.table.proofs.FindLaws.{any-none}
-use Rattle.model.specs.Cells.{cellStart, cellLength, ciphertext, cellCount, freeFrom, freeCell, cellsUsed}
+use Rattle.model.specs.Cells.{ciphertext, cellCount, freeFrom, freeCell, cellsUsed}
+use Rattle.model.proofs.Laws.{ciphertext-inside}
 
 -- ---- the free cell
 
@@ -108,18 +109,15 @@ cells-left size named h = go (freeFrom (cellCount size) 0 named) refl
 
 -- ---- ciphertexts
 
-in-area : (size c : ℕ) → c < cellCount size → c * 2064 + 2064 ≤ size
+pub in-area : (size c : ℕ) → c < cellCount size → c * 2064 + 2064 ≤ size
 unfolding cellCount
 in-area size c h = row-of c 2064 size (omega (arith, min-le-right 256 (size / 2064)))
 
 -- a ciphertext that lies inside its cell
-inside : (area : List ℕ) (d len : ℕ) → d < cellCount (length area) → len ≤ 2064 → ciphertext area d len ≡ part area (d * 2064) len
-unfolding ciphertext cellStart cellLength
+pub inside : (area : List ℕ) (d len : ℕ) → d < cellCount (length area) → len ≤ 2064 → ciphertext area d len ≡ part area (d * 2064) len
+unfolding cellCount
 inside area d len h k =
-    let r : d * 2064 + 2064 ≤ length area = in-area (length area) d h in
-    let a : min (d * 2064) (length area) ≡ d * 2064 = omega arith in
-    let b : min (min len 2064) (length area - d * 2064) ≡ len = omega arith in
-    ap₂ (part area) a b
+    ciphertext-inside area d len (omega (arith, min-le-left 256 (length area / 2064))) k (omega (arith, in-area (length area) d h))
 
 module _ (area : List ℕ) (c : ℕ) (ct : List ℕ) (h : c < cellCount (length area)) (k : length ct ≤ 2064) where
   fits : c * 2064 + length ct ≤ length area

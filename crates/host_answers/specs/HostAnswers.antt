@@ -8,6 +8,7 @@ use lib.ListN as lists
 use lib.Dec.{eqb}
 use Rattle.core.specs.Core.{refusalNumber}
 use Rattle.core.specs.declared.Refusal.{Refusal}
+use Rattle.rows.specs.declared.Own.{Own}
 use Rattle.rows.specs.Rows.{ownBytes}
 use Rattle.chain.specs.declared.Windowed.{Windowed}
 use Rattle.chain.specs.declared.Windowed.the-variants as windowed
@@ -16,7 +17,6 @@ use Rattle.state.specs.declared.HeldKind.the-variants as kinds
 use Rattle.state.specs.declared.HeldRead.{HeldRead}
 use Rattle.state.specs.declared.Carried.{Carried}
 use Rattle.state.specs.declared.Tombstone.{Tombstone}
-use Rattle.model.specs.Calls as calls
 use Rattle.contacts.specs.declared.Said.{Said as ContactSaid}
 use Rattle.contacts.specs.declared.Said.the-variants as contactSaid
 use Rattle.contacts.specs.declared.Opened.{Opened}
@@ -24,6 +24,8 @@ use Rattle.contacts.specs.declared.Opened.the-variants as opening
 use Rattle.envelope.specs.declared.Answer.{Answer as EnvelopeSaid}
 use Rattle.envelope.specs.declared.Answer.the-variants as envelopeSaid
 use Rattle.fetch.specs.Fetch.{Fetched}
+use Rattle.own_envelope.specs.declared.Made.{Made}
+use Rattle.own_envelope.specs.declared.Made.the-variants as made
 use Rattle.inventory.specs.declared.Listed.{Listed}
 use Rattle.inventory.specs.declared.Listed.the-variants as listing
 use Rattle.inventory.specs.declared.Said.{Said as InventorySaid}
@@ -80,38 +82,26 @@ envelopeAnswer (envelopeSaid.Ours contact generation idx) = record {
 envelopeAnswer (envelopeSaid.Done replies actions) = answered 0 replies actions 0
 envelopeAnswer (envelopeSaid.Refused why) = refusing why
 
--- a fetch's number: 0 for an envelope, whose ciphertext has so many bytes, 255 for none, or a refusal's
-abbrev pub fetchAnswer : (number len : ℕ) → Answer
-fetchAnswer number len = cond (eqb number 0) (answered 0 1 0 len) (cond (eqb number 255) (answered 130 0 0 0) (answered number 0 0 0))
+-- a fetch's number: 0 for an envelope, which has so many replies and whose ciphertext so many bytes, 255 for none, or a refusal's
+abbrev pub fetchAnswer : (replies number len : ℕ) → Answer
+fetchAnswer replies number len = cond (eqb number 0) (answered 0 replies 0 len) (cond (eqb number 255) (answered 130 0 0 0) (answered number 0 0 0))
 
-abbrev pub fetchedAnswer : Fetched → Answer
-fetchedAnswer f = fetchAnswer (f .number) (lists.length (f .bytes))
+abbrev pub fetchedAnswer : ℕ → Fetched → Answer
+fetchedAnswer replies f = fetchAnswer replies (f .number) (lists.length (f .bytes))
 
 -- own envelope: the answer, and the bytes of the row where there is one
-abbrev pub ownAnswer : calls.Answer → Answer
-ownAnswer (calls.refused why) = refusing why
-ownAnswer calls.malformed = answered 0 0 0 0
-ownAnswer calls.done = answered 0 0 0 0
-ownAnswer (calls.ours contact generation idx) = answered 0 0 0 0
-ownAnswer (calls.found cells position len) = answered 0 0 0 0
-ownAnswer calls.missing = answered 0 0 0 0
-ownAnswer (calls.ownRow row) = answered 0 0 0 0
-ownAnswer calls.noEnvelope = answered 131 0 0 0
-ownAnswer (calls.wrote count) = answered 0 0 0 0
+abbrev pub ownAnswer : Made → Answer
+ownAnswer (made.Refused why) = refusing why
+ownAnswer made.NoEnvelope = answered 131 0 0 0
+ownAnswer made.Row = answered 0 0 0 0
 
-abbrev pub ownRowArea : List ℕ → calls.Answer → List ℕ
-ownRowArea area (calls.refused why) = area
-ownRowArea area calls.malformed = area
-ownRowArea area calls.done = area
-ownRowArea area (calls.ours contact generation idx) = area
-ownRowArea area (calls.found cells position len) = area
-ownRowArea area calls.missing = area
-ownRowArea area (calls.ownRow row) = ownBytes row
-ownRowArea area calls.noEnvelope = area
-ownRowArea area (calls.wrote count) = area
+abbrev pub ownRowArea : List ℕ → Made → Own → List ℕ
+ownRowArea area (made.Refused why) row = area
+ownRowArea area made.NoEnvelope row = area
+ownRowArea area made.Row row = ownBytes row
 
-abbrev pub ownAnswers : List ℕ → calls.Answer → Answer × List ℕ
-ownAnswers area a = (ownAnswer a, ownRowArea area a)
+abbrev pub ownAnswers : List ℕ → Made × Own → Answer × List ℕ
+ownAnswers area m = (ownAnswer (m .0), ownRowArea area (m .0) (m .1))
 
 abbrev pub listedAnswer : Listed → Answer
 listedAnswer (listing.Wrote count) = answered 0 0 0 count

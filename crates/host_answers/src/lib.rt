@@ -1,8 +1,6 @@
 // What a call answers a host of another language: every enum of the calls as one struct of numbers, and a held row that was read.
 ghost use mathlib.Core.Path.{_≡_};
-ghost use Rattle.rows.specs.declared.Own.{Own as OwnRow};
 ghost use Rattle.contacts.specs.Answers.{exchangeAfter};
-ghost use Rattle.own_envelope.specs.OwnEnvelope.{madeAs};
 ghost use Rattle.host_answers.specs.HostAnswers.{answered, refusing, contactAnswer, openedAnswer, envelopeAnswer, fetchAnswer, ownAnswer, ownRowArea, listedAnswer, inventoryAnswer, codeAnswer, storedAnswer, tombAnswer, maintainedAnswer, blobAnswer, saveAnswer, loadAnswer, windowAnswer, carriedRow, tombstoneRow, rowOf};
 use chain::Windowed;
 use contacts::Opened;
@@ -104,19 +102,19 @@ pub fn envelope_answer(answer: envelope::Answer) -> Answer
     }
 }
 
-// The number of a fetch: 0 for an envelope, 255 for none, or a refusal's.
-pub fn fetch_answer(number: u8, length: usize) -> Answer
-    ensures { λ r. ⌜ r ≡ fetchAnswer number length ⌝ }
+// The number of a fetch: 0 for an envelope, which has so many replies, 255 for none, or a refusal's.
+pub fn fetch_answer(number: u8, replies: usize, length: usize) -> Answer
+    ensures { λ r. ⌜ r ≡ fetchAnswer replies number length ⌝ }
 {
     match number {
-        0 => answer_of(DONE, 1, 0, length),
+        0 => answer_of(DONE, replies, 0, length),
         255 => answer_of(MISSING, 0, 0, 0),
         _ => answer_of(number, 0, 0, 0),
     }
 }
 
 pub fn own_answer(made: Made) -> Answer
-    ensures { λ r. ⌜ ((row : OwnRow) → r ≡ ownAnswer (madeAs made row)) ⌝ }
+    ensures { λ r. ⌜ r ≡ ownAnswer made ⌝ }
 {
     match made {
         Made::Row => answer_of(DONE, 0, 0, 0),
@@ -240,7 +238,7 @@ pub fn exchange_after(stood: Exchange, opened: Opened) -> Exchange
 
 // The bytes of an own row where there is one, or those that were there.
 pub fn own_row(made: Made, row: Own, before: [u8; 54]) -> [u8; 54]
-    ensures { λ r. ⌜ r ≡ ownRowArea before (madeAs made row) ⌝ }
+    ensures { λ r. ⌜ r ≡ ownRowArea before made row ⌝ }
 {
     match made {
         Made::Row => rows::own_bytes(row),

@@ -25,7 +25,7 @@ use Rattle.courier.specs.declared.Header.{Header}
 use Rattle.courier.specs.Courier.{headerBytes}
 use Rattle.rows.specs.declared.Tombstone.{Tombstone}
 use Rattle.model.specs.Custody.{tombstoneOfTag}
-use Rattle.model.specs.Calls.{ofOwn, replyCell, envelopeReply}
+use Rattle.model.specs.Calls.{replyCell, envelopeRow}
 use Rattle.model.specs.Exchange.{Envelope, halved, isOffered, replyFor, offerOfTag, insertOffer}
 use Rattle.inventory.specs.declared.Row.{Row}
 use Rattle.inventory.specs.declared.Offered.{Offered}
@@ -146,11 +146,11 @@ length-head h t c = simp length-append (omega (arith, length-be 4 (h .«expiry_m
 
 module _ (env : Envelope) (it : Offered) (is : it ≡ offeredOf env) where
   pub handed : (lent x offers y : List ℕ) (k c m : ℕ) → length (it .head .tag) ≡ 16 → length (it .head .c) ≡ 16
-      → x ≡ splice lent (k * 40) (replyBytes (envelopeReply ofOwn (it .cell) (it .head)))
+      → x ≡ splice lent (k * 40) (replyBytes (envelopeRow (it .cell) (it .head)))
       → Inserted offers c (record { tag = it .head .tag; copies = it .head .copies }) m y → Handed (halved env) lent k offers c x m y
   unfolding halved insertOffer
   handed lent x offers y k c m lt lc ex I = record {
-    reply = ex ∙ ap (λ (z : Offered). splice lent (k * 40) (replyBytes (envelopeReply ofOwn (z .cell) (z .head)))) is;
+    reply = ex ∙ ap (λ (z : Offered). splice lent (k * 40) (replyBytes (envelopeRow (z .cell) (z .head)))) is;
     wide = length-reply (replyFor (halved env))
         (length-head (halved env .head) (ap (λ (z : Offered). length (z .head .tag)) (sym is) ∙ lt) (ap (λ (z : Offered). length (z .head .c)) (sym is) ∙ lc));
     table = subst (λ (z : Offered). TableNow offerCodec offers (insertOffer (asEnvelope (record { tag = z .head .tag; copies = z .head .copies })) (tableOf offerCodec c offers)) m y) is (I .table);

@@ -1,6 +1,6 @@
 -- The walk through the held rows: each is looked for among the listed prefixes and the tombstones, and offered if it is in neither.
 -- Assumes nothing.
-use mathlib.Core.Path.{_≡_, refl, sym, ap, _∙_}
+use mathlib.Core.Path.{_≡_, refl, sym, ap, _∙_, subst}
 use mathlib.Core.Bool.{Bool, false, _||_}
 use mathlib.Core.List.{List, [], _∷_, _++_, map, flatMap, append-nil}
 use Prim.Native.Nat.{ℕ, _+_, _*_, _/_, _≤_, _<_}
@@ -117,6 +117,12 @@ module _ (peer : ContactId) (own carried : List ℕ) (n m : ℕ) (listed : List 
     pub table : TableNow offerCodec offers (insertOffers (flatMap offered (take i E)) []) c y
     pub room : length x ≡ length lent
     pub size : length y ≡ length offers
+
+  -- the same of counts and areas that are equal
+  pub offering-as : {i k c k′ c′ : ℕ} {x y x′ y′ : List ℕ} → (k′ ≡ k) × ((c′ ≡ c) × ((x′ ≡ x) × (y′ ≡ y))) → Offering i k c x y → Offering i k′ c′ x′ y′
+  offering-as {i} e O =
+      subst (λ (p : (ℕ × ℕ) × (List ℕ × List ℕ)). Offering i (p .0 .0) (p .0 .1) (p .1 .0) (p .1 .1))
+      (λ j. ((sym (e .0) j, sym (e .1 .0) j), (sym (e .1 .1 .0) j, sym (e .1 .1 .1) j))) O
 
   pub offering-start : Offering 0 first 0 lent offers
   unfolding flatMap insertOffers

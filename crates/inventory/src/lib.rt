@@ -256,11 +256,11 @@ fn push_tombs(
 {
     let mut k = n;
     let mut i = 0;
-    'listed: while i < l {
+    while i < l {
         let at = i * 8;
         i += 1;
         let mut j = 0;
-        while j < g {
+        'search: while j < g {
             if octets::same(tombstones, j * rows::TOMBSTONE_WIDTH + 8, listed, at, 8) {
                 put_tomb_of(
                     replies,
@@ -269,7 +269,7 @@ fn push_tombs(
                     j * rows::TOMBSTONE_WIDTH,
                 );
                 k += 1;
-                continue 'listed;
+                break 'search;
             }
             j += 1;
         }
@@ -302,7 +302,7 @@ fn own_offered(row: Own) -> Offered
     ensures { λ r. ⌜ r ≡ offeredOf (ownEnvelopeOf row) ⌝ }
 {
     Offered {
-        cell: row.cell,
+        cell: answers::own_cell(row.cell),
         head: half(answers::own_header(row)),
     }
 }
@@ -389,7 +389,8 @@ struct Counts {
     offers: usize,
 }
 
-// Offers every row that may be offered and has no listed prefix and no tombstoned tag, behind the first replies.
+// Offers every row that may be offered and has no listed prefix and no tombstoned tag, behind the first replies. (The labelled loop
+// is a block that is left at the first match: it goes round once.)
 fn push_offers(
     own: &[u8],
     n: usize,
@@ -414,30 +415,33 @@ fn push_offers(
     let mut k = first;
     let mut c = 0;
     let mut i = 0;
-    'rows: while i < n + m {
+    while i < n + m {
         let at = i;
         let row = row_at(own, n, carried, at, peer);
         i += 1;
-        if !may_offer(row) {
-            continue 'rows;
-        }
-        let tag = row.tag;
-        let mut j = 0;
-        while j < l {
-            if octets::same(listed, j * 8, &tag, 0, 8) {
-                continue 'rows;
+        'row: loop {
+            if !may_offer(row) {
+                break 'row;
             }
-            j += 1;
-        }
-        let mut t = 0;
-        while t < g {
-            if octets::same(tombstones, t * rows::TOMBSTONE_WIDTH + 8, &tag, 0, 16) {
-                continue 'rows;
+            let tag = row.tag;
+            let mut j = 0;
+            while j < l {
+                if octets::same(listed, j * 8, &tag, 0, 8) {
+                    break 'row;
+                }
+                j += 1;
             }
-            t += 1;
+            let mut t = 0;
+            while t < g {
+                if octets::same(tombstones, t * rows::TOMBSTONE_WIDTH + 8, &tag, 0, 16) {
+                    break 'row;
+                }
+                t += 1;
+            }
+            c = offer_row(own, n, carried, at, replies, k, offers, c);
+            k += 1;
+            break 'row;
         }
-        c = offer_row(own, n, carried, at, replies, k, offers, c);
-        k += 1;
     }
     Counts {
         replies: k,

@@ -7,3 +7,4 @@ pub mod SavedLaws
 pub mod FineLaws
 pub mod ReloadLaws
 pub mod RefusedLaws
+pub mod ExactLaws

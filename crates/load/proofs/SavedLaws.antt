@@ -4,15 +4,14 @@ use mathlib.Core.Path.{_≡_, refl, sym, ap, ap₂, _∙_, subst}
 use mathlib.Core.Bool.{Bool, true, false, cond, not}
 use mathlib.Core.List.{List, [], _∷_, _++_, map, append-assoc, append-nil, map-append}
 use mathlib.Core.Option.{Option, none, some}
-use Prim.Native.Nat.{ℕ, zero, suc, _+_, _-_, _*_, _/_, _^_, _≤_, _<_, min}
-use native.Mathlib.Nat.{zero-add}
+use Prim.Native.Nat.{ℕ, zero, suc, _+_, _-_, _*_, _^_, _≤_, _<_}
 use native.Mathlib.Omega.{arith}
 use lib.ListN.{length, take, drop, length-append, length-take, length-map, drop-of-length-le}
 use lib.Seq.{take-at, drop-at, take-all}
 use lib.Dec.{leb, ltb}
 use borrow.Author.Tests.{le-leb, lt-leb, le-ltb}
 use Rattle.octets.specs.Bytes.{part, splice, num, be}
-use Rattle.octets.proofs.Parts.{part-left, part-hit, part-whole, read-same, read-before, length-splice, length-part}
+use Rattle.octets.proofs.Parts.{part-left, part-hit, part-whole, length-part}
 use Rattle.octets.proofs.Numbers.{length-be, num-be}
 use Rattle.table.specs.declared.Found.{Found}
 use Rattle.table.specs.declared.Found.the-variants.{At, Nothing}
@@ -20,9 +19,9 @@ use Rattle.table.specs.Lists.{All, filter, insertAt, positionFrom, position, un
 use Rattle.table.specs.Lists as lists
 use Rattle.table.specs.Rows.{join}
 use Rattle.table.proofs.ListLaws.{all-imp, all-push, all-map}
-use Rattle.table.proofs.RowLaws.{mul-le, next-row}
 use Rattle.history.specs.Order.{Sorted, empty, next, InCell}
 use Rattle.history.proofs.SortedLaws.{all-unmap}
+use Rattle.history.proofs.CellLaws.{in-area, inside, length-after, ciphertext-new, ciphertext-kept}
 use Rattle.state.specs.declared.Carried.{Carried as HeldCarried}
 use Rattle.state.specs.declared.Tombstone.{Tombstone as HeldTombstone}
 use Rattle.state.specs.Held.{Held, heldRow, heldDecode}
@@ -30,7 +29,7 @@ use Rattle.state.specs.Held as held
 use Rattle.rows.specs.declared.Carried.{Carried}
 use Rattle.rows.specs.declared.Tombstone.{Tombstone}
 use Rattle.model.specs.Basics.{matchSome, merge}
-use Rattle.model.specs.Cells.{ciphertext, cellStart, cellLength, cellCount}
+use Rattle.model.specs.Cells.{ciphertext, cellCount}
 use Rattle.model.specs.Saved.{Slotted, carriedHeld, tombstoneHeld, heldMark, savedRecord, savedFile, savedRows, saveHeld, heldRows}
 use Rattle.load_tests.specs.Records.{recordSize, recordsIn, recordsAt, records, slotIn}
 use Rattle.model.specs.Calls.{Result, done}
@@ -190,42 +189,31 @@ module _ (size : ℕ) (l : Rows) (cs ts : List Slotted) (K : Kept size l cs ts) 
   abbrev at : ℕ
   at = length (l .carried) * 2064
 
-  module _ (r : HeldCarried) (ct : List ℕ) (short : length ct ≤ 2064) (room : (length (l .carried) + 1) * 2064 ≤ size) (low : All (λ (h : Slotted). h .slot < slot) cs) where
+  module _ (r : HeldCarried) (ct : List ℕ) (short : length ct ≤ 2064) (room : length (l .carried) < cellCount size) (low : All (λ (h : Slotted). h .slot < slot) cs) where
     abbrev cells : List ℕ
     cells = splice (l .cells) at ct
 
-    inside : at + length ct ≤ length (l .cells)
-    inside = omega (arith, room, K .sized, next-row (length (l .carried)) 2064)
+    here : length (l .carried) < cellCount (length (l .cells))
+    here = omega (arith, room, ap cellCount (K .sized))
 
     same-size : length cells ≡ length (l .cells)
-    same-size = length-splice (l .cells) at ct inside
+    same-size = length-after (l .cells) (length (l .carried)) ct here short
 
     -- the ciphertexts before it stay, and its own is there
     before : (c : Carried) → (c .cell < length (l .carried)) × (c .len ≤ 2064) → carriedHeld cells c ≡ carriedHeld (l .cells) c
-    unfolding carriedHeld ciphertext cellStart cellLength
+    unfolding carriedHeld
     before c h =
-        let k : (c .cell + 1) * 2064 ≤ at = mul-le 2064 (omega (arith, h .0)) in
-        let n = next-row (c .cell) 2064 in
-        let e : part cells (min (c .cell * 2064) (length cells)) (min (min (c .len) 2064) (length cells - c .cell * 2064))
-        ≡ part (l .cells) (min (c .cell * 2064) (length (l .cells))) (min (min (c .len) 2064) (length (l .cells) - c .cell * 2064)) =
-        ap (λ (m : ℕ). part cells (min (c .cell * 2064) m) (min (min (c .len) 2064) (m - c .cell * 2064))) same-size
-        ∙ read-before (l .cells) at ct (min (c .cell * 2064) (length (l .cells))) (min (min (c .len) 2064) (length (l .cells) - c .cell * 2064)) inside (omega arith) in
         ap (λ (x : List ℕ). record {
           slot = c .slot;
           held = held.carried (record { depositor = c .depositor; header = record { tag = c .tag; c = c .c; «expiry_min» = c .«expiry_min»; copies = c .copies } }) x;
-        }) e
+        }) (ciphertext-kept (l .cells) (length (l .carried)) ct here short (c .cell) (c .len) (omega (arith, here, h .0)) (h .1) (λ e. omega (arith, e, h .0)))
 
     abbrev new : Carried
     new = carriedRow slot (length ct) (length (l .carried)) r
 
     own : carriedHeld cells new ≡ record { slot = slot; held = held.carried r ct }
-    unfolding carriedHeld ciphertext cellStart cellLength
-    own =
-        let z = same-size in
-        let i = inside in
-        let a : min at (length cells) ≡ at = omega arith in
-        let b : min (min (length ct) 2064) (length cells - at) ≡ length ct = omega arith in
-        ap (λ (x : List ℕ). record { slot = slot; held = held.carried r x }) (ap₂ (part cells) a b ∙ read-same (l .cells) at ct inside)
+    unfolding carriedHeld
+    own = ap (λ (x : List ℕ). record { slot = slot; held = held.carried r x }) (ciphertext-new (l .cells) (length (l .carried)) ct here short)
 
     pub kept-carried : Kept size (loadHeld l slot (held.carried r ct)) (cs ++ (record { slot = slot; held = held.carried r ct } ∷ [])) ts
     unfolding loadHeld
@@ -285,7 +273,7 @@ before-one (x ∷ xs) ys y (next a s) = lists.more (middle xs ys a) (before-one 
     middle (u ∷ us) vs (lists.more p q) = middle us vs q
 
 loads-kept : (size : ℕ) (hs : List Slotted) (l : Rows) (cs ts : List Slotted) → Kept size l cs ts → All (λ (h : Slotted). Fits (h .held)) hs
-    → (length cs + length (filter ofCarried hs)) * 2064 ≤ size → Sorted Before (cs ++ filter ofCarried hs) → Sorted Before (ts ++ filter ofTombstone hs)
+    → length cs + length (filter ofCarried hs) ≤ cellCount size → Sorted Before (cs ++ filter ofCarried hs) → Sorted Before (ts ++ filter ofTombstone hs)
     → Kept size (loadRows l hs) (cs ++ filter ofCarried hs) (ts ++ filter ofTombstone hs)
 unfolding loadRows filter
 loads-kept size [] l cs ts K f room sc st =
@@ -296,10 +284,10 @@ loads-kept size (h ∷ hs) l cs ts K (lists.more f fs) room sc st = go (h .slot)
     count = sym (length-map (l .carried) (carriedHeld (l .cells))) ∙ ap length (K .carried)
 
     go : (s : ℕ) (x : Held) → Fits x
-        → (length cs + length (cond (carriedKind x) (record { slot = s; held = x } ∷ filter ofCarried hs) (filter ofCarried hs))) * 2064 ≤ size
+        → length cs + length (cond (carriedKind x) (record { slot = s; held = x } ∷ filter ofCarried hs) (filter ofCarried hs)) ≤ cellCount size
         → Sorted Before (cs ++ cond (carriedKind x) (record { slot = s; held = x } ∷ filter ofCarried hs) (filter ofCarried hs))
         → Sorted Before (ts ++ cond (not (carriedKind x)) (record { slot = s; held = x } ∷ filter ofTombstone hs) (filter ofTombstone hs))
-        → ((m : Rows) (us vs : List Slotted) → Kept size m us vs → (length us + length (filter ofCarried hs)) * 2064 ≤ size
+        → ((m : Rows) (us vs : List Slotted) → Kept size m us vs → length us + length (filter ofCarried hs) ≤ cellCount size
         → Sorted Before (us ++ filter ofCarried hs) → Sorted Before (vs ++ filter ofTombstone hs) → Kept size (loadRows m hs) (us ++ filter ofCarried hs) (vs ++ filter ofTombstone hs))
         → Kept size (loadRows (loadHeld l s x) hs) (cs ++ cond (carriedKind x) (record { slot = s; held = x } ∷ filter ofCarried hs) (filter ofCarried hs))
         (ts ++ cond (not (carriedKind x)) (record { slot = s; held = x } ∷ filter ofTombstone hs) (filter ofTombstone hs))
@@ -308,10 +296,10 @@ loads-kept size (h ∷ hs) l cs ts K (lists.more f fs) room sc st = go (h .slot)
         let e : (cs ++ (n ∷ [])) ++ filter ofCarried hs ≡ cs ++ (n ∷ filter ofCarried hs) = append-assoc cs (n ∷ []) (filter ofCarried hs) in
         let len : length (cs ++ (n ∷ [])) ≡ length cs + 1 = length-append cs (n ∷ []) in
         let k : Kept size (loadHeld l s (held.carried r ct)) (cs ++ (n ∷ [])) ts =
-        kept-carried size l cs ts K s r ct fit (omega (arith, mul-le {i = length cs + 1} {n = length cs + suc (length (filter ofCarried hs))} 2064 (omega arith), rm, ap (λ (j : ℕ). (j + 1) * 2064) count)) (before-one cs (filter ofCarried hs) n a) in
+        kept-carried size l cs ts K s r ct fit (omega (arith, rm, count)) (before-one cs (filter ofCarried hs) n a) in
         let more : length cs + suc (length (filter ofCarried hs)) ≡ length (cs ++ (n ∷ [])) + length (filter ofCarried hs) = omega arith in
         subst (λ (x : List Slotted). Kept size (loadRows (loadHeld l s (held.carried r ct)) hs) x (ts ++ filter ofTombstone hs)) e
-        (rec (loadHeld l s (held.carried r ct)) (cs ++ (n ∷ [])) ts k (omega (arith, ap (λ (j : ℕ). j * 2064) more, rm)) (subst (Sorted Before) (sym e) a) b)
+        (rec (loadHeld l s (held.carried r ct)) (cs ++ (n ∷ [])) ts k (omega (arith, more, rm)) (subst (Sorted Before) (sym e) a) b)
     go s (held.tombstone t) fit rm a b rec =
         let n : Slotted = record { slot = s; held = held.tombstone t } in
         let e : (ts ++ (n ∷ [])) ++ filter ofTombstone hs ≡ ts ++ (n ∷ filter ofTombstone hs) = append-assoc ts (n ∷ []) (filter ofTombstone hs) in
@@ -440,13 +428,9 @@ tombstone-back-row t p = record {
 module _ (s : State) (W : Savable s) where
   -- a ciphertext has its row's length
   length-text : (r : Carried) → InCell (length (s .carriedCells)) (r .cell) (r .len) → length (ciphertext (s .carriedCells) (r .cell) (r .len)) ≡ r .len
-  unfolding ciphertext cellStart cellLength cellCount
   length-text r h =
-      let n = mul-le {i = r .cell + 1} {n = length (s .carriedCells) / 2064} 2064 (omega (arith, h .0)) in
-      let m = next-row (r .cell) 2064 in
-      let d : length (s .carriedCells) / 2064 * 2064 ≤ length (s .carriedCells) = omega arith in
-      let b : min (min (r .len) 2064) (length (s .carriedCells) - r .cell * 2064) ≡ r .len = omega (arith, h .1) in
-      length-part (s .carriedCells) (min (r .cell * 2064) (length (s .carriedCells))) (min (min (r .len) 2064) (length (s .carriedCells) - r .cell * 2064)) (omega arith) ∙ b
+      ap length (inside (s .carriedCells) (r .cell) (r .len) (h .0) (h .1))
+      ∙ length-part (s .carriedCells) (r .cell * 2064) (r .len) (omega (arith, in-area (length (s .carriedCells)) (r .cell) (h .0), h .1))
 
   carried-back-row : (r : Carried) → ProperCarried r → InCell (length (s .carriedCells)) (r .cell) (r .len) → ReadBack r
       → Back (carriedHeld (s .carriedCells) r) × Fits (carriedHeld (s .carriedCells) r .held)
@@ -507,16 +491,14 @@ module _ (s : State) (W : Savable s) where
 
   -- what is loaded from it has the rows that were saved
   pub rows-saved : (cells : List ℕ) → length (s .carried) ≤ cellCount (length cells) → Kept (length cells) (loaded cells (fileOf s)) (carriedRows s) (tombstoneRows s)
-  unfolding cellCount
   rows-saved cells room =
       let hs : List Slotted = rowsOf s in
       let e : loaded cells (fileOf s) ≡ loadRows (noRows cells) hs =
       ap (loaded cells) (same-file s (W .fits)) ∙ loaded-saved cells (s .nextSlot) hs (all-imp (λ h p. p .0) hs all-rows) in
       let n : length (filter ofCarried hs) ≡ length (s .carried) = ap length carried-kept ∙ length-map (s .carried) (carriedHeld (s .carriedCells)) in
-      let k : length (s .carried) * 2064 ≤ length cells = omega (arith, room) in
       let K : Kept (length cells) (loadRows (noRows cells) hs) (filter ofCarried hs) (filter ofTombstone hs) =
       loads-kept (length cells) hs (noRows cells) [] [] (record { carried = refl; tombstones = refl; inCells = lists.none; sized = refl }) (all-imp (λ h p. p .1) hs all-rows)
-      (omega (arith, k, ap (λ (j : ℕ). (0 + j) * 2064) n, zero-add (length (s .carried)), ap (λ (j : ℕ). j * 2064) (zero-add (length (s .carried)))))
+      (omega (arith, room, n))
       (subst (Sorted Before) (sym carried-kept) carried-rise) (subst (Sorted Before) (sym tombstones-kept) tombstones-rise) in
       subst (λ (l : Rows). Kept (length cells) l (carriedRows s) (tombstoneRows s)) (sym e)
       (subst (λ (x : List Slotted). Kept (length cells) (loadRows (noRows cells) hs) x (tombstoneRows s)) carried-kept

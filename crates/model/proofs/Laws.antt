@@ -1,6 +1,6 @@
 -- Laws of the model's definitions: the bytes that carried rows can have, the place of the least expiry, the saved file, refusals.
 -- Assumes nothing.
-use mathlib.Core.Path.{_≡_, refl, sym, ap, _∙_, subst}
+use mathlib.Core.Path.{_≡_, refl, sym, ap, ap₂, _∙_, subst}
 use mathlib.Core.Bool.{Bool, true, false, cond}
 use mathlib.Core.List.{List, [], _∷_, _++_, Perm, Perm·refl, Perm·cons, Perm·trans, Perm·symm, perm-middle, append-nil}
 use Prim.Native.Nat.{ℕ, suc, _+_, _-_, _*_, _≤_, _<_, _^_, min}
@@ -10,13 +10,14 @@ use lib.ListN.{length, drop, getD, length-take, length-drop}
 use lib.Seq.{getD-drop, drop-drop}
 use native.Mathlib.Numerals.{add-one}
 use lib.Dec.{leb, ltb}
-use borrow.Author.Tests.{ltb-false, ltb-true}
+use borrow.Author.Tests.{ltb-false, ltb-true, lt-ltb, le-ltb}
 use Rattle.octets.specs.Bytes.{part}
 use Rattle.rows.specs.declared.Carried.{Carried}
 use Rattle.rows.specs.declared.Tombstone.{Tombstone}
 use Rattle.model.specs.Basics.{merge}
 use Rattle.model.specs.State.{State}
-use Rattle.model.specs.Cells.{cellStart, cellLength, ciphertext}
+use Rattle.model.specs.Calls.{Cells, ofOwn, ofCarried, noCell, cellFrom, firstCell, replyCell}
+use Rattle.model.specs.Cells.{cellSize, maxCells, cellStart, cellLength, ciphertext}
 use Rattle.model.specs.Custody.{carriedTotal}
 use Rattle.model.specs.Tombs.{noTombstone, leastFrom, leastExpiry}
 use Rattle.model.specs.Saved.{Slotted, savedCarried, savedTombstones, savedRows, saveHeld, IsSaved}
@@ -26,14 +27,68 @@ pub carried-total : (size : ℕ) (rs : List Carried) → carriedTotal size rs �
 unfolding carriedTotal cellLength
 carried-total size [] = omega arith
 carried-total size (r ∷ rs) =
-    omega (arith, carried-total size rs, min-le-left (min (r .len) 2064) (size - r .cell * 2064), min-le-right (r .len) 2064)
+    omega (arith, carried-total size rs, min-le-left (min (r .len) cellSize) (min size (maxCells * cellSize) - r .cell * cellSize), min-le-right (r .len) cellSize)
+
+-- what lies inside the cells that count lies inside the area
+inside-area : (n most size start : ℕ) → n ≤ min size most - start → min n (size - min start size) ≡ n
+inside-area n most size start h = omega (arith, min-le-left size most)
 
 -- the length of a ciphertext
 pub length-ciphertext : (area : List ℕ) (cell len : ℕ) → length (ciphertext area cell len) ≡ cellLength (length area) cell len
 unfolding ciphertext cellStart cellLength part
 length-ciphertext area cell len =
-    length-take (min (min len 2064) (length area - cell * 2064)) (drop (min (cell * 2064) (length area)) area)
-    ∙ omega (arith, length-drop (min (cell * 2064) (length area)) area)
+    length-take (min (min len cellSize) (min (length area) (maxCells * cellSize) - cell * cellSize)) (drop (min (cell * cellSize) (length area)) area)
+    ∙ ap (min _) (length-drop (min (cell * cellSize) (length area)) area)
+    ∙ inside-area _ (maxCells * cellSize) (length area) (cell * cellSize) (min-le-right (min len cellSize) _)
+
+-- a row whose cell counts has what lies inside the cell and the area
+pub counted-length : (size cell len : ℕ) → cell < maxCells → cellLength size cell len ≡ min (min len cellSize) (size - cell * cellSize)
+unfolding cellLength
+counted-length size cell len h = omega arith
+
+-- so the ciphertext of a length that fits into its cell and the area is that part of the area
+pub ciphertext-inside : (area : List ℕ) (cell len : ℕ) → cell < maxCells → len ≤ cellSize → cell * cellSize + len ≤ length area
+    → ciphertext area cell len ≡ part area (cell * cellSize) len
+unfolding ciphertext cellStart
+ciphertext-inside area cell len h k fits =
+    let a : min (cell * cellSize) (length area) ≡ cell * cellSize = omega arith in
+    let b : min (min len cellSize) (length area - cell * cellSize) ≡ len = omega arith in
+    ap₂ (part area) a (counted-length (length area) cell len h ∙ b)
+
+-- a row whose cell does not count has no ciphertext
+pub uncounted-length : (size cell len : ℕ) → 256 ≤ cell → cellLength size cell len ≡ 0
+unfolding cellLength
+uncounted-length size cell len h = omega arith
+
+-- ---- a reply's cell
+
+pub counted-cell : (first cell : ℕ) → cell < maxCells → cellFrom first cell ≡ first + cell
+counted-cell first cell h = ap (λ (b : Bool). cond b (first + cell) noCell) (lt-ltb cell maxCells h)
+
+pub uncounted-cell : (first cell : ℕ) → maxCells ≤ cell → cellFrom first cell ≡ noCell
+uncounted-cell first cell h = ap (λ (b : Bool). cond b (first + cell) noCell) (le-ltb cell maxCells h)
+
+told : (k j : Cells) (c e : ℕ) → c < 256 → replyCell k c ≡ replyCell j e → (e < 256) × (firstCell k + c ≡ firstCell j + e)
+told k j c e h same = go (ltb e maxCells) refl
+  where
+    first : (i : Cells) → firstCell i ≤ 256
+    first ofOwn = omega arith
+    first ofCarried = omega arith
+
+    go : (b : Bool) → ltb e maxCells ≡ b → (e < 256) × (firstCell k + c ≡ firstCell j + e)
+    go true t = let l : e < 256 = ltb-true e maxCells t in (l, sym (counted-cell (firstCell k) c h) ∙ same ∙ counted-cell (firstCell j) e l)
+    go false t = absurd (omega (arith, first k, counted-cell (firstCell k) c h, same, uncounted-cell (firstCell j) e (ltb-false e maxCells t)))
+
+-- a row whose cell does not count says so in its reply
+pub uncounted-reply : (k : Cells) (cell : ℕ) → 256 ≤ cell → replyCell k cell ≡ 65535
+uncounted-reply k cell h = uncounted-cell (firstCell k) cell h
+
+-- the cell of a row that counts is no other row's: a reply tells which area it means, and which cell of it
+pub cells-apart : (k j : Cells) (c e : ℕ) → c < 256 → replyCell k c ≡ replyCell j e → (k ≡ j) × (c ≡ e)
+cells-apart ofOwn ofOwn c e h same = (refl, omega (arith, told ofOwn ofOwn c e h same .1))
+cells-apart ofOwn ofCarried c e h same = absurd (omega (arith, told ofOwn ofCarried c e h same .1))
+cells-apart ofCarried ofOwn c e h same = let p = told ofCarried ofOwn c e h same in absurd (omega (arith, p .0, p .1))
+cells-apart ofCarried ofCarried c e h same = (refl, omega (arith, told ofCarried ofCarried c e h same .1))
 
 -- ---- the least expiry
 

@@ -8,6 +8,8 @@ pub mod KeepParts
 pub mod KeepCalls
 pub mod RunLaws
 pub mod CallLaws
+pub mod CornerLaws
+pub mod RefusalLaws
 pub mod Corners
 pub mod Examples
 pub mod SearchLaws

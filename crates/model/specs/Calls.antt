@@ -1,7 +1,7 @@
 -- The calls, what they answer, and how every call goes: the first refusal that holds, or what it performs.
 -- Assumes nothing.
-use Prim.Native.Nat.{ℕ, _+_, _*_, _^_, _%_}
-use mathlib.Core.Bool.{Bool, _||_}
+use Prim.Native.Nat.{ℕ, _+_, _*_}
+use mathlib.Core.Bool.{Bool, cond, _||_}
 use mathlib.Core.List.{List, [], _∷_, _++_}
 use lib.ListN.{replicate}
 use lib.Dec.{ltb}
@@ -17,6 +17,7 @@ use Rattle.rows.specs.declared.Own.{Own}
 use Rattle.rows.specs.declared.Reply.{Reply}
 use Rattle.rows.specs.declared.Action.{Action}
 use Rattle.model.specs.State.{State, Change, nothing}
+use Rattle.model.specs.Cells.{maxCells}
 
 -- A call. Window rows and listed prefixes are the bytes of their areas; replies, actions, prefixes, blob and file are the lengths
 -- of the areas that are lent for an answer.
@@ -100,13 +101,27 @@ putQueued id n = record { kind = 2; number = id .0; msgno = n }
 abbrev pub fetchReply : List ℕ → Reply
 fetchReply tag = record { kind = 0; cell = 0; body = tag ++ replicate 21 0 }
 
+-- in a reply, the cell of a row whose cell does not count: it has no ciphertext
+abbrev pub noCell : ℕ
+noCell = 65535
+
+abbrev pub cellFrom : ℕ → ℕ → ℕ
+cellFrom first cell = cond (ltb cell maxCells) (first + cell) noCell
+
 -- an envelope's cell: own from 0, carried from 256
+abbrev pub firstCell : Cells → ℕ
+firstCell ofOwn = 0
+firstCell ofCarried = 256
+
 abbrev pub replyCell : Cells → ℕ → ℕ
-replyCell ofOwn cell = cell
-replyCell ofCarried cell = (256 + cell) % 2 ^ 16
+replyCell cells cell = cellFrom (firstCell cells) cell
+
+-- an envelope, with its cell as a reply says it
+abbrev pub envelopeRow : ℕ → Header → Reply
+envelopeRow cell head = record { kind = 1; cell = cell; body = headerBytes head }
 
 abbrev pub envelopeReply : Cells → ℕ → Header → Reply
-envelopeReply cells cell head = record { kind = 1; cell = replyCell cells cell; body = headerBytes head }
+envelopeReply cells cell head = envelopeRow (replyCell cells cell) head
 
 abbrev pub custodyReply : List ℕ → Custody → Reply
 custodyReply tag code = record { kind = 2; cell = 0; body = tag ++ (custodyCode code ∷ replicate 20 0) }

@@ -13,20 +13,24 @@ use Rattle.table.specs.Lists.{any, isAt, unwrapOr}
 abbrev pub cellSize : ℕ
 cellSize = 2064
 
+-- the cells of an area that count, at most
+abbrev pub maxCells : ℕ
+maxCells = 256
+
 -- Where a ciphertext starts in an area of so many bytes, and its length. A row that no call left may name a cell or a length past a
--- cell's or the area's end: then the ciphertext is what lies inside.
+-- cell's or the area's end, or a cell that does not count: then the ciphertext is what lies inside the cells that count.
 unfoldable pub cellStart : ℕ → ℕ → ℕ
 cellStart size cell = min (cell * cellSize) size
 
 unfoldable pub cellLength : ℕ → ℕ → ℕ → ℕ
-cellLength size cell len = min (min len cellSize) (size - cell * cellSize)
+cellLength size cell len = min (min len cellSize) (min size (maxCells * cellSize) - cell * cellSize)
 
 unfoldable pub ciphertext : List ℕ → ℕ → ℕ → List ℕ
 ciphertext area cell len = part area (cellStart (length area) cell) (cellLength (length area) cell len)
 
--- the cells of an area: up to 256 count
+-- the cells of an area that count
 unfoldable pub cellCount : ℕ → ℕ
-cellCount size = min 256 (size / cellSize)
+cellCount size = min maxCells (size / cellSize)
 
 -- the first of n cells, from i on, that no row names
 unfoldable pub freeFrom : ℕ → ℕ → List ℕ → Found

@@ -30,8 +30,8 @@ pub fn move_down(area: &mut [u8], to: usize, from: usize, n: usize)
 {
     let mut k = 0;
     while k < n {
-        let x = area[from + k];
-        area[to + k] = x;
+        let byte = area[from + k];
+        area[to + k] = byte;
         k += 1;
     }
 }

@@ -29,7 +29,7 @@ use Rattle.model.specs.Lent.{noAnswers}
 use Rattle.model.proofs.CallLaws.{refused-here, not-here, no-test, quiet-call}
 use Rattle.own_envelope.specs.declared.Made.{Made}
 use Rattle.own_envelope.specs.declared.Made.the-variants as made
-use Rattle.own_envelope.specs.OwnEnvelope.{answerOf, madeAs, lentOwn, ownDevice, madeOwn}
+use Rattle.own_envelope.specs.OwnEnvelope.{noRow, madeOf, ownSays, lentOwn, ownDevice, madeOwn}
 
 module _ (d : Device) (id : ContactId) (msgno : ℕ) (key : List ℕ) (dir : Dir) (generation idx : ℕ) (secret ct contacts own cells : List ℕ) (a : Areas) where
   abbrev B : Areas
@@ -38,8 +38,8 @@ module _ (d : Device) (id : ContactId) (msgno : ℕ) (key : List ℕ) (dir : Dir
   abbrev C : Call
   C = addOwn id msgno key dir generation idx secret ct
 
-  abbrev Says : Made → Own → Device → List ℕ → List ℕ → Type 0
-  Says m row d' own' cells' = Written answerOf (step (view B) C) (madeAs m row) B (lentOwn d' contacts own' cells' a) noAnswers noAnswers
+  abbrev Says : Made × Own → Device → List ℕ → List ℕ → Type 0
+  Says m d' own' cells' = Written ownSays (step (view B) C) m B (lentOwn d' contacts own' cells' a) noAnswers noAnswers
 
   abbrev Ps : List Contact
   Ps = tableOf contactCodec (d .contacts) contacts
@@ -51,27 +51,26 @@ module _ (d : Device) (id : ContactId) (msgno : ℕ) (key : List ℕ) (dir : Dir
   named = map (λ (o : Own). o .cell) To
 
   -- an answer that changes nothing
-  stays : (row : Own) {d' : Device} {m n : Made} (said : Answer) → step (view B) C ≡ only said → madeAs n row ≡ said
-      → (d' ≡ d) × (m ≡ n) → Says m row d' own cells
+  stays : {d' : Device} {m : Made} {row : Own} (said : Answer) → step (view B) C ≡ only said → (d' ≡ d) × (m ≡ madeOf said .0) × (row ≡ madeOf said .1)
+      → Says (m, row) d' own cells
   unfolding store storeDevice storeSession
-  stays row said e q (ed, em) =
-      quiet-call said nothing e (ap (λ (m : Made). madeAs m row) em ∙ q) (ap (λ (d' : Device). lentOwn d' contacts own cells a) ed)
+  stays said e (ed, em, er) = quiet-call said nothing e (λ i. (em i, er i)) (ap (λ (d' : Device). lentOwn d' contacts own cells a) ed)
 
-  pub says-stranger : (row : Own) {d' : Device} {m : Made} → known Ps id ≡ false → (d' ≡ d) × (m ≡ made.Refused refusal.UnknownContact) → Says m row d' own cells
+  pub says-stranger : {d' : Device} {m : Made} {row : Own} → known Ps id ≡ false → (d' ≡ d) × (m ≡ made.Refused refusal.UnknownContact) × (row ≡ noRow) → Says (m, row) d' own cells
   unfolding step tests perform ownTests view
-  says-stranger row k = stays row (refused refusal.UnknownContact) (refused-here _ _ _ (ap not k)) refl
+  says-stranger k = stays (refused refusal.UnknownContact) (refused-here _ _ _ (ap not k))
 
   module _ (k : known Ps id ≡ true) where
-    pub says-taken : (row : Own) {d' : Device} {m : Made} → any (isMessage id msgno) To ≡ true → (d' ≡ d) × (m ≡ made.Refused refusal.MessageNumberTaken)
-        → Says m row d' own cells
+    pub says-taken : {d' : Device} {m : Made} {row : Own} → any (isMessage id msgno) To ≡ true → (d' ≡ d) × (m ≡ made.Refused refusal.MessageNumberTaken) × (row ≡ noRow)
+        → Says (m, row) d' own cells
     unfolding step tests perform ownTests view
-    says-taken row t = stays row (refused refusal.MessageNumberTaken) (not-here _ _ _ (ap not k) (refused-here _ _ _ t)) refl
+    says-taken t = stays (refused refusal.MessageNumberTaken) (not-here _ _ _ (ap not k) (refused-here _ _ _ t))
 
     module _ (t : any (isMessage id msgno) To ≡ false) where
-      pub says-length : (row : Own) {d' : Device} {m : Made} → ownLength (length ct) ≡ false → (d' ≡ d) × (m ≡ made.Refused refusal.OwnLength)
-          → Says m row d' own cells
+      pub says-length : {d' : Device} {m : Made} {row : Own} → ownLength (length ct) ≡ false → (d' ≡ d) × (m ≡ made.Refused refusal.OwnLength) × (row ≡ noRow)
+          → Says (m, row) d' own cells
       unfolding step tests perform ownTests view
-      says-length row l = stays row (refused refusal.OwnLength) (not-here _ _ _ (ap not k) (not-here _ _ _ t (refused-here _ _ _ (ap not l)))) refl
+      says-length l = stays (refused refusal.OwnLength) (not-here _ _ _ (ap not k) (not-here _ _ _ t (refused-here _ _ _ (ap not l))))
 
       module _ (l : ownLength (length ct) ≡ true) where
         -- the last test, and what is performed where it fails
@@ -80,24 +79,24 @@ module _ (d : Device) (id : ContactId) (msgno : ℕ) (key : List ℕ) (dir : Dir
         unfolding step tests perform ownTests view
         last u e = not-here _ _ _ (ap not k) (not-here _ _ _ t (not-here _ _ _ (ap not l) (not-here _ _ _ u (no-test _ ∙ e))))
 
-        pub says-none : (row : Own) {d' : Device} {m : Made} → noneMade To (length ct) ≡ true → (d' ≡ d) × (m ≡ made.NoEnvelope) → Says m row d' own cells
+        pub says-none : {d' : Device} {m : Made} {row : Own} → noneMade To (length ct) ≡ true → (d' ≡ d) × (m ≡ made.NoEnvelope) × (row ≡ noRow) → Says (m, row) d' own cells
         unfolding ownEnvelope view
-        says-none row n =
-            stays row noEnvelope
+        says-none n =
+            stays noEnvelope
             (last (ap (λ (b : Bool). not b && cellsUsed (length cells) named) n)
-            (ap (λ (b : Bool). cond b (only noEnvelope) (makeOwn (view B) (newOwn (view B) id msgno (routeTag key dir generation idx) secret (length ct)) ct)) n)) refl
+            (ap (λ (b : Bool). cond b (only noEnvelope) (makeOwn (view B) (newOwn (view B) id msgno (routeTag key dir generation idx) secret (length ct)) ct)) n))
 
         module _ (n : noneMade To (length ct) ≡ false) where
           used : {f : Found} → f ≡ freeCell (length cells) named → (not (noneMade To (length ct)) && cellsUsed (length cells) named) ≡ not (isAt f)
           unfolding cellsUsed
           used e = ap₂ (λ (b : Bool) (f : Found). not b && not (isAt f)) n (sym e)
 
-          pub says-full : (row : Own) {d' : Device} {m : Made} → Nothing ≡ freeCell (length cells) named → (d' ≡ d) × (m ≡ made.Refused refusal.NoCell)
-              → Says m row d' own cells
+          pub says-full : {d' : Device} {m : Made} {row : Own} → Nothing ≡ freeCell (length cells) named → (d' ≡ d) × (m ≡ made.Refused refusal.NoCell) × (row ≡ noRow)
+              → Says (m, row) d' own cells
           unfolding step tests perform ownTests view
-          says-full row f =
-              stays row (refused refusal.NoCell)
-              (not-here _ _ _ (ap not k) (not-here _ _ _ t (not-here _ _ _ (ap not l) (refused-here _ _ _ (used f))))) refl
+          says-full f =
+              stays (refused refusal.NoCell)
+              (not-here _ _ _ (ap not k) (not-here _ _ _ t (not-here _ _ _ (ap not l) (refused-here _ _ _ (used f)))))
 
           -- the row is made
           module _ {cell : ℕ} {tag : List ℕ} {row : Own} (f : At cell ≡ freeCell (length cells) named)
@@ -119,7 +118,7 @@ module _ (d : Device) (id : ContactId) (msgno : ℕ) (key : List ℕ) (dir : Dir
 
             pub says-row : {count : ℕ} {own' cells' : List ℕ} {d' : Device} → cells' ≡ splice cells (cell * 2064) ct
                 → TableNow ownCodec own (insertOwn Ps row To) count own' → d' ≡ ownDevice d count
-                → Says made.Row row d' own' cells'
+                → Says (made.Row, row) d' own' cells'
             unfolding store storeDevice storeSession
             says-row {own' = own'} {cells' = cells'} ec N ed =
                 quiet-call (ownRow row) changes stepped refl

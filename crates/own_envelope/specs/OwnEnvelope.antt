@@ -2,13 +2,13 @@
 -- Assumes nothing.
 use Prim.Native.Nat.{ℕ}
 use mathlib.Core.List.{List}
-use lib.ListN.{length}
+use lib.ListN.{length, replicate}
 use Rattle.core.specs.declared.ContactId.{ContactId}
 use Rattle.table.specs.Lists.{position, unwrapOr}
 use Rattle.rows.specs.declared.Device.{Device}
 use Rattle.rows.specs.declared.Contact.{Contact}
 use Rattle.rows.specs.declared.Own.{Own}
-use Rattle.model.specs.Calls.{Answer, Result, refused, ownRow, noEnvelope}
+use Rattle.model.specs.Calls.{Answer, Result, refused, malformed, done, ours, found, missing, ownRow, noEnvelope, wrote}
 use Rattle.model.specs.Contacts.{lifetimeEnd}
 use Rattle.model.specs.Own.{standsAfter}
 use Rattle.model.specs.Areas.{Areas}
@@ -16,14 +16,34 @@ use Rattle.model.specs.Lent.{deviceIn, contactsIn, ownIn, ownCellsIn}
 use Rattle.own_envelope.specs.declared.Made.{Made}
 use Rattle.own_envelope.specs.declared.Made.the-variants as made
 
--- the model's answer, and the one that the call's result stands for
-abbrev pub answerOf : Result → Answer
-answerOf o = o .answer
+-- the row beside an answer that makes none
+abbrev pub noRow : Own
+noRow = record {
+  contact = record { 0 = 0 };
+  msgno = 0;
+  tag = replicate 16 0;
+  s = replicate 16 0;
+  «expiry_min» = 0;
+  copies = 0;
+  renewed = 0;
+  len = 0;
+  cell = 0;
+}
 
-abbrev pub madeAs : Made → Own → Answer
-madeAs (made.Refused why) row = refused why
-madeAs made.NoEnvelope row = noEnvelope
-madeAs made.Row row = ownRow row
+-- what was made, and the row
+abbrev pub madeOf : Answer → Made × Own
+madeOf (refused why) = (made.Refused why, noRow)
+madeOf malformed = (made.NoEnvelope, noRow)
+madeOf done = (made.NoEnvelope, noRow)
+madeOf (ours contact generation idx) = (made.NoEnvelope, noRow)
+madeOf (found cells position len) = (made.NoEnvelope, noRow)
+madeOf missing = (made.NoEnvelope, noRow)
+madeOf (ownRow row) = (made.Row, row)
+madeOf noEnvelope = (made.NoEnvelope, noRow)
+madeOf (wrote count) = (made.NoEnvelope, noRow)
+
+abbrev pub ownSays : Result → Made × Own
+ownSays o = madeOf (o .answer)
 
 -- what the call is lent, set into areas that are anything otherwise
 abbrev pub lentOwn : Device → (contacts own cells : List ℕ) → Areas → Areas

@@ -10,7 +10,7 @@ ghost use Rattle.model.specs.Calls.{addOwn};
 ghost use Rattle.model.specs.Contacts.{addedBefore};
 ghost use Rattle.model.specs.Own.{isMessage, ownLength, noneMade, standsAfter, insertOwn};
 ghost use Rattle.model.specs.Lent.{Does, noAnswers};
-ghost use Rattle.own_envelope.specs.OwnEnvelope.{answerOf, madeAs, lentOwn, ownDevice, madeOwn, ownPlace};
+ghost use Rattle.own_envelope.specs.OwnEnvelope.{noRow, ownSays, lentOwn, ownDevice, madeOwn, ownPlace};
 use chain::Dir;
 use core::ContactId;
 use core::Refusal;
@@ -25,7 +25,7 @@ pub enum Made {
     Row,
 }
 
-// The row counts where `made` says so.
+// The row is zeros where none is made.
 pub struct Owned {
     pub device: Device,
     pub made: Made,
@@ -207,7 +207,7 @@ fn own_device(device: Device, own: usize) -> Device
 
 // An answer without a row, which changes nothing.
 fn no_row(device: Device, made: Made) -> Owned
-    ensures { λ r. ⌜ (r .device ≡ device) × (r .made ≡ made) ⌝ }
+    ensures { λ r. ⌜ (r .device ≡ device) × (r .made ≡ made) × (r .row ≡ noRow) ⌝ }
 {
     let row = Own {
         contact: ContactId(0),
@@ -238,7 +238,7 @@ pub fn own_envelope(
     own: &mut [u8; 13824],
     own_cells: &mut [u8],
 ) -> Owned
-    ensures { λ r. ⌜ Does answerOf (addOwn id msgno key dir generation idx s (now (ct .entry))) (madeAs (r .made) (r .row))
+    ensures { λ r. ⌜ Does ownSays (addOwn id msgno key dir generation idx s (now (ct .entry))) (r .made, r .row)
         (lentOwn device (now (contacts .entry)) (now (own .entry)) (now («own_cells» .entry)))
         (lentOwn (r .device) (now (contacts .entry)) (now (own .exit)) (now («own_cells» .exit))) noAnswers noAnswers ⌝ }
 {

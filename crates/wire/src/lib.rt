@@ -42,7 +42,7 @@ pub const HEAD: usize = 4;
 pub const BODY_MAX: usize = 8_192;
 
 // The mark that two letters spell.
-fn mark_of(m: u16) -> Mark
+pub fn mark_of(m: u16) -> Mark
     ensures { λ r. ⌜ r ≡ markOf m ⌝ }
 {
     match m {

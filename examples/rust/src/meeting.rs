@@ -1,7 +1,9 @@
 //! What two devices say to each other when they meet.
 
 use crate::party::{Party, Problem};
-use goosetable::{ContactId, Custody, Exchange, MAX_LISTED, Prefix, Record, Replies, Reply, Tag};
+use goosetable::{
+    ContactId, Custody, Exchange, MAX_LISTED, Prefix, Record, Replies, Reply, Tag, Window,
+};
 
 /// The most prefixes that are sent in one list.
 const LIST: usize = 500;
@@ -13,14 +15,20 @@ pub fn meet(one: &mut Party, other: &mut Party) -> Result<(), Problem> {
     inventory(other, one)
 }
 
-/// One sends its inventory in lists, an empty one last, and the other's replies are carried out.
+/// One sends its inventory in lists, an empty one last, and the other's replies are carried out. The
+/// empty list alone needs the window; to test its rows with the others takes time.
 fn inventory(sending: &mut Party, answering: &mut Party) -> Result<(), Problem> {
     let mut area = [[0; 8]; MAX_LISTED];
     let prefixes = sending.post.inventory_of_ours(answering.id, &mut area)?;
     let mut exchange = Exchange::closed();
+    let nothing = Window::EMPTY;
     answering.post.fresh_exchange(&mut exchange, sending.id)?;
     for list in prefixes.chunks(LIST).chain([&[] as &[Prefix]]) {
-        let (post, window) = (&mut answering.post, &answering.window);
+        let post = &mut answering.post;
+        let window = match list {
+            [] => &answering.window,
+            _ => &nothing,
+        };
         let Record::Taken(replies) = post.inventory(&mut exchange, sending.id, window, list)?
         else {
             return Err("an inventory is malformed".into());

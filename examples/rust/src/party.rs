@@ -2,16 +2,18 @@
 
 use crate::sealing::open;
 use goosetable::{
-    Action, Actions, BLOB, ContactId, Custody, Envelope, Exchange, HeldRow, Post, Received, Record,
-    Secret, Sizes, Slot, Tag, Verification, Window, row_read,
+    Action, Actions, BLOB, ContactId, Custody, Envelope, Exchange, HeldRow, MAX_ROWS, Post,
+    Received, Record, Secret, Sizes, Slot, Tag, Verification, Window, row_read,
 };
 use std::{collections::BTreeMap, error::Error};
 
 pub type Problem = Box<dyn Error>;
 
+/// As many cells as count. The share of a contact is promised for 256 carried cells alone; with fewer
+/// there comes a refusal, `NoCell`, where a code should go back. Of the other rows few are enough here.
 const SIZES: Sizes = Sizes {
-    carried_cells: 16,
-    own_cells: 4,
+    carried_cells: MAX_ROWS,
+    own_cells: MAX_ROWS,
     tombstone_rows: 64,
     bad_tag_rows: 16,
 };

@@ -27,6 +27,19 @@ impl Stopped {
     ];
 }
 
+impl std::fmt::Display for Stopped {
+    fn fmt(&self, f: &mut std::fmt::Formatter<'_>) -> std::fmt::Result {
+        f.write_str(match self {
+            Self::Mark => "unknown mark",
+            Self::TooLong => "body over 8192 bytes",
+            Self::Shape => "body of wrong shape",
+            Self::Byte => "code, verification or enabled",
+            Self::Contact => "a 257th contact",
+            Self::EndInside => "end of input inside it",
+        })
+    }
+}
+
 /// A mark and a body.
 type Record<'a> = ([u8; 2], &'a [u8]);
 

@@ -3,7 +3,6 @@
 mod checks;
 mod compare;
 mod drill;
-#[cfg(feature = "library")]
 mod garbage;
 mod generate;
 mod sample;
@@ -18,14 +17,18 @@ use std::process::ExitCode;
 
 const USAGE: &str =
     "usage: oracle compare --seeds FROM..TO --calls N [--profile P] [--against PARTY] [--tally] [--reach]
-       oracle garbage FROM..TO N    the library on garbage areas, by seeds
+       oracle garbage FROM..TO N [--reach]    the library on garbage areas, by seeds
        oracle spoiled               every byte at the library's boundary, and the library with one thing wrong
        oracle drill                 a drill log on standard input
-       oracle log SEED RECORDS      a random drill log
+       oracle log SEED RECORDS [--no-13]
+                                    a random drill log; with the option no record of it meets 13
        oracle sample SEEDS CALLS    random calls with their answers, for crates/replay
        oracle corners               document 01's corners, put to the source one by one
        oracle vectors               hashes of many inputs, for an independent implementation
-       oracle variants [LISTS]      the wrong variants of the second statement";
+       oracle variants [LISTS]      the wrong variants of the second and the third statement";
+
+/// The option for a log without 13.
+const NO_13: &str = "--no-13";
 
 pub fn status(well: bool) -> ExitCode {
     if well { ExitCode::SUCCESS } else { ExitCode::FAILURE }
@@ -43,13 +46,17 @@ fn drill_from_input() -> ExitCode {
 }
 
 fn print_log(arguments: &[String]) -> ExitCode {
-    let numbers: Option<Vec<u64>> = arguments.iter().map(|text| text.parse().ok()).collect();
+    let (options, numbers): (Vec<&String>, Vec<&String>) = arguments.iter().partition(|word| *word == NO_13);
+    let numbers: Option<Vec<u64>> = numbers.iter().map(|text| text.parse().ok()).collect();
     let Some([seed, records]) = numbers.as_deref() else {
         eprintln!("{USAGE}");
         return ExitCode::FAILURE;
     };
-    let log = generate::logs::log(*seed, *records as usize);
-    status(std::io::stdout().write_all(&log).is_ok())
+    let made = generate::logs::log(*seed, *records as usize, options.is_empty());
+    if let Some(why) = made.stopped {
+        eprintln!("log: record {} of {records} meets 13 ({why}) and ends it", made.records);
+    }
+    status(std::io::stdout().write_all(&made.log).is_ok())
 }
 
 fn print_variants(arguments: &[String]) -> ExitCode {

@@ -1,9 +1,9 @@
 //! The window, and an envelope that arrives.
 
+use crate::cell_count;
 use crate::rows::Carried;
 use crate::settings::{custody_reply, put};
 use crate::state::{Change, Lent, Outcome, Said, State, Step, refused, said};
-use crate::{cell_count, ciphertext};
 use post::{ChainRow, Custody, Envelope, SkippedRow, Tag, WindowRow};
 
 pub const LAST_SLOT: u64 = u64::MAX;
@@ -54,7 +54,7 @@ impl State<'_> {
     }
 
     fn full(&self, peer: u64, length: usize) -> bool {
-        let size = |row: &Carried| HEADER + ciphertext(self.carried_cells, row.cell, row.len).len();
+        let size = |row: &Carried| HEADER + self.carried_ciphertext(row).len();
         let bytes: usize = self.carried.iter().map(size).sum();
         let deposited = self.carried.iter().filter(|row| row.depositor == peer).count();
         let quota = if self.verified(peer) { 32 } else { 16 };

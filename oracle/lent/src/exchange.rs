@@ -1,6 +1,5 @@
 //! Inventories, fetches and custody codes.
 
-use crate::ciphertext;
 use crate::custody::{window_rows, wrong_window};
 use crate::rows::{Carried, Offer, Own};
 use crate::settings::{own_put, put, reply, tomb_reply};
@@ -41,8 +40,8 @@ impl State<'_> {
             commitment: rules::commitment(&row.secret),
             expiry: row.expiry,
             copies: row.copies,
-            cell: row.cell,
-            length: ciphertext(self.own_cells, row.cell, row.len).len(),
+            cell: self.reading.own_reply(row.cell),
+            length: self.own_ciphertext(row).len(),
         }
     }
 
@@ -52,8 +51,8 @@ impl State<'_> {
             commitment: row.commitment,
             expiry: row.expiry,
             copies: row.copies,
-            cell: row.cell.wrapping_add(256),
-            length: ciphertext(self.carried_cells, row.cell, row.len).len(),
+            cell: self.reading.carried_reply(row.cell),
+            length: self.carried_ciphertext(row).len(),
         }
     }
 

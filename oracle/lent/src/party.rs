@@ -2,7 +2,7 @@
 
 use crate::rows::table;
 use crate::state::{Outcome, Said, performed};
-use crate::{Areas, Device, ciphertext};
+use crate::{Areas, Device, Reading};
 use post::{
     Action, Answer, Bytes, Call, Contact, Custody, Dir, Envelope, Exchange, Held, HeldRow, Kind, OwnRow, Post, Reply,
     Sizes, SkippedRow, State, Verification, array,
@@ -49,7 +49,7 @@ fn own_row(row: &crate::Own, cells: &[u8]) -> OwnRow {
         expiry: row.expiry,
         copies: row.copies,
         renewed: row.renewed != 0,
-        ciphertext: ciphertext(cells, row.cell, row.len).into(),
+        ciphertext: Reading::RIGHT.ciphertext(cells, row.cell, row.len).into(),
     }
 }
 
@@ -65,7 +65,9 @@ fn held_rows(areas: &Areas, device: &Device) -> Vec<HeldRow> {
                     commitment: row.commitment,
                     expiry: row.expiry,
                     copies: row.copies,
-                    ciphertext: ciphertext(&areas.carried_cells, row.cell, row.len).into(),
+                    ciphertext: Reading::RIGHT
+                        .ciphertext(&areas.carried_cells, row.cell, row.len)
+                        .into(),
                 },
             },
         });
@@ -115,19 +117,22 @@ pub fn decoded(areas: &Areas) -> State {
     }
 }
 
-/// The row of a cell, own from 0 and carried from 256, that a reply names.
+/// The ciphertext of the row with the tag whose cell a reply names.
 fn sent_ciphertext(areas: &Areas, cell: u16, tag: &[u8]) -> Bytes {
-    let device = Device::read(&areas.device);
+    let (device, reading) = (Device::read(&areas.device), Reading::RIGHT);
     let own: Vec<crate::Own> = table(&areas.own, device.own);
-    if let Some(row) = own.iter().find(|row| row.cell == cell && row.tag == *tag) {
-        return ciphertext(&areas.own_cells, row.cell, row.len).into();
+    let own = own
+        .iter()
+        .find(|row| reading.own_reply(row.cell) == cell && row.tag == *tag);
+    if let Some(row) = own {
+        return reading.ciphertext(&areas.own_cells, row.cell, row.len).into();
     }
     let carried: Vec<crate::Carried> = table(&areas.carried, device.carried);
-    let row = carried
+    let carried = carried
         .iter()
-        .find(|row| row.cell.wrapping_add(256) == cell && row.tag == *tag);
-    row.map_or(Bytes::default(), |row| {
-        ciphertext(&areas.carried_cells, row.cell, row.len).into()
+        .find(|row| reading.carried_reply(row.cell) == cell && row.tag == *tag);
+    carried.map_or(Bytes::default(), |row| {
+        reading.ciphertext(&areas.carried_cells, row.cell, row.len).into()
     })
 }
 

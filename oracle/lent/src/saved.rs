@@ -1,9 +1,9 @@
 //! Row blobs, the saved file, and a load.
 
+use crate::cell_count;
 use crate::own::merged;
 use crate::rows::{Carried, Tombstone};
 use crate::state::{Change, Lent, Outcome, Said, State, Step, refused, said};
-use crate::{cell_count, ciphertext};
 use post::{Bytes, Envelope, FileRecord, Held, array, encode_file};
 use std::collections::BTreeSet;
 
@@ -43,7 +43,7 @@ impl State<'_> {
             &row.commitment,
             &row.expiry.to_be_bytes(),
             &[row.copies],
-            ciphertext(self.carried_cells, row.cell, row.len),
+            self.carried_ciphertext(row),
         ];
         FileRecord::Row(b'C', row.slot, blob.concat())
     }

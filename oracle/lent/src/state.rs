@@ -2,7 +2,7 @@
 
 use crate::fields::{put_flag, put_number, put_setting};
 use crate::rows::{BadTag, Carried, ContactRow, Offer, Own, Row, Tombstone, table};
-use crate::{Areas, CELL, Device, Exchange, Session};
+use crate::{Areas, CELL, Device, Exchange, Reading, Session};
 use post::{Call, Prefix, Setting};
 
 /// The areas as rows.
@@ -17,6 +17,7 @@ pub struct State<'a> {
     pub next_slot: u64,
     pub own_cells: &'a [u8],
     pub carried_cells: &'a [u8],
+    pub reading: Reading,
     pub tombstone_rows: usize,
     pub bad_rows: usize,
     pub exchange: Exchange,
@@ -134,8 +135,8 @@ impl Session {
 }
 
 impl<'a> State<'a> {
-    /// With the exchange of this place.
-    pub fn view(areas: &'a Areas, session: usize) -> Self {
+    /// With the exchange of this place, and the cells read in this way.
+    pub fn view(areas: &'a Areas, session: usize, reading: Reading) -> Self {
         let device = Device::read(&areas.device);
         let (exchange, listed, offered) = match areas.sessions.get(session) {
             Some(lent) => lent.view(),
@@ -152,12 +153,21 @@ impl<'a> State<'a> {
             next_slot: device.next_slot,
             own_cells: &areas.own_cells,
             carried_cells: &areas.carried_cells,
+            reading,
             tombstone_rows: areas.tombstones.len() / Tombstone::WIDTH,
             bad_rows: areas.bad_tags.len() / BadTag::WIDTH,
             exchange,
             listed,
             offered,
         }
+    }
+
+    pub fn own_ciphertext(&self, row: &Own) -> &[u8] {
+        self.reading.ciphertext(self.own_cells, row.cell, row.len)
+    }
+
+    pub fn carried_ciphertext(&self, row: &Carried) -> &[u8] {
+        self.reading.ciphertext(self.carried_cells, row.cell, row.len)
     }
 
     pub fn minute(&self) -> u32 {
@@ -280,8 +290,13 @@ fn session_of(call: &Call) -> usize {
 
 /// The call performed on the areas.
 pub fn performed(areas: &mut Areas, call: &Call) -> Outcome {
+    performed_with(Reading::RIGHT, areas, call)
+}
+
+/// With cells that are read in this way.
+pub fn performed_with(reading: Reading, areas: &mut Areas, call: &Call) -> Outcome {
     let session = session_of(call);
-    let (outcome, change) = State::view(areas, session).step(call);
+    let (outcome, change) = State::view(areas, session, reading).step(call);
     areas.store(session, &change);
     areas.replies[..outcome.replies.len() * 40].copy_from_slice(outcome.replies.as_flattened());
     areas.actions[..outcome.actions.len() * 13].copy_from_slice(outcome.actions.as_flattened());

@@ -38,6 +38,8 @@ pub const CELL: usize = 2064;
 
 /// The most rows of a table of fixed size, and the most cells of an area that count.
 pub const MAX_ROWS: usize = 256;
+/// The cell in the reply of a row whose cell does not count: the envelope has no ciphertext.
+pub const NO_CELL: u16 = 65535;
 /// The most prefixes that an exchange lists, and the most offers that it has.
 pub const MAX_LISTED: usize = 512;
 

@@ -49,7 +49,7 @@ pub struct Opened<'a> {
 pub enum Reply<'a> {
     /// Asks for an envelope.
     Fetch(Tag),
-    /// Hands an envelope over.
+    /// Hands an envelope over. It has no byte of ciphertext if its row has a cell that does not count.
     Envelope(Envelope<'a>),
     /// Answers an envelope.
     Custody {

@@ -8,12 +8,15 @@ use crate::{
 };
 use alloc::{boxed::Box, vec::Vec};
 use core::{error, fmt};
-use goosetable_sys::{self as sys, BAD_TAG_ROW, CELL, CONTACT_ROW, MAX_ROWS, TOMBSTONE_ROW};
+use goosetable_sys::{
+    self as sys, BAD_TAG_ROW, CELL, CONTACT_ROW, MAX_ROWS, NO_CELL, TOMBSTONE_ROW,
+};
 
 /// How much a post has room for.
 #[derive(Clone, Copy, Debug, PartialEq, Eq)]
 pub struct Sizes {
-    /// Envelopes of others, 256 at most.
+    /// Envelopes of others, 256 at most. The share of a contact is promised for 256 alone: with fewer, calls
+    /// are refused with [`Refusal::NoCell`](crate::Refusal::NoCell) where the code would be Accepted.
     pub carried_cells: usize,
     /// Own envelopes, 256 at most.
     pub own_cells: usize,
@@ -64,7 +67,8 @@ fn table<const N: usize>() -> Result<Box<[u8; N]>, SizeError> {
 }
 
 /// All that a post has, as bytes: a host may store them and make the post again with [`Post::over`](crate::Post::over).
-/// Any bytes and any lengths will do. A count above what fits is what fits.
+/// Any bytes and any lengths will do. A count above what fits is what fits. The first 256 cells of each kind count:
+/// a row of another cell, which no call makes, has no byte of ciphertext.
 #[derive(Clone, PartialEq, Eq)]
 pub struct Areas {
     /// The setting, the clock, how many rows each table has, and the next slot.
@@ -174,8 +178,11 @@ impl Areas {
         rows[..self.counts().carried].iter().map(carried_place)
     }
 
-    /// The first bytes of a cell as a reply names it: own cells from 0, carried ones from 256.
+    /// The first bytes of a cell as a reply names it: own cells from 0, carried ones from 256, and nothing in [`NO_CELL`].
     pub(crate) fn ciphertext(&self, cell: u16, len: usize) -> &[u8] {
+        if cell == NO_CELL {
+            return &[];
+        }
         let cell = usize::from(cell);
         let (cells, at) = match cell.checked_sub(MAX_ROWS) {
             Some(carried) => (&self.carried_cells, carried * CELL),

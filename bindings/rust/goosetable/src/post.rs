@@ -178,7 +178,8 @@ impl Post {
         })
     }
 
-    /// The envelope with a tag, for a peer that asks for it. Its copies stay.
+    /// The envelope with a tag, for a peer that asks for it. Its copies stay. It has no byte of ciphertext if its row
+    /// has a cell that does not count.
     pub fn fetch(&mut self, peer: ContactId, tag: Tag) -> Result<Option<Envelope<'_>>, Refusal> {
         let answer = calls::fetch(self, peer, tag)?;
         if answer.said == sys::MISSING {
@@ -209,7 +210,9 @@ impl Post {
     }
 
     /// A list of prefixes from a peer. The empty one ends its inventory, and is answered with fetches of
-    /// what is ours, tombs of what was delivered, and offers of what the peer has not.
+    /// what is ours, tombs of what was delivered, and offers of what the peer has not. Rows are looked up in
+    /// the window for the empty list alone, but all of it is tested with each: until then lend
+    /// [`Window::EMPTY`].
     pub fn inventory(
         &mut self,
         exchange: &mut Exchange,
@@ -306,13 +309,15 @@ impl Post {
     }
 
     /// Writes all held rows and the next slot to an area of [`file_size`](Post::file_size) bytes; the file
-    /// is the front of it.
+    /// is the front of it. In areas that no call left there may be more carried rows than cells that count:
+    /// the first so many are saved, and the others are not.
     pub fn save<'f>(&self, file: &'f mut [u8]) -> Result<&'f [u8], Refusal> {
         let length = calls::save(self, file)?.length;
         Ok(&file[..length])
     }
 
-    /// Replaces all held rows and the next slot by those of a file. Depositors must be known.
+    /// Replaces all held rows and the next slot by those of a file. Depositors must be known. Where slots do
+    /// not rise along the file, as [`save`](Post::save) has them, the time grows with the square of the rows.
     pub fn load(&mut self, file: &[u8]) -> Result<(), Refusal> {
         calls::load(self, file)?;
         Ok(())

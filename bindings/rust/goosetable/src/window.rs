@@ -17,7 +17,8 @@ pub struct WindowRow {
 }
 
 /// All messages that are awaited, of all contacts. Calls that read it ask that contacts and keys rise
-/// strictly from row to row.
+/// strictly from row to row; else they are refused with [`Refusal::WindowRows`]. The keys that [`window`]
+/// lists need not rise: sort the rows of all contacts by `(contact, key)` before they are pushed.
 #[derive(Clone, Debug, Default, PartialEq, Eq)]
 pub struct Window {
     rows: Vec<u8>,
@@ -68,8 +69,8 @@ fn push_chain(bytes: &mut Vec<u8>, chain: &Chain) {
     bytes.extend(chain.next.to_be_bytes());
 }
 
-/// The keys that a receiver could still derive: the skipped ones, then those of the chains from the last
-/// chain to the first, 500 at most.
+/// The keys of one contact that a receiver could still derive: the skipped ones, then those of the chains
+/// from the last chain to the first, 500 at most. In this order they need not rise (see [`Window`]).
 pub fn window(skipped: &[MessageKey], chains: &[Chain]) -> Result<Vec<MessageKey>, Refusal> {
     let mut skipped_rows = Vec::new();
     skipped

@@ -2,7 +2,7 @@
 use mathlib.Core.Path.{ap, _∙_}
 use Prim.Native.Nat.{ℕ}
 use Rattle.boundary.specs.Boundary.{flagOver, isOn, deviceOf, deviceBytes, deviceArea}
-use Rattle.boundary.proofs.AreaLaws.{flag-says, device-back}
+use Rattle.boundary.proofs.AreaLaws.{flag-says, device-back, device-stays}
 use borrow.Author.Needs.{needs}
 use Rattle.boundary.proofs.put_device.Statement.{statement}
 use Rattle.boundary.proofs.put_device.Tie as tie
@@ -12,10 +12,12 @@ unfolding deviceArea
 returns c =
     let d = c .before .before .before .before .before .before .args .device in
     let flag = c .before .flag-over .ensures in
+    let bytes = c .device-bytes .ensures ∙ ap (λ (b : ℕ). deviceBytes b d) (flag ∙ ap (λ (b : ℕ). flagOver b (d .courier .enabled)) (c .before .before .byte-in .ensures .0)) in
     record {
-      bytes = c .device-bytes .ensures ∙ ap (λ (b : ℕ). deviceBytes b d) (flag ∙ ap (λ (b : ℕ). flagOver b (d .courier .enabled)) (c .before .before .get-u8 .ensures));
+      bytes = bytes;
       holds = ap deviceOf (c .device-bytes .ensures) ∙ device-back _ d (ap isOn flag ∙ flag-says _ (d .courier .enabled))
           (((((((((search needs, search needs), search needs), search needs), search needs), search needs), search needs), search needs), search needs), search needs);
+      stays = λ e. bytes ∙ ap (deviceArea _) e ∙ device-stays _ (search needs) (c .before .before .byte-in .ensures .1);
     }
 
 pub put-device-spec : {M : Type 1} → statement M

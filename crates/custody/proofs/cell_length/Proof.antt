@@ -1,4 +1,4 @@
--- `custody::cell_length`: the least of three. Assumes nothing.
+-- `custody::cell_length`: the least of four. Assumes nothing.
 use borrow.Author.Needs.{needs}
 use native.Mathlib.Omega.{arith}
 use Rattle.model.specs.Cells.{cellLength}
@@ -17,4 +17,4 @@ pub cell-length-spec : {M : Type 1} → statement M
 cell-length-spec =
     tie.close
     (tie.spec
-    (λ c. search needs) returns (λ c κs. search needs) (λ c κs. search needs) returns-2)
+    (λ c. search needs) (λ c. search needs) (λ c κs. search needs) returns (λ c κs. search needs) (λ c κs. search needs) returns-2)

@@ -1,17 +1,24 @@
--- There is room to read where more input is wanted. Assumes nothing.
+-- Bytes are read behind what is kept, and there is room for them where more input is wanted. Assumes nothing.
 use native.Mathlib.Omega.{arith}
 use borrow.Author.Needs.{needs}
+use Rattle.drill_turn.proofs.StreamLaws.{fed-none, fed-read, room-to-read}
 use Rattle.drill.proofs.fill.Statement.{statement}
 use Rattle.drill.proofs.fill.Tie as tie
 
-refill-requires : tie.Need-refill-requires
-refill-requires c κs =
-    let k = c .before .before in
-    (search needs, (search needs, (search needs, k .before .before .pre .short (omega (arith, k .if1 .left)))))
+returns : tie.Need-returns
+returns c = fed-none _ _ (c .before .before .pre .inside)
+
+read-behind-requires : tie.Need-read-behind-requires
+read-behind-requires c κs = let s = c .before .before .before .before .before in
+    room-to-read (s .args .turn) _ (s .args .input .now) _ (s .pre) (c .before .keep .ensures) (search needs) (omega (arith, c .before .before .before .if1 .left))
+
+returns-2 : tie.Need-returns-2
+returns-2 c = let s = c .before .before .before .before .before .before .before in
+    fed-read (s .args .turn) (s .args .input .now) _ _ (c .before .read-behind .result .n) (c .before .read-behind .result .failed) (s .pre .inside) (c .before .before .before .keep .ensures)
+    (c .before .read-behind .ensures .front) (search needs) (search needs) (omega (arith, c .before .before .before .before .before .if1 .left)) (c .grow .ensures)
 
 pub fill-spec : {M : Type 1} → statement M
 fill-spec =
     tie.close
     (tie.spec
-    (λ c. search needs) (λ c κs. search needs) refill-requires (λ c. search needs) (λ c κs. search needs) (λ c κs. search needs) (λ c. search needs)
-    (λ c. search needs) (λ c κs. search needs) (λ c κs. search needs) (λ c κs. search needs) (λ c κs. search needs) (λ c. search needs) (λ c. search needs))
+    returns (λ c κs. search needs) read-behind-requires (λ c κs. search needs) returns-2)

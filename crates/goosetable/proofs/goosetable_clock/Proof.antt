@@ -1,8 +1,10 @@
 -- By the law of small areas, from the call by value.
-use Rattle.contacts.specs.Answers.{saidOf}
-use Rattle.boundary.specs.Boundary.{deviceKept}
+use mathlib.Core.Path.{refl}
 use Rattle.host_answers.specs.HostAnswers.{contactAnswer}
-use Rattle.goosetable.proofs.HostLaws.{hosts}
+use Rattle.goosetable.proofs.StayLaws.{only-answers}
+use Rattle.goosetable.proofs.TellLaws.{contact-tells}
+use Rattle.goosetable.proofs.CountLaws.{clock-counted}
+use Rattle.goosetable.proofs.HostLaws.{hosts-device}
 use borrow.Author.Needs.{needs}
 use Rattle.goosetable.proofs.goosetable_clock.Statement.{statement}
 use Rattle.goosetable.proofs.goosetable_clock.Tie as tie
@@ -12,7 +14,7 @@ returns c =
     let put = c .before in
     let call = put .before .before .before in
     let held = call .before in
-    hosts deviceKept contactAnswer saidOf (c .contact-answer .ensures) (held .device-of .ensures) (put .put-device .ensures .bytes) (put .put-device .ensures .holds) (call .clock .ensures)
+    hosts-device contactAnswer contact-tells (only-answers _) (λ s. refl) (clock-counted _) (c .contact-answer .ensures) (λ s a. refl, λ s a. refl) (held .device-of .ensures) (put .put-device .ensures) (call .clock .ensures)
 
 pub goosetable-clock-spec : {M : Type 1} → statement M
 goosetable-clock-spec =

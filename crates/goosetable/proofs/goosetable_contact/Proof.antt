@@ -1,10 +1,12 @@
 -- The byte is read, and then by the law of small areas, from the call by value.
 use mathlib.Core.Path.{refl, sym, ap, _∙_}
-use Rattle.contacts.specs.Answers.{saidOf}
-use Rattle.boundary.specs.Boundary.{deviceKept, verificationRead}
+use Rattle.boundary.specs.Boundary.{verificationRead}
 use Rattle.host_answers.specs.HostAnswers.{contactAnswer}
 use Rattle.goosetable.specs.Hosts.{reads, unread}
-use Rattle.goosetable.proofs.HostLaws.{hosts}
+use Rattle.goosetable.proofs.StayLaws.{only-answers}
+use Rattle.goosetable.proofs.TellLaws.{contact-tells}
+use Rattle.goosetable.proofs.CountLaws.{contact-counted}
+use Rattle.goosetable.proofs.HostLaws.{hosts-device}
 use borrow.Author.Needs.{needs}
 use Rattle.goosetable.proofs.goosetable_contact.Statement.{statement}
 use Rattle.goosetable.proofs.goosetable_contact.Tie as tie
@@ -23,7 +25,7 @@ returns-2 c =
     let given = held .before .before .before in
     let read = given .before .before in
     reads _ (sym (read .verification-of .ensures) ∙ ap verificationRead (given .v .given .1))
-    (hosts deviceKept contactAnswer saidOf (c .contact-answer .ensures) (held .device-of .ensures) (put .put-device .ensures .bytes) (put .put-device .ensures .holds) (call .contact .ensures))
+    (hosts-device contactAnswer contact-tells (only-answers _) (λ s. refl) (contact-counted _ _) (c .contact-answer .ensures) (λ s a. refl, λ s a. refl) (held .device-of .ensures) (put .put-device .ensures) (call .contact .ensures))
 
 pub goosetable-contact-spec : {M : Type 1} → statement M
 goosetable-contact-spec =

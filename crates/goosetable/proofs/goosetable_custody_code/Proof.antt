@@ -1,9 +1,11 @@
 -- The byte is read, and then by the law of small areas, from the call by value.
 use mathlib.Core.Path.{refl, sym, ap, _∙_}
 use Rattle.wire.specs.Log.{codeRead}
-use Rattle.handover.specs.Handing.{says}
 use Rattle.host_answers.specs.HostAnswers.{codeAnswer}
 use Rattle.goosetable.specs.Hosts.{reads, unread}
+use Rattle.goosetable.proofs.StayLaws.{only-answers}
+use Rattle.goosetable.proofs.TellLaws.{code-tells}
+use Rattle.goosetable.proofs.CountLaws.{code-counted}
 use Rattle.goosetable.proofs.HostLaws.{hosts-both}
 use borrow.Author.Needs.{needs}
 use Rattle.goosetable.proofs.goosetable_custody_code.Statement.{statement}
@@ -25,7 +27,7 @@ returns-2 c =
     let given = held .before .before .before in
     let read = given .before .before in
     reads _ (ap codeRead (sym (read .from-code .ensures) ∙ given .k .given .1))
-    (hosts-both codeAnswer says (c .code-answer .ensures) (held .device-of .ensures) (stood .exchange-of .ensures) (put .put-device .ensures) (left .put-exchange .ensures) (call .handed-over .ensures))
+    (hosts-both codeAnswer code-tells (only-answers _) (λ s. refl) (code-counted _ _ _ _) (c .code-answer .ensures) (λ s a. refl, λ s a. refl) (held .device-of .ensures) (stood .exchange-of .ensures) (left .put-exchange .ensures) (put .put-device .ensures) (call .handed-over .ensures))
 
 pub goosetable-custody-code-spec : {M : Type 1} → statement M
 goosetable-custody-code-spec =

@@ -1,8 +1,10 @@
 -- By the law of small areas, from the call by value.
-use Rattle.envelope.specs.Answers.{envelopeSays}
-use Rattle.boundary.specs.Boundary.{deviceKept}
+use mathlib.Core.Path.{refl}
 use Rattle.host_answers.specs.HostAnswers.{envelopeAnswer}
-use Rattle.goosetable.proofs.HostLaws.{hosts}
+use Rattle.goosetable.proofs.StayLaws.{only-answers}
+use Rattle.goosetable.proofs.TellLaws.{envelope-tells}
+use Rattle.goosetable.proofs.CountLaws.{envelope-counted}
+use Rattle.goosetable.proofs.HostLaws.{hosts-device}
 use borrow.Author.Needs.{needs}
 use Rattle.goosetable.proofs.goosetable_envelope.Statement.{statement}
 use Rattle.goosetable.proofs.goosetable_envelope.Tie as tie
@@ -12,7 +14,7 @@ returns c =
     let put = c .before in
     let call = put .before .before .before .before .before .before .before .before .before in
     let held = call .before .before .before .before .before in
-    hosts deviceKept envelopeAnswer envelopeSays (c .envelope-answer .ensures) (held .device-of .ensures) (put .put-device .ensures .bytes) (put .put-device .ensures .holds) (call .envelope .ensures)
+    hosts-device envelopeAnswer envelope-tells (only-answers _) (λ s. refl) (envelope-counted _ _ _ _ _ _) (c .envelope-answer .ensures) (λ s a. refl, λ s a. refl) (held .device-of .ensures) (put .put-device .ensures) (call .envelope .ensures)
 
 pub goosetable-envelope-spec : {M : Type 1} → statement M
 goosetable-envelope-spec =

@@ -1,8 +1,10 @@
 -- By the law of small areas, from the call by value.
-use Rattle.load.specs.Laying.{says as loadSays}
-use Rattle.boundary.specs.Boundary.{deviceKept}
+use mathlib.Core.Path.{refl}
 use Rattle.host_answers.specs.HostAnswers.{loadAnswer}
-use Rattle.goosetable.proofs.HostLaws.{hosts}
+use Rattle.goosetable.proofs.StayLaws.{load-answers}
+use Rattle.goosetable.proofs.TellLaws.{load-tells}
+use Rattle.goosetable.proofs.CountLaws.{load-counted}
+use Rattle.goosetable.proofs.HostLaws.{hosts-device}
 use borrow.Author.Needs.{needs}
 use Rattle.goosetable.proofs.goosetable_load.Statement.{statement}
 use Rattle.goosetable.proofs.goosetable_load.Tie as tie
@@ -12,7 +14,7 @@ returns c =
     let put = c .before in
     let call = put .before .before .before .before .before .before .before in
     let held = call .before .before .before .before in
-    hosts deviceKept loadAnswer loadSays (c .load-answer .ensures) (held .device-of .ensures) (put .put-device .ensures .bytes) (put .put-device .ensures .holds) (call .load .ensures)
+    hosts-device loadAnswer load-tells (load-answers _) (λ s. refl) (load-counted _) (c .load-answer .ensures) (λ s a. refl, λ s a. refl) (held .device-of .ensures) (put .put-device .ensures) (call .load .ensures)
 
 pub goosetable-load-spec : {M : Type 1} → statement M
 goosetable-load-spec =

@@ -1,8 +1,10 @@
 -- By the law of small areas, from the call by value.
-use Rattle.tombs.specs.Tombs.{says as tombSays}
-use Rattle.boundary.specs.Boundary.{deviceKept}
+use mathlib.Core.Path.{refl}
 use Rattle.host_answers.specs.HostAnswers.{tombAnswer}
-use Rattle.goosetable.proofs.HostLaws.{hosts}
+use Rattle.goosetable.proofs.StayLaws.{only-answers}
+use Rattle.goosetable.proofs.TellLaws.{tomb-tells}
+use Rattle.goosetable.proofs.CountLaws.{opened-counted, opened-counts}
+use Rattle.goosetable.proofs.HostLaws.{hosts-device}
 use borrow.Author.Needs.{needs}
 use Rattle.goosetable.proofs.goosetable_opened.Statement.{statement}
 use Rattle.goosetable.proofs.goosetable_opened.Tie as tie
@@ -12,7 +14,7 @@ returns c =
     let put = c .before in
     let call = put .before .before .before .before .before .before .before .before .before in
     let held = call .before .before .before .before .before .before in
-    hosts deviceKept (tombAnswer 1) tombSays (c .tomb-answer .ensures) (held .device-of .ensures) (put .put-device .ensures .bytes) (put .put-device .ensures .holds) (call .report-opened .ensures)
+    hosts-device (tombAnswer 1) tomb-tells (only-answers _) (opened-counts _ _ _ _ _ _) (opened-counted _ _ _ _ _ _) (c .tomb-answer .ensures) (λ s a. refl, λ s a. refl) (held .device-of .ensures) (put .put-device .ensures) (call .report-opened .ensures)
 
 pub goosetable-opened-spec : {M : Type 1} → statement M
 goosetable-opened-spec =

@@ -1,10 +1,11 @@
 -- The byte is read, and then by the law of small areas, from the call by value.
 use mathlib.Core.Path.{refl, sym, ap, _∙_}
-use Rattle.own_envelope.specs.OwnEnvelope.{answerOf}
-use Rattle.boundary.specs.Boundary.{deviceKept}
 use Rattle.host_answers.specs.HostAnswers.{ownAnswers}
 use Rattle.goosetable.specs.Hosts.{dirRead, reads, unread}
-use Rattle.goosetable.proofs.HostLaws.{hosts}
+use Rattle.goosetable.proofs.StayLaws.{only-answers}
+use Rattle.goosetable.proofs.TellLaws.{own-tells}
+use Rattle.goosetable.proofs.CountLaws.{own-counted}
+use Rattle.goosetable.proofs.HostLaws.{hosts-device}
 use borrow.Author.Needs.{needs}
 use Rattle.goosetable.proofs.goosetable_own_envelope.Statement.{statement}
 use Rattle.goosetable.proofs.goosetable_own_envelope.Tie as tie
@@ -24,8 +25,7 @@ returns-2 c =
     let given = held .before .before .before in
     let read = given .before .before in
     reads _ (ap dirRead (sym (read .from-label .ensures) ∙ given .d .given .1))
-    (hosts deviceKept (ownAnswers _) answerOf (λ i. (c .own-answer .ensures (call .own-envelope .result .row) i, row .own-row .ensures i)) (held .device-of .ensures) (put .put-device .ensures .bytes)
-    (put .put-device .ensures .holds) (call .own-envelope .ensures))
+    (hosts-device (ownAnswers _) (own-tells (read .before .before .before .args .row .now)) (only-answers _) (λ s. refl) (own-counted _ _ _ _ _ _ _ _) (λ i. (c .own-answer .ensures i, row .own-row .ensures i)) (λ s a. refl, λ s a. refl) (held .device-of .ensures) (put .put-device .ensures) (call .own-envelope .ensures))
 
 pub goosetable-own-envelope-spec : {M : Type 1} → statement M
 goosetable-own-envelope-spec =

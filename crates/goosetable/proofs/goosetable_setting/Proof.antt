@@ -1,11 +1,12 @@
 -- The byte is read, and then by the law of small areas, from the call by value.
 use mathlib.Core.Path.{refl}
 use native.Mathlib.Omega.{arith}
-use Rattle.contacts.specs.Answers.{saidOf}
-use Rattle.boundary.specs.Boundary.{deviceKept}
 use Rattle.host_answers.specs.HostAnswers.{contactAnswer}
 use Rattle.goosetable.specs.Hosts.{reads, unread}
-use Rattle.goosetable.proofs.HostLaws.{hosts, enabled-right, enabled-wrong}
+use Rattle.goosetable.proofs.StayLaws.{only-answers}
+use Rattle.goosetable.proofs.TellLaws.{contact-tells}
+use Rattle.goosetable.proofs.CountLaws.{setting-counted}
+use Rattle.goosetable.proofs.HostLaws.{hosts-device, enabled-right, enabled-wrong}
 use borrow.Author.Needs.{needs}
 use Rattle.goosetable.proofs.goosetable_setting.Statement.{statement}
 use Rattle.goosetable.proofs.goosetable_setting.Tie as tie
@@ -20,7 +21,7 @@ returns-2 c =
     let held = call .before in
     let test = held .before .before in
     reads _ (enabled-right _ (omega (arith, test .if1 .left)))
-    (hosts deviceKept contactAnswer saidOf (c .contact-answer .ensures) (held .device-of .ensures) (put .put-device .ensures .bytes) (put .put-device .ensures .holds) (call .setting .ensures))
+    (hosts-device contactAnswer contact-tells (only-answers _) (λ s. refl) (setting-counted _ _ _) (c .contact-answer .ensures) (λ s a. refl, λ s a. refl) (held .device-of .ensures) (put .put-device .ensures) (call .setting .ensures))
 
 pub goosetable-setting-spec : {M : Type 1} → statement M
 goosetable-setting-spec =

@@ -1,8 +1,10 @@
 -- By the law of small areas, from the call by value.
-use Rattle.tombstones.specs.Tombstones.{saysStored}
-use Rattle.boundary.specs.Boundary.{deviceKept}
+use mathlib.Core.Path.{refl}
 use Rattle.host_answers.specs.HostAnswers.{storedAnswer}
-use Rattle.goosetable.proofs.HostLaws.{hosts}
+use Rattle.goosetable.proofs.StayLaws.{only-answers}
+use Rattle.goosetable.proofs.TellLaws.{stored-tells}
+use Rattle.goosetable.proofs.CountLaws.{stored-counted}
+use Rattle.goosetable.proofs.HostLaws.{hosts-device}
 use borrow.Author.Needs.{needs}
 use Rattle.goosetable.proofs.goosetable_stored_tombstone.Statement.{statement}
 use Rattle.goosetable.proofs.goosetable_stored_tombstone.Tie as tie
@@ -12,7 +14,7 @@ returns c =
     let put = c .before in
     let call = put .before .before .before .before .before .before .before in
     let held = call .before .before .before .before .before in
-    hosts deviceKept storedAnswer saysStored (c .stored-answer .ensures) (held .device-of .ensures) (put .put-device .ensures .bytes) (put .put-device .ensures .holds) (call .stored-tombstone .ensures)
+    hosts-device storedAnswer stored-tells (only-answers _) (λ s. refl) (stored-counted _ _ _ _) (c .stored-answer .ensures) (λ s a. refl, λ s a. refl) (held .device-of .ensures) (put .put-device .ensures) (call .stored-tombstone .ensures)
 
 pub goosetable-stored-tombstone-spec : {M : Type 1} → statement M
 goosetable-stored-tombstone-spec =

@@ -1,5 +1,4 @@
 -- Its header, and half of the copies.
-use mathlib.Core.Path.{refl}
 use Rattle.model.specs.Exchange.{ownEnvelopeOf}
 use Rattle.inventory.proofs.OfferLaws.{offer-made}
 use borrow.Author.Needs.{needs}
@@ -8,10 +7,10 @@ use Rattle.inventory.proofs.own_offered.Tie as tie
 
 returns : tie.Need-returns
 unfolding ownEnvelopeOf
-returns c = offer-made (ownEnvelopeOf (c .before .before .args .row)) refl (c .before .own-header .ensures) (c .half .ensures)
+returns c = offer-made (ownEnvelopeOf (c .before .before .before .args .row)) (c .before .before .own-cell .ensures) (c .before .own-header .ensures) (c .half .ensures)
 
 pub own-offered-spec : {M : Type 1} → statement M
 own-offered-spec =
     tie.close
     (tie.spec
-    (λ c κs. search needs) (λ c κs. search needs) returns)
+    (λ c κs. search needs) (λ c κs. search needs) (λ c κs. search needs) returns)

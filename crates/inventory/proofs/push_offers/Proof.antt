@@ -2,125 +2,165 @@
 use mathlib.Core.Path.{_≡_, refl, sym, _∙_}
 use mathlib.Core.Bool.{true, false}
 use Prim.Native.Nat.{_+_, _-_, _≤_}
+use lib.ListN.{length}
 use borrow.Author.Tests.{not-true, not-false}
 use Rattle.inventory.proofs.OfferLaws.{not-spare, was-listed, was-tombstoned, is-offered}
-use Rattle.inventory.proofs.WalkLaws.{tag-has, isListed, listed-next, listed-end, isTombstoned, tombstoned-next, tombstoned-end, Offering, offering-start, offering-skip, offering-next, offering-end}
+use Rattle.inventory.proofs.WalkLaws.{tag-has, isListed, listed-next, listed-end, isTombstoned, tombstoned-next, tombstoned-end, Offering, offering-as, offering-start, offering-skip, offering-next, offering-end}
 use borrow.Author.Needs.{needs}
 use native.Mathlib.Omega.{arith}
 use Rattle.inventory.proofs.push_offers.Statement.{statement}
 use Rattle.inventory.proofs.push_offers.Tie as tie
 
-abbrev Inv-loop : tie.InvT-loop
-Inv-loop own n carried m peer listed l tombstones g replies first offers k c i at tag j₀ j = (j ≤ l) × (isListed tag listed l 0 ≡ isListed tag listed l j)
-
-abbrev μ-loop : tie.MeasureT-loop
-μ-loop own n carried m peer listed l tombstones g replies first offers k c i at tag j₀ j = l - j
-
 abbrev Inv-loop2 : tie.InvT-loop2
-Inv-loop2 own n carried m peer listed l tombstones g replies first offers k c i at tag j t₀ t = (t ≤ g) × (isTombstoned tag tombstones g 0 ≡ isTombstoned tag tombstones g t)
+Inv-loop2 own n carried m peer listed l tombstones g replies first offers k c i at tag j₀ j = (j ≤ l) × (isListed tag listed l 0 ≡ isListed tag listed l j)
 
 abbrev μ-loop2 : tie.MeasureT-loop2
-μ-loop2 own n carried m peer listed l tombstones g replies first offers k c i at tag j t₀ t = g - t
+μ-loop2 own n carried m peer listed l tombstones g replies first offers k c i at tag j₀ j = l - j
 
-abbrev Inv-rows : tie.InvT-rows
-Inv-rows own n carried m peer listed l tombstones g replies₀ first offers₀ k₀ c₀ i₀ replies offers k c i = Offering peer own carried n m listed l tombstones g replies₀ first offers₀ i k c replies offers
+abbrev Inv-loop3 : tie.InvT-loop3
+Inv-loop3 own n carried m peer listed l tombstones g replies first offers k c i at tag j t₀ t = (t ≤ g) × (isTombstoned tag tombstones g 0 ≡ isTombstoned tag tombstones g t)
 
-abbrev μ-rows : tie.MeasureT-rows
-μ-rows own n carried m peer listed l tombstones g replies₀ first offers₀ k₀ c₀ i₀ replies offers k c i = n + m - i
+abbrev μ-loop3 : tie.MeasureT-loop3
+μ-loop3 own n carried m peer listed l tombstones g replies first offers k c i at tag j t₀ t = g - t
 
-rows-holds : tie.Need-rows-holds Inv-loop μ-loop Inv-loop2 μ-loop2 Inv-rows μ-rows
-rows-holds c = offering-start _ _ _ _ _ _ _ _ _ _ _ _
+-- where a row begins, nothing has changed; the row is never begun again
+abbrev Inv-row : tie.InvT-row
+Inv-row own n carried m peer listed l tombstones g replies₀ first offers₀ k₀ c₀ i at row replies offers k c =
+    (k ≡ k₀) × ((c ≡ c₀) × ((replies ≡ replies₀) × (offers ≡ offers₀)))
 
-row-at-requires : tie.Need-row-at-requires Inv-loop μ-loop Inv-loop2 μ-loop2 Inv-rows μ-rows
+abbrev μ-row : tie.MeasureT-row
+μ-row own n carried m peer listed l tombstones g replies₀ first offers₀ k₀ c₀ i at row replies offers k c = 0
+
+abbrev Inv-loop : tie.InvT-loop
+Inv-loop own n carried m peer listed l tombstones g replies₀ first offers₀ k₀ c₀ i₀ replies offers k c i = Offering peer own carried n m listed l tombstones g replies₀ first offers₀ i k c replies offers
+
+abbrev μ-loop : tie.MeasureT-loop
+μ-loop own n carried m peer listed l tombstones g replies₀ first offers₀ k₀ c₀ i₀ replies offers k c i = n + m - i
+
+loop-holds : tie.Need-loop-holds Inv-loop2 μ-loop2 Inv-loop3 μ-loop3 Inv-row μ-row Inv-loop μ-loop
+loop-holds c = offering-start _ _ _ _ _ _ _ _ _ _ _ _
+
+row-at-requires : tie.Need-row-at-requires Inv-loop2 μ-loop2 Inv-loop3 μ-loop3 Inv-row μ-row Inv-loop μ-loop
 row-at-requires c κs = (omega arith, omega arith)
 
-rows-again : tie.Need-rows-again Inv-loop μ-loop Inv-loop2 μ-loop2 Inv-rows μ-rows
-rows-again c =
+tag-size : (m : tie.After-row-at Inv-loop2 μ-loop2 Inv-loop3 μ-loop3 Inv-row μ-row Inv-loop μ-loop) → length (m .row-at .result .tag) ≡ 16
+tag-size m = search needs
+
+row-holds : tie.Need-row-holds Inv-loop2 μ-loop2 Inv-loop3 μ-loop3 Inv-row μ-row Inv-loop μ-loop
+row-holds c = (refl, (refl, (refl, refl)))
+
+loop-again : tie.Need-loop-again Inv-loop2 μ-loop2 Inv-loop3 μ-loop3 Inv-row μ-row Inv-loop μ-loop
+loop-again c =
     let at-may-offer = c .before in
-    let at-row-at = at-may-offer .before in
-    let at-rows = at-row-at .before .before in
-    let s = at-rows .before .before .before .before .before .before .before in
-    offering-skip _ _ _ _ _ _ _ _ _ _ _ _ (s .pre .0 .0) (s .pre .0 .1) (at-rows .rows .inv) (omega arith)
+    let at-row = at-may-offer .before in
+    let at-row-at = at-row .before in
+    let at-loop = at-row-at .before .before in
+    let s = at-loop .before .before .before .before .before .before .before in
+    offering-skip _ _ _ _ _ _ _ _ _ _ _ _ (s .pre .0 .0) (s .pre .0 .1) (offering-as _ _ _ _ _ _ _ _ _ _ _ _ (at-row .row .inv) (at-loop .loop .inv)) (omega arith)
     (not-spare _ _ _ _ (at-row-at .row-at .ensures) (sym (at-may-offer .may-offer .ensures) ∙ not-true _ (c .if1 .taken))) (omega arith)
 
-loop-holds : tie.Need-loop-holds Inv-loop μ-loop Inv-loop2 μ-loop2 Inv-rows μ-rows
-loop-holds c = (omega arith, refl)
-
-same-requires : tie.Need-same-requires Inv-loop μ-loop Inv-loop2 μ-loop2 Inv-rows μ-rows
-same-requires c κs = (omega arith, tag-has (c .before .before .before .before .before .before .row-at .result .tag) (omega arith) (search needs))
-
-rows-again-2 : tie.Need-rows-again-2 Inv-loop μ-loop Inv-loop2 μ-loop2 Inv-rows μ-rows
-rows-again-2 c =
-    let at-same = c .before in
-    let at-loop = at-same .before .before .before in
-    let at-row-at = at-loop .before .before .before .before in
-    let at-rows = at-row-at .before .before in
-    let s = at-rows .before .before .before .before .before .before .before in
-    offering-skip _ _ _ _ _ _ _ _ _ _ _ _ (s .pre .0 .0) (s .pre .0 .1) (at-rows .rows .inv) (omega arith)
-    (was-listed _ _ _ _ (at-row-at .row-at .ensures) (at-loop .loop .inv .1 ∙ listed-next _ _ _ (s .pre .1 .0 .0) _ true (omega arith) (at-same .same .ensures) (c .if2 .taken))) (omega arith)
-
-loop-again : tie.Need-loop-again Inv-loop μ-loop Inv-loop2 μ-loop2 Inv-rows μ-rows
-loop-again c =
-    let at-same = c .before in
-    let at-loop = at-same .before .before .before in
-    let s = at-loop .before .before .before .before .before .before .before .before .before .before .before .before .before in
-    (omega arith, at-loop .loop .inv .1 ∙ listed-next _ _ _ (s .pre .1 .0 .0) _ false (omega arith) (at-same .same .ensures) (c .if2 .left))
-
-loop2-holds : tie.Need-loop2-holds Inv-loop μ-loop Inv-loop2 μ-loop2 Inv-rows μ-rows
+loop2-holds : tie.Need-loop2-holds Inv-loop2 μ-loop2 Inv-loop3 μ-loop3 Inv-row μ-row Inv-loop μ-loop
 loop2-holds c = (omega arith, refl)
 
-same-requires-2 : tie.Need-same-requires-2 Inv-loop μ-loop Inv-loop2 μ-loop2 Inv-rows μ-rows
-same-requires-2 c κs = (omega arith, tag-has (c .before .before .before .before .before .before .before .before .row-at .result .tag) (omega arith) (search needs))
+same-requires : tie.Need-same-requires Inv-loop2 μ-loop2 Inv-loop3 μ-loop3 Inv-row μ-row Inv-loop μ-loop
+same-requires c κs = (omega arith, tag-has (c .before .before .before .before .before .before .before .row-at .result .tag) (omega arith) (search needs))
 
-rows-again-3 : tie.Need-rows-again-3 Inv-loop μ-loop Inv-loop2 μ-loop2 Inv-rows μ-rows
-rows-again-3 c = offering-skip _ _ _ _ _ _ _ _ _ _ _ _ (c .before .before .before .before .before .before .before .before .before .before .before .before .before .before .before .before .before .before .before .pre .0 .0) (c .before .before .before .before .before .before .before .before .before .before .before .before .before .before .before .before .before .before .before .pre .0 .1) (c .before .before .before .before .before .before .before .before .before .before .before .before .rows .inv) (omega arith)
-    (was-tombstoned _ _ _ _ (c .before .before .before .before .before .before .before .before .before .before .row-at .ensures) (c .before .before .before .before .loop2 .inv .1 ∙ tombstoned-next _ _ _ (c .before .before .before .before .before .before .before .before .before .before .before .before .before .before .before .before .before .before .before .pre .1 .0 .1) _ true (search needs) (omega arith) (c .before .same2 .ensures) (c .if3 .taken))) (omega arith)
+loop-again-2 : tie.Need-loop-again-2 Inv-loop2 μ-loop2 Inv-loop3 μ-loop3 Inv-row μ-row Inv-loop μ-loop
+loop-again-2 c =
+    let at-same = c .before in
+    let at-loop2 = at-same .before .before .before in
+    let at-row = at-loop2 .before .before .before .before in
+    let at-row-at = at-row .before in
+    let at-loop = at-row-at .before .before in
+    let s = at-loop .before .before .before .before .before .before .before in
+    offering-skip _ _ _ _ _ _ _ _ _ _ _ _ (s .pre .0 .0) (s .pre .0 .1) (offering-as _ _ _ _ _ _ _ _ _ _ _ _ (at-row .row .inv) (at-loop .loop .inv)) (omega arith)
+    (was-listed _ _ _ _ (at-row-at .row-at .ensures) (at-loop2 .loop2 .inv .1 ∙ listed-next _ _ _ (s .pre .1 .0 .0) _ true (omega arith) (at-same .same .ensures) (c .if2 .taken))) (omega arith)
 
-loop2-again : tie.Need-loop2-again Inv-loop μ-loop Inv-loop2 μ-loop2 Inv-rows μ-rows
-loop2-again c = (omega arith, c .before .before .before .before .loop2 .inv .1 ∙ tombstoned-next _ _ _ (c .before .before .before .before .before .before .before .before .before .before .before .before .before .before .before .before .before .before .before .pre .1 .0 .1) _ false (search needs) (omega arith) (c .before .same2 .ensures) (c .if3 .left))
+loop2-again : tie.Need-loop2-again Inv-loop2 μ-loop2 Inv-loop3 μ-loop3 Inv-row μ-row Inv-loop μ-loop
+loop2-again c =
+    let at-same = c .before in
+    let at-loop2 = at-same .before .before .before in
+    let s = at-loop2 .before .before .before .before .before .before .before .before .before .before .before .before .before .before in
+    (omega arith, at-loop2 .loop2 .inv .1 ∙ listed-next _ _ _ (s .pre .1 .0 .0) _ false (omega arith) (at-same .same .ensures) (c .if2 .left))
 
-offer-row-requires : tie.Need-offer-row-requires Inv-loop μ-loop Inv-loop2 μ-loop2 Inv-rows μ-rows
-offer-row-requires c κs = ((omega arith, omega arith), (omega arith, omega arith))
+loop3-holds : tie.Need-loop3-holds Inv-loop2 μ-loop2 Inv-loop3 μ-loop3 Inv-row μ-row Inv-loop μ-loop
+loop3-holds c = (omega arith, refl)
 
-add-k : tie.Need-add-k Inv-loop μ-loop Inv-loop2 μ-loop2 Inv-rows μ-rows
-add-k c =
-    let at-rows-test = c .before .before .before .before .before .before .before .before .before .before .before .before .before .before .before in
-    let at-rows = at-rows-test .before in
-    let s = at-rows .before .before .before .before .before .before .before in
-    omega (arith, at-rows .rows .inv .below, at-rows-test .rows-test .taken, s .pre .1 .1 .0, s .good)
+same-requires-2 : tie.Need-same-requires-2 Inv-loop2 μ-loop2 Inv-loop3 μ-loop3 Inv-row μ-row Inv-loop μ-loop
+same-requires-2 c κs = (omega arith, tag-has (c .before .before .before .before .before .before .before .before .before .row-at .result .tag) (omega arith) (search needs))
 
-rows-again-4 : tie.Need-rows-again-4 Inv-loop μ-loop Inv-loop2 μ-loop2 Inv-rows μ-rows
-rows-again-4 c =
-    let at-offer-row = c .before .before .before .before in
-    let at-loop2-test = at-offer-row .before .before .before in
-    let at-loop2 = at-loop2-test .before in
-    let at-loop-test = at-loop2 .before in
+loop-again-3 : tie.Need-loop-again-3 Inv-loop2 μ-loop2 Inv-loop3 μ-loop3 Inv-row μ-row Inv-loop μ-loop
+loop-again-3 c =
+    let at-same2 = c .before in
+    let at-loop3 = at-same2 .before .before .before in
+    let at-row = at-loop3 .before .before .before .before .before .before in
+    let at-row-at = at-row .before in
+    let at-loop = at-row-at .before .before in
+    let s = at-loop .before .before .before .before .before .before .before in
+    offering-skip _ _ _ _ _ _ _ _ _ _ _ _ (s .pre .0 .0) (s .pre .0 .1) (offering-as _ _ _ _ _ _ _ _ _ _ _ _ (at-row .row .inv) (at-loop .loop .inv)) (omega arith)
+    (was-tombstoned _ _ _ _ (at-row-at .row-at .ensures) (at-loop3 .loop3 .inv .1 ∙ tombstoned-next _ _ _ (s .pre .1 .0 .1) _ true (tag-size at-row-at) (omega arith) (at-same2 .same2 .ensures) (c .if3 .taken))) (omega arith)
+
+loop3-again : tie.Need-loop3-again Inv-loop2 μ-loop2 Inv-loop3 μ-loop3 Inv-row μ-row Inv-loop μ-loop
+loop3-again c =
+    let at-same2 = c .before in
+    let at-loop3 = at-same2 .before .before .before in
+    let at-row-at = at-loop3 .before .before .before .before .before .before .before in
+    let s = at-row-at .before .before .before .before .before .before .before .before .before in
+    (omega arith, at-loop3 .loop3 .inv .1 ∙ tombstoned-next _ _ _ (s .pre .1 .0 .1) _ false (tag-size at-row-at) (omega arith) (at-same2 .same2 .ensures) (c .if3 .left))
+
+offer-row-requires : tie.Need-offer-row-requires Inv-loop2 μ-loop2 Inv-loop3 μ-loop3 Inv-row μ-row Inv-loop μ-loop
+offer-row-requires c κs =
+    let at-row = c .before .before .before .before .before .before .before .before .before in
+    let at-loop-test = at-row .before .before in
     let at-loop = at-loop-test .before in
-    let at-if1 = at-loop .before .before in
-    let at-may-offer = at-if1 .before in
-    let at-row-at = at-may-offer .before in
-    let at-rows-test = at-row-at .before in
-    let at-rows = at-rows-test .before in
-    let s = at-rows .before .before .before .before .before .before .before in
-    let r = at-rows .rows in
-    let t = at-row-at .row-at .result .tag in
-    let listed = at-loop .loop .inv .1 ∙ listed-end t (s .args .listed .now) (s .args .l) (s .pre .1 .0 .0) (at-loop .loop .j) (at-loop-test .loop-test .left) in
-    let tombstoned = at-loop2 .loop2 .inv .1 ∙ tombstoned-end t (s .args .tombstones .now) (s .args .g) (s .pre .1 .0 .1) (at-loop2 .loop2 .t) (at-loop2-test .loop2-test .left) in
-    offering-next _ _ _ _ _ _ _ _ _ _ _ _ (s .pre .0 .0) (s .pre .0 .1) (r .inv) (at-rows-test .rows-test .taken)
-    (is-offered _ _ _ _ (at-row-at .row-at .ensures) (sym (at-may-offer .may-offer .ensures) ∙ not-false _ (at-if1 .if1 .left)) listed tombstoned) (at-offer-row .offer-row .ensures (s .args .peer)) (omega (arith, r .inv .below, at-rows-test .rows-test .taken, s .pre .1 .1 .0))
+    let pre = at-loop .before .before .before .before .before .before .before .pre in
+    let so-far = offering-as _ _ _ _ _ _ _ _ _ _ _ _ (at-row .row .inv) (at-loop .loop .inv) in
+    let more = at-loop-test .loop-test .taken in (
+      (pre .0 .0, omega (arith, more, pre .0 .1)),
+      (omega (arith, more, pre .1 .1 .0, so-far .below, so-far .room), omega (arith, more, pre .1 .1 .1, so-far .few, so-far .size)),
+    )
 
-returns : tie.Need-returns Inv-loop μ-loop Inv-loop2 μ-loop2 Inv-rows μ-rows
+add-k : tie.Need-add-k Inv-loop2 μ-loop2 Inv-loop3 μ-loop3 Inv-row μ-row Inv-loop μ-loop
+add-k c =
+    let at-row = c .before .before .before .before .before .before .before .before .before .before .before .before .before .before in
+    let at-loop-test = at-row .before .before in
+    let at-loop = at-loop-test .before in
+    let s = at-loop .before .before .before .before .before .before .before in
+    omega (arith, at-row .row .inv .0, at-loop .loop .inv .below, at-loop-test .loop-test .taken, s .pre .1 .1 .0, s .good)
+
+loop-again-4 : tie.Need-loop-again-4 Inv-loop2 μ-loop2 Inv-loop3 μ-loop3 Inv-row μ-row Inv-loop μ-loop
+loop-again-4 c =
+    let at-offer-row = c .before .before .before .before in
+    let at-loop3-test = at-offer-row .before .before .before in
+    let at-loop3 = at-loop3-test .before in
+    let at-loop2-test = at-loop3 .before in
+    let at-loop2 = at-loop2-test .before in
+    let at-if1 = at-loop2 .before .before in
+    let at-may-offer = at-if1 .before in
+    let at-row = at-may-offer .before in
+    let at-row-at = at-row .before in
+    let at-loop-test = at-row-at .before in
+    let at-loop = at-loop-test .before in
+    let s = at-loop .before .before .before .before .before .before .before in
+    let so-far = offering-as _ _ _ _ _ _ _ _ _ _ _ _ (at-row .row .inv) (at-loop .loop .inv) in
+    let t = at-row-at .row-at .result .tag in
+    let listed = at-loop2 .loop2 .inv .1 ∙ listed-end t (s .args .listed .now) (s .args .l) (s .pre .1 .0 .0) (at-loop2 .loop2 .j) (at-loop2-test .loop2-test .left) in
+    let tombstoned = at-loop3 .loop3 .inv .1 ∙ tombstoned-end t (s .args .tombstones .now) (s .args .g) (s .pre .1 .0 .1) (at-loop3 .loop3 .t) (at-loop3-test .loop3-test .left) in
+    offering-next _ _ _ _ _ _ _ _ _ _ _ _ (s .pre .0 .0) (s .pre .0 .1) so-far (at-loop-test .loop-test .taken)
+    (is-offered _ _ _ _ (at-row-at .row-at .ensures) (sym (at-may-offer .may-offer .ensures) ∙ not-false _ (at-if1 .if1 .left)) listed tombstoned) (at-offer-row .offer-row .ensures (s .args .peer)) (omega (arith, so-far .below, at-loop-test .loop-test .taken, s .pre .1 .1 .0))
+
+returns : tie.Need-returns Inv-loop2 μ-loop2 Inv-loop3 μ-loop3 Inv-row μ-row Inv-loop μ-loop
 returns c =
-    let at-rows = c .before in
-    let s = at-rows .before .before .before .before .before .before .before in
-    offering-end _ _ _ _ _ _ _ _ _ _ _ _ (s .pre .0 .0) (s .pre .0 .1) (at-rows .rows .inv) (omega arith) (s .pre .1 .1 .0)
+    let at-loop = c .before in
+    let s = at-loop .before .before .before .before .before .before .before in
+    offering-end _ _ _ _ _ _ _ _ _ _ _ _ (s .pre .0 .0) (s .pre .0 .1) (at-loop .loop .inv) (omega arith) (s .pre .1 .1 .0)
 
 pub push-offers-spec : {M : Type 1} → statement M
 push-offers-spec =
     tie.close
     (tie.spec
-    Inv-loop μ-loop Inv-loop2 μ-loop2 Inv-rows μ-rows rows-holds (λ c. omega arith) row-at-requires (λ c. omega arith)
-    (λ c κs. search needs) (λ c. omega arith) rows-again loop-holds (λ c. omega arith) (λ c. search needs) same-requires
-    (λ c. omega arith) rows-again-2 (λ c. omega arith) (λ c. omega arith) loop-again loop2-holds (λ c. omega arith)
-    (λ c. omega arith) (λ c. search needs) same-requires-2 (λ c. omega arith) rows-again-3 (λ c. omega arith) (λ c. omega arith)
-    loop2-again offer-row-requires add-k (λ c. omega arith) rows-again-4 (λ c. search needs) (λ c. search needs) returns)
+    Inv-loop2 μ-loop2 Inv-loop3 μ-loop3 Inv-row μ-row Inv-loop μ-loop loop-holds (λ c. omega arith) row-at-requires (λ c. omega arith)
+    row-holds (λ c κs. search needs) (λ c. omega arith) loop-again loop2-holds (λ c. omega arith) (λ c. search needs) same-requires
+    (λ c. omega arith) loop-again-2 (λ c. omega arith) (λ c. omega arith) loop2-again loop3-holds (λ c. omega arith)
+    (λ c. omega arith) (λ c. search needs) same-requires-2 (λ c. omega arith) loop-again-3 (λ c. omega arith) (λ c. omega arith)
+    loop3-again offer-row-requires add-k (λ c. omega arith) loop-again-4 (λ c. search needs) (λ c. search needs) returns)

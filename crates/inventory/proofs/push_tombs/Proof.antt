@@ -11,60 +11,60 @@ use native.Mathlib.Omega.{arith}
 use Rattle.inventory.proofs.push_tombs.Statement.{statement}
 use Rattle.inventory.proofs.push_tombs.Tie as tie
 
+abbrev Inv-search : tie.InvT-search
+Inv-search replies₀ n listed l tombstones g k₀ i at j₀ replies k j = Searching tombstones g (part listed at 8) replies₀ k₀ j replies k
+
+abbrev μ-search : tie.MeasureT-search
+μ-search replies₀ n listed l tombstones g k₀ i at j₀ replies k j = g - j
+
 abbrev Inv-loop : tie.InvT-loop
-Inv-loop replies₀ n listed l tombstones g k₀ i at j₀ replies k j = Searching tombstones g (part listed at 8) replies₀ k₀ j replies k
+Inv-loop replies₀ n listed l tombstones g k₀ i₀ replies k i = Replying listed l (tombFor (tableOf tombstoneCodec g tombstones)) replies₀ n i k replies
 
 abbrev μ-loop : tie.MeasureT-loop
-μ-loop replies₀ n listed l tombstones g k₀ i at j₀ replies k j = g - j
+μ-loop replies₀ n listed l tombstones g k₀ i₀ replies k i = l - i
 
-abbrev Inv-listed : tie.InvT-listed
-Inv-listed replies₀ n listed l tombstones g k₀ i₀ replies k i = Replying listed l (tombFor (tableOf tombstoneCodec g tombstones)) replies₀ n i k replies
+loop-holds : tie.Need-loop-holds Inv-search μ-search Inv-loop μ-loop
+loop-holds c = replying-start _ _ _ _ _
 
-abbrev μ-listed : tie.MeasureT-listed
-μ-listed replies₀ n listed l tombstones g k₀ i₀ replies k i = l - i
+search-holds : tie.Need-search-holds Inv-search μ-search Inv-loop μ-loop
+search-holds c = search-start _ _ _ _ _
 
-listed-holds : tie.Need-listed-holds Inv-loop μ-loop Inv-listed μ-listed
-listed-holds c = replying-start _ _ _ _ _
+loop-again : tie.Need-loop-again Inv-search μ-search Inv-loop μ-loop
+loop-again c =
+    replying-next _ _ _ _ _ (c .before .before .before .before .before .before .before .pre .0 .0) (c .before .before .before .loop .inv) (omega arith) refl (search-miss _ _ _ (c .before .before .before .before .before .before .before .pre .0 .1) _ _ (c .before .search .inv) (omega arith)) (omega arith) (omega arith)
 
-loop-holds : tie.Need-loop-holds Inv-loop μ-loop Inv-listed μ-listed
-loop-holds c = search-start _ _ _ _ _
-
-listed-again : tie.Need-listed-again Inv-loop μ-loop Inv-listed μ-listed
-listed-again c =
-    replying-next _ _ _ _ _ (c .before .before .before .before .before .before .before .pre .0 .0) (c .before .before .before .listed .inv) (omega arith) refl (search-miss _ _ _ (c .before .before .before .before .before .before .before .pre .0 .1) _ _ (c .before .loop .inv) (omega arith)) (omega arith) (omega arith)
-
-same-requires : tie.Need-same-requires Inv-loop μ-loop Inv-listed μ-listed
+same-requires : tie.Need-same-requires Inv-search μ-search Inv-loop μ-loop
 same-requires c κs = (omega arith, omega arith)
 
-put-tomb-of-requires : tie.Need-put-tomb-of-requires Inv-loop μ-loop Inv-listed μ-listed
+put-tomb-of-requires : tie.Need-put-tomb-of-requires Inv-search μ-search Inv-loop μ-loop
 put-tomb-of-requires c κs = (omega arith, omega arith)
 
-listed-again-2 : tie.Need-listed-again-2 Inv-loop μ-loop Inv-listed μ-listed
-listed-again-2 c =
+loop-again-2 : tie.Need-loop-again-2 Inv-search μ-search Inv-loop μ-loop
+loop-again-2 c =
     let at-put-tomb-of = c .before .before in
     let at-if1 = at-put-tomb-of .before .before in
     let at-same = at-if1 .before in
-    let at-loop = at-same .before .before in
-    let at-listed = at-loop .before .before in
-    let s = at-listed .before .before .before .before in
-    replying-next _ _ _ _ _ (s .pre .0 .0) (at-listed .listed .inv) (omega arith) refl
-    (search-hit _ _ _ (s .pre .0 .1) _ _ (at-loop .loop .inv) (omega arith) (at-same .same .ensures) (at-if1 .if1 .taken) (omega arith) (at-put-tomb-of .put-tomb-of .ensures)) (omega arith) (omega arith)
+    let at-search = at-same .before .before in
+    let at-loop = at-search .before .before in
+    let s = at-loop .before .before .before .before in
+    replying-next _ _ _ _ _ (s .pre .0 .0) (at-loop .loop .inv) (omega arith) refl
+    (search-hit _ _ _ (s .pre .0 .1) _ _ (at-search .search .inv) (omega arith) (at-same .same .ensures) (at-if1 .if1 .taken) (omega arith) (at-put-tomb-of .put-tomb-of .ensures)) (omega arith) (omega arith)
 
-loop-again : tie.Need-loop-again Inv-loop μ-loop Inv-listed μ-listed
-loop-again c =
+search-again : tie.Need-search-again Inv-search μ-search Inv-loop μ-loop
+search-again c =
     let at-same = c .before in
-    let at-loop = at-same .before .before in
-    let s = at-loop .before .before .before .before .before .before in
-    search-next _ _ _ (s .pre .0 .1) _ _ (at-loop .loop .inv) (omega arith) (at-same .same .ensures) (c .if1 .left)
+    let at-search = at-same .before .before in
+    let s = at-search .before .before .before .before .before .before in
+    search-next _ _ _ (s .pre .0 .1) _ _ (at-search .search .inv) (omega arith) (at-same .same .ensures) (c .if1 .left)
 
-returns : tie.Need-returns Inv-loop μ-loop Inv-listed μ-listed
-returns c = replying-end _ _ _ _ _ (c .before .before .before .before .before .pre .0 .0) (c .before .listed .inv) (omega arith)
+returns : tie.Need-returns Inv-search μ-search Inv-loop μ-loop
+returns c = replying-end _ _ _ _ _ (c .before .before .before .before .before .pre .0 .0) (c .before .loop .inv) (omega arith)
 
 pub push-tombs-spec : {M : Type 1} → statement M
 push-tombs-spec =
     tie.close
     (tie.spec
-    Inv-loop μ-loop Inv-listed μ-listed listed-holds (λ c. omega arith) (λ c. omega arith) loop-holds (λ c. omega arith)
-    listed-again (λ c. omega arith) (λ c. omega arith) same-requires (λ c. omega arith) (λ c. omega arith) put-tomb-of-requires
-    (λ c. omega arith) (λ c. omega arith) listed-again-2 (λ c. omega arith) (λ c. omega arith) loop-again (λ c. search needs)
+    Inv-search μ-search Inv-loop μ-loop loop-holds (λ c. omega arith) (λ c. omega arith) search-holds (λ c. omega arith)
+    loop-again (λ c. omega arith) (λ c. omega arith) same-requires (λ c. omega arith) (λ c. omega arith) put-tomb-of-requires
+    (λ c. omega arith) (λ c. omega arith) loop-again-2 (λ c. omega arith) (λ c. omega arith) search-again (λ c. search needs)
     returns)

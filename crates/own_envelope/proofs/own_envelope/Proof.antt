@@ -9,7 +9,7 @@ use Rattle.own_envelope.proofs.own_envelope.Statement.{statement}
 use Rattle.own_envelope.proofs.own_envelope.Tie as tie
 
 returns : tie.Need-returns
-returns c a = says-stranger _ _ _ _ _ _ _ _ _ _ _ _ a _ (sym (c .before .before .known .ensures) ∙ not-true _ (c .before .if1 .taken)) (c .no-row .ensures)
+returns c a = says-stranger _ _ _ _ _ _ _ _ _ _ _ _ a (sym (c .before .before .known .ensures) ∙ not-true _ (c .before .if1 .taken)) (c .no-row .ensures)
 
 returns-2 : tie.Need-returns-2
 returns-2 c a =
@@ -17,7 +17,7 @@ returns-2 c a =
     let at-has-message = at-if2 .before in
     let at-if1 = at-has-message .before .before .before in
     let at-known = at-if1 .before in
-    says-taken _ _ _ _ _ _ _ _ _ _ _ _ a (sym (at-known .known .ensures) ∙ not-false _ (at-if1 .if1 .left)) _
+    says-taken _ _ _ _ _ _ _ _ _ _ _ _ a (sym (at-known .known .ensures) ∙ not-false _ (at-if1 .if1 .left))
     (sym (at-has-message .has-message .ensures) ∙ at-if2 .if2 .taken) (c .no-row2 .ensures)
 
 returns-3 : tie.Need-returns-3
@@ -29,7 +29,7 @@ returns-3 c a =
     let at-if1 = at-has-message .before .before .before in
     let at-known = at-if1 .before in
     says-length _ _ _ _ _ _ _ _ _ _ _ _ a (sym (at-known .known .ensures) ∙ not-false _ (at-if1 .if1 .left))
-    (sym (at-has-message .has-message .ensures) ∙ at-if2 .if2 .left) _ (sym (at-own-length .own-length .ensures) ∙ not-true _ (at-if3 .if3 .taken))
+    (sym (at-has-message .has-message .ensures) ∙ at-if2 .if2 .left) (sym (at-own-length .own-length .ensures) ∙ not-true _ (at-if3 .if3 .taken))
     (c .no-row3 .ensures)
 
 returns-4 : tie.Need-returns-4
@@ -43,7 +43,7 @@ returns-4 c a =
     let at-if1 = at-has-message .before .before .before in
     let at-known = at-if1 .before in
     says-none _ _ _ _ _ _ _ _ _ _ _ _ a (sym (at-known .known .ensures) ∙ not-false _ (at-if1 .if1 .left))
-    (sym (at-has-message .has-message .ensures) ∙ at-if2 .if2 .left) (sym (at-own-length .own-length .ensures) ∙ not-false _ (at-if3 .if3 .left)) _
+    (sym (at-has-message .has-message .ensures) ∙ at-if2 .if2 .left) (sym (at-own-length .own-length .ensures) ∙ not-false _ (at-if3 .if3 .left))
     (sym (at-none-made .none-made .ensures) ∙ at-if4 .if4 .taken) (c .no-row4 .ensures)
 
 new-own-requires : tie.Need-new-own-requires
@@ -95,7 +95,7 @@ returns-5 c a =
     let at-known = at-if1 .before in
     says-full _ _ _ _ _ _ _ _ _ _ _ _ a (sym (at-known .known .ensures) ∙ not-false _ (at-if1 .if1 .left))
     (sym (at-has-message .has-message .ensures) ∙ at-if2 .if2 .left) (sym (at-own-length .own-length .ensures) ∙ not-false _ (at-if3 .if3 .left))
-    (sym (at-none-made .none-made .ensures) ∙ at-if4 .if4 .left) _ (sym (at-enum-told .enum-told .given .1) ∙ at-free-own-cell .free-own-cell .ensures)
+    (sym (at-none-made .none-made .ensures) ∙ at-if4 .if4 .left) (sym (at-enum-told .enum-told .given .1) ∙ at-free-own-cell .free-own-cell .ensures)
     (c .no-row5 .ensures)
 
 returns-6 : tie.Need-returns-6

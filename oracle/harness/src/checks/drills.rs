@@ -188,15 +188,20 @@ fn end_of_input() -> Outcome {
     Ok(())
 }
 
-/// The reference and the second statement print the same for random logs, which stop for every reason.
+/// The reference and the second statement print the same for random logs, which stop for every reason; those without 13 do not stop.
 fn random_logs() -> Outcome {
     let mut reasons = BTreeSet::new();
     for seed in 1..=200 {
-        let log = log(seed, 60 + (seed as usize % 5) * 60);
-        let (out, stopped) = run(Reference::new(Sizes::DRILL), &log);
-        let (other, _) = run(Rules::new(Sizes::DRILL), &log);
+        let records = 60 + (seed as usize % 5) * 60;
+        let made = log(seed, records, true);
+        let (out, stopped) = run(Reference::new(Sizes::DRILL), &made.log);
+        let (other, _) = run(Rules::new(Sizes::DRILL), &made.log);
         holds(out == other, &format!("log {seed} differs"))?;
+        same(stopped, made.stopped)?;
         reasons.extend(stopped);
+        let whole = log(seed, records, false);
+        let (_, stopped) = run(Rules::new(Sizes::DRILL), &whole.log);
+        same((whole.records, stopped), (records, None))?;
     }
     same(reasons.into_iter().collect(), Stopped::ALL.to_vec())
 }

@@ -2,7 +2,7 @@
 
 use super::pool::secret_of;
 use super::{Generator, Profile};
-use crate::drill::Drill;
+use crate::drill::{Drill, Stopped};
 use post::{Areas, Call, Envelope, Kind, Post, Sizes, Verification};
 use rules::Rules;
 
@@ -103,7 +103,12 @@ impl Generator {
                     ciphertext: vec![0; 48].into(),
                 },
             });
-            self.opening.push_back(Call::Tomb { areas, peer, tag, secret });
+            self.opening.push_back(Call::Tomb {
+                areas,
+                peer,
+                tag,
+                secret,
+            });
         }
     }
 
@@ -147,22 +152,36 @@ impl Generator {
     }
 }
 
-/// A log of at most so many records. Half of the logs end in a record that meets 13.
-pub fn log(seed: u64, records: usize) -> Vec<u8> {
+/// A log, how many records it has, and why it ends in one that meets 13, if it does.
+pub struct Made {
+    pub log: Vec<u8>,
+    pub records: usize,
+    pub stopped: Option<Stopped>,
+}
+
+/// A log of at most so many records. Half of the logs end in a record that meets 13, unless that is not wanted: then one that would
+/// meet it is left out, and another is taken.
+pub fn log(seed: u64, records: usize, refused: bool) -> Made {
     let mut generator = Generator::for_logs(seed);
     let mut drill = Drill::new(Rules::new(Sizes::DRILL));
-    let mut log = Vec::new();
-    for place in 0..records {
+    let mut made = Made {
+        log: Vec::new(),
+        records: 0,
+        stopped: None,
+    };
+    while made.records < records && made.stopped.is_none() {
         let mut record = generator.log_record(&mut drill.post);
-        let last = place + 1 == records;
-        if last && generator.rng.percent(60) {
+        let last = made.records + 1 == records;
+        if refused && last && generator.rng.percent(60) {
             record = generator.damaged(record);
         }
         drill.feed(&record);
-        log.extend_from_slice(&record);
-        if drill.stopped.is_some() {
-            break;
+        if !refused && drill.stopped.take().is_some() {
+            continue;
         }
+        made.stopped = drill.stopped;
+        made.records += 1;
+        made.log.extend_from_slice(&record);
     }
-    log
+    made
 }

@@ -132,7 +132,6 @@ impl Generator {
     }
 
     /// A call of this kind.
-    #[cfg(feature = "library")]
     pub fn of_kind(&mut self, kind: Kind, state: &State) -> Call {
         self.call(kind, state)
     }

@@ -144,3 +144,68 @@ fn every_call_answers_on_any_bytes() {
         "{offered} {changed} {read}"
     );
 }
+
+/// Areas of one cell more than count, with an own row and a carried row that name these cells; and the own row's tag.
+fn naming(own: u16, carried: u16) -> (Areas, Tag) {
+    let most = Sizes {
+        carried_cells: MAX_ROWS,
+        own_cells: MAX_ROWS,
+        ..SIZES
+    };
+    let mut post = sized(most);
+    let row = post.own_envelope(message(UNVERIFIED, 1, 7));
+    let own_tag = row.unwrap().unwrap().tag;
+    carry(&mut post, UNVERIFIED, envelope(2, 4));
+    let mut areas = post.into_areas();
+    areas.own_cells = vec![0x0e; (MAX_ROWS + 1) * CELL].into();
+    areas.carried_cells = vec![0xc7; (MAX_ROWS + 1) * CELL].into();
+    areas.own[52..54].copy_from_slice(&own.to_be_bytes());
+    areas.carried[55..57].copy_from_slice(&carried.to_be_bytes());
+    (areas, own_tag)
+}
+
+/// The ciphertexts of the two rows, fetched and offered.
+fn ciphertexts(own: u16, carried: u16) -> [Vec<u8>; 4] {
+    let (areas, own_tag) = naming(own, carried);
+    let mut post = Post::over(areas).unwrap();
+    let fetched = [own_tag, tag(2)].map(|tag| {
+        post.fetch(VERIFIED, tag)
+            .unwrap()
+            .unwrap()
+            .ciphertext
+            .to_vec()
+    });
+    let mut exchange = Exchange::closed();
+    post.fresh_exchange(&mut exchange, VERIFIED).unwrap();
+    let Record::Taken(replies) = post
+        .inventory(&mut exchange, VERIFIED, &Window::EMPTY, &[])
+        .unwrap()
+    else {
+        panic!("malformed");
+    };
+    let offered = replies.map(|reply| match reply {
+        Reply::Envelope(envelope) => envelope.ciphertext.to_vec(),
+        other => panic!("{other:?}"),
+    });
+    let all: Vec<_> = fetched.into_iter().chain(offered).collect();
+    all.try_into().unwrap()
+}
+
+#[test]
+fn a_row_of_a_cell_that_does_not_count_has_no_ciphertext() {
+    let (own, carried, none) = (vec![0x0e; 80], vec![0xc7; 48], Vec::new());
+    assert_eq!(
+        ciphertexts(255, 255),
+        [&own, &carried, &own, &carried].map(Vec::clone)
+    );
+    for cell in [256, 257, 65_279, 65_280, 65_535] {
+        assert_eq!(
+            ciphertexts(cell, 0),
+            [&none, &carried, &none, &carried].map(Vec::clone)
+        );
+        assert_eq!(
+            ciphertexts(0, cell),
+            [&own, &none, &own, &none].map(Vec::clone)
+        );
+    }
+}
