@@ -1,5 +1,5 @@
 /*
- * goosetable.h: the courier holdings of a wall post, as libgoosetable.a has them.
+ * goosetable.h: the courier holdings of a wall post, as libgoosetable.a has them. CHANGELOG.md says what is new in each version.
  *
  * The library is for x86-64 with the System V calling convention. It allocates nothing, takes no lock, calls nothing but memcpy, memmove and
  * memset, and keeps nothing between calls: all that a post has lies in areas that the host lends, so that posts with areas of their own may run
@@ -48,7 +48,7 @@
  * alone: with fewer, 4 comes where the code would be Accepted, and the peer gets no code.
  *
  * The functions at the end read all of this: fields of the device, of an exchange, of rows and bodies, the ciphertext of a reply's envelope, and
- * the names of what calls say. Whatever the areas hold, they read nothing outside them.
+ * the names of what calls say; one writes a window row. Whatever the areas hold, they read nothing outside them.
  *
  * Each call's comment has what it does, what it writes, and the refusals in the order in which they are tested; the areas behind 1 are those
  * that 1 speaks of, each asked for whole. "Stack" is what the call takes below its caller's frame, its return address included:
@@ -122,7 +122,12 @@ extern "C" {
 
 /* ---- numbers by name */
 
-/* What a call says: done, why it is refused (1 to 13), or one of the last four. */
+/*
+ * What a call says: done, why it is refused (1 to 13), or one of the last four.
+ *
+ * Document 01 has 13 as "(program only)", for a record of a log. The library says it too: of a contact for which no row is left (a 257th), and of a
+ * byte that is no code, no verification or neither 0 nor 1 for enabled. No other number fits: 2 would claim an unknown contact.
+ */
 enum goosetable_said {
     GOOSETABLE_DONE = 0,
     GOOSETABLE_REFUSED_SHORT_AREA = 1,            /* the reply, exchange, action, answer, blob or file area is shorter than above */
@@ -305,7 +310,7 @@ goosetable_answer goosetable_envelope(
  * envelope. It takes no copies off.
  * Writes: replies.
  * Refused by: 1 (replies), 2.
- * Stack: 3,224 bytes.
+ * Stack: 3,560 bytes.
  */
 goosetable_answer goosetable_fetch(
     const uint8_t device[GOOSETABLE_DEVICE_SIZE],
@@ -328,7 +333,7 @@ goosetable_answer goosetable_fetch(
  * there.
  * Writes: device, own, own_cells, row.
  * Refused by: 12, 2, 10, 11, 4.
- * Stack: 4,184 bytes.
+ * Stack: 5,256 bytes.
  */
 goosetable_answer goosetable_own_envelope(
     uint8_t device[GOOSETABLE_DEVICE_SIZE],
@@ -375,7 +380,7 @@ goosetable_answer goosetable_inventory_of_ours(
  * the terminator.
  * Writes: exchange, prefixes, offers, replies.
  * Refused by: 1 (replies, prefixes, offers), 12, 2, 3.
- * Stack: 3,336 bytes.
+ * Stack: 3,672 bytes.
  */
 goosetable_answer goosetable_inventory(
     const uint8_t device[GOOSETABLE_DEVICE_SIZE],
@@ -449,7 +454,7 @@ goosetable_answer goosetable_stored_tombstone(
  * goosetable_stored_tombstone. A wrong secret is MALFORMED; an unknown tag changes nothing, and is DONE.
  * Writes: device, own, carried, tombstones, actions.
  * Refused by: 1 (actions), 2, 5, 6.
- * Stack: 3,448 bytes.
+ * Stack: 3,784 bytes.
  */
 goosetable_answer goosetable_tomb(
     uint8_t device[GOOSETABLE_DEVICE_SIZE],
@@ -581,8 +586,8 @@ goosetable_answer goosetable_load(
  * The message keys of one contact that a receiver could still derive, as key rows, and in length how many: the skipped keys (key rows) first, then
  * the chains (chain rows) last to first, each from its next on, 500 at most. In this order the keys need not rise, and rows of it that are lent as
  * they stand meet 12. For a window the host makes of each key row (6 bytes) a window row (30): the contact, the key row as it stands, the key's
- * tag. It puts the window rows of all contacts together, sorts them by their first 14 bytes (contact, direction, generation, index) as memcmp
- * compares them, and keeps one of each key.
+ * tag, which goosetable_route_tag gives; goosetable_window_row_put writes it. It puts the window rows of all contacts together, sorts them by
+ * their first 14 bytes (contact, direction, generation, index) as memcmp compares them, and keeps one of each key.
  * Writes: answer.
  * Refused by: 1 (answer), 12.
  * Stack: 56 bytes.
@@ -596,6 +601,39 @@ goosetable_answer goosetable_window(
     size_t answer_len);
 
 /*
+ * The tag of a message key: what envelopes are known by, on the way and in the window. The route key is the contact's: 32 bytes that both ends
+ * have from their pairing, the same for all their messages. Direction, generation and index name one message key of theirs: they are the fields of
+ * a key row of goosetable_window, and what goosetable_own_envelope is told, which makes its row's tag in the same way. A generation is one chain
+ * of keys, the index counts along it.
+ * Writes: tag.
+ * Refused by: 12.
+ * Stack: 4,776 bytes.
+ */
+goosetable_answer goosetable_route_tag(
+    const uint8_t key[GOOSETABLE_KEY_SIZE],
+    uint8_t dir,
+    uint8_t generation,
+    uint32_t idx,
+    uint8_t tag[GOOSETABLE_TAG_SIZE]);
+
+/*
+ * The secret s of a message, from the message key that seals and opens it (not the route key). The sender hands it to goosetable_own_envelope, and
+ * whoever opened the message to goosetable_opened: to know it proves that the message arrived.
+ * Writes: s.
+ * Refused by: nothing.
+ * Stack: 6,568 bytes.
+ */
+void goosetable_delivered(const uint8_t key[GOOSETABLE_KEY_SIZE], uint8_t s[GOOSETABLE_TAG_SIZE]);
+
+/*
+ * The commitment c that a secret opens. Envelopes have it, those in replies too: a host makes it only to test a secret against an envelope itself.
+ * Writes: c.
+ * Refused by: nothing.
+ * Stack: 3,400 bytes.
+ */
+void goosetable_commitment(const uint8_t s[GOOSETABLE_TAG_SIZE], uint8_t c[GOOSETABLE_TAG_SIZE]);
+
+/*
  * The held row that a blob is of; kind 0 if it is of none. The blob of a carried row: 0 (1 byte), depositor 8, tag 16, commitment 16, expiry 4,
  * copies 1, and from GOOSETABLE_CARRIED_HEAD on the ciphertext; of a tombstone: 1 (1 byte), tag 16, secret 16, expiry 4.
  * Writes: nothing.
@@ -603,6 +641,37 @@ goosetable_answer goosetable_window(
  * Stack: 352 bytes.
  */
 goosetable_row goosetable_row_read(const uint8_t *blob, size_t blob_len);
+
+/* ---- the version */
+
+/* Of header and library alike. The first two numbers change whenever a struct, a size, what a number means or a function's parameters do. */
+#define GOOSETABLE_VERSION "0.2.0"
+#define GOOSETABLE_VERSION_MAJOR 0
+#define GOOSETABLE_VERSION_MINOR 2
+#define GOOSETABLE_VERSION_PATCH 0
+
+/*
+ * The version of the library: major * 10,000 + minor * 100 + patch. Its name has the first two numbers.
+ * Writes: nothing.
+ * Refused by: nothing.
+ * Stack: 8 bytes.
+ */
+uint32_t goosetable_version_0_2(void);
+
+/*
+ * Every file that includes this header refers to that function, by a pointer that nothing reads: what was compiled with a header of other first two
+ * numbers does not link with the library ("undefined reference to goosetable_version_..."), where it would else lend areas that the library reads
+ * in another way. The attributes hold the pointer against a compiler and a linker (--gc-sections) that leave out what is not used.
+ */
+#if defined __has_attribute
+#if __has_attribute(retain)
+#define GOOSETABLE_KEPT __attribute__((used, retain))
+#endif
+#endif
+#ifndef GOOSETABLE_KEPT
+#define GOOSETABLE_KEPT __attribute__((used))
+#endif
+static uint32_t (*const goosetable_version_linked)(void) GOOSETABLE_KEPT = goosetable_version_0_2;
 
 /* ---- reading answers, the device, an exchange and rows */
 
@@ -708,10 +777,29 @@ static inline const uint8_t *goosetable_bad_tag_tag(const uint8_t *row) { return
 static inline const uint8_t *goosetable_offer_tag(const uint8_t *row) { return row; }
 static inline uint8_t goosetable_offer_copies(const uint8_t *row) { return row[16]; }
 
-/* A key row of goosetable_window, from which the host derives the key's tag. */
+/* A key row of goosetable_window: what goosetable_route_tag needs beside the contact's route key. */
 static inline uint8_t goosetable_key_direction(const uint8_t *row) { return row[0]; }
 static inline uint8_t goosetable_key_generation(const uint8_t *row) { return row[1]; }
 static inline uint32_t goosetable_key_index(const uint8_t *row) { return (uint32_t)goosetable_number(row + 2, 4); }
+
+/* A window row. Its key row is the 6 bytes from byte 8 on. */
+static inline uint64_t goosetable_window_contact(const uint8_t *row) { return goosetable_number(row, 8); }
+static inline uint8_t goosetable_window_direction(const uint8_t *row) { return row[8]; }
+static inline uint8_t goosetable_window_generation(const uint8_t *row) { return row[9]; }
+static inline uint32_t goosetable_window_index(const uint8_t *row) { return (uint32_t)goosetable_number(row + 10, 4); }
+static inline const uint8_t *goosetable_window_tag(const uint8_t *row) { return row + 14; }
+
+/* Writes a window row: the contact, a key row of goosetable_window as it stands, the tag that goosetable_route_tag gives for it. */
+static inline void goosetable_window_row_put(uint8_t *row, uint64_t contact, const uint8_t *key, const uint8_t *tag)
+{
+    size_t i;
+    for (i = 0; i < 8; i++)
+        row[i] = (uint8_t)(contact >> (56 - 8 * i));
+    for (i = 0; i < GOOSETABLE_KEY_ROW; i++)
+        row[8 + i] = key[i];
+    for (i = 0; i < GOOSETABLE_TAG_SIZE; i++)
+        row[14 + i] = tag[i];
+}
 
 /* Reply row i of an area: its kind, its cell, its body of GOOSETABLE_BODY_SIZE bytes. */
 static inline uint8_t goosetable_reply_kind(const uint8_t *replies, size_t i)

@@ -5,6 +5,7 @@ mod cases;
 mod envelopes;
 mod flat;
 mod hashes;
+mod keys;
 mod library;
 mod measured;
 mod pair;
@@ -14,15 +15,20 @@ mod timing;
 use std::env::args;
 use std::process::exit;
 
-const PARTS: [(&str, fn()); 4] =
-    [("hashes", hashes::run), ("tags", tags::run), ("envelopes", envelopes::run), ("calls", measured::run)];
+const PARTS: [(&str, fn()); 5] = [
+    ("hashes", hashes::run),
+    ("keys", keys::run),
+    ("tags", tags::run),
+    ("envelopes", envelopes::run),
+    ("calls", measured::run),
+];
 
 /// The parts that are named, or all of them.
 fn main() {
     let named: Vec<String> = args().skip(1).collect();
     let known = |name: &String| PARTS.iter().any(|(part, _)| part == name);
     if let Some(name) = named.iter().find(|name| !known(name)) {
-        eprintln!("bench: no part '{name}'; there are hashes, tags, envelopes, calls");
+        eprintln!("bench: no part '{name}'; there are hashes, keys, tags, envelopes, calls");
         exit(2);
     }
     for (part, run) in PARTS {

@@ -1,6 +1,6 @@
 /*
- * Tests of the header's readers on what calls left: each value beside the one that the calls were given, or that the call itself says; and of how a
- * window is made. It prints how many were compared, or the first that differs.
+ * Tests of the header's readers on what calls left: each value beside the one that the calls were given, or that the call itself says; of tags,
+ * secrets and commitments; and of how a window is made. It prints how many were compared, or the first that differs.
  */
 #include "post.h"
 
@@ -54,6 +54,32 @@ static void said(const char *what, goosetable_answer a, uint8_t expected)
         fprintf(stderr, "said %d (%s), expected %d (%s)\n", a.said, goosetable_said_name(a.said), expected, goosetable_said_name(expected));
         differs(what);
     }
+}
+
+/* ---- functions of their inputs alone */
+
+/* Two tags of the key above, its secret and that one's commitment, as Python's hmac and hashlib compute them by the formulas of docs/HOST.md. */
+static const uint8_t tag_of_7[] = {0x6f, 0xdd, 0x68, 0x75, 0xff, 0xc7, 0xc3, 0xad, 0x3d, 0xca, 0x87, 0x7e, 0xdc, 0x77, 0x13, 0x31};
+static const uint8_t tag_of_last[] = {0xe2, 0xc9, 0x9c, 0xbc, 0xff, 0x9f, 0xe8, 0x3b, 0x3a, 0x7a, 0xea, 0x28, 0x2e, 0xff, 0x48, 0xf7};
+static const uint8_t secret_of_key[] = {0x90, 0x56, 0xec, 0xbc, 0x42, 0xfb, 0x9a, 0x6c, 0x07, 0x57, 0xe2, 0x52, 0xdb, 0x8a, 0xbf, 0xc4};
+static const uint8_t commitment_of_secret[] = {0xdc, 0xc9, 0x29, 0xaf, 0x93, 0xb3, 0xb0, 0x77, 0xcf, 0xf1, 0x96, 0x23, 0xb2, 0xd1, 0x34, 0x4e};
+
+static void compute(void)
+{
+    uint8_t *made = area(GOOSETABLE_TAG_SIZE);
+    said("a tag", goosetable_route_tag(key, GOOSETABLE_DIRECTION_I, 0, 7, made), GOOSETABLE_DONE);
+    are("it is", made, tag_of_7, GOOSETABLE_TAG_SIZE);
+    said("the last tag", goosetable_route_tag(key, GOOSETABLE_DIRECTION_R, 255, 0xffffffff, made), GOOSETABLE_DONE);
+    are("it is", made, tag_of_last, GOOSETABLE_TAG_SIZE);
+    said("a direction that is none", goosetable_route_tag(key, 'i', 0, 7, made), GOOSETABLE_REFUSED_WINDOW_ROWS);
+    are("the area stays", made, tag_of_last, GOOSETABLE_TAG_SIZE);
+    goosetable_delivered(key, made);
+    are("a secret", made, secret_of_key, GOOSETABLE_TAG_SIZE);
+    goosetable_commitment(secret_of_key, made);
+    are("its commitment", made, commitment_of_secret, GOOSETABLE_TAG_SIZE);
+    is("the version", goosetable_version_linked(),
+       GOOSETABLE_VERSION_MAJOR * 10000 + GOOSETABLE_VERSION_MINOR * 100 + GOOSETABLE_VERSION_PATCH);
+    free(made);
 }
 
 /* ---- the device and its tables */
@@ -115,9 +141,11 @@ static void own_envelope(uint32_t msgno, uint16_t length, uint8_t *row)
 
 static void add_own(uint32_t msgno, uint16_t length, uint16_t cell)
 {
-    uint8_t *row = area(GOOSETABLE_OWN_ROW);
+    uint8_t *row = area(GOOSETABLE_OWN_ROW), made[GOOSETABLE_TAG_SIZE];
     const uint8_t *held = post.own + goosetable_device_own(post.device) * GOOSETABLE_OWN_ROW;
     own_envelope(msgno, length, row);
+    said("its tag", goosetable_route_tag(key, GOOSETABLE_DIRECTION_R, 3, msgno, made), GOOSETABLE_DONE);
+    are("own tag", goosetable_own_tag(row), made, GOOSETABLE_TAG_SIZE);
     read_own(row, msgno, length, cell, 0);
     read_own(held, msgno, length, cell, 0);
     are("own tag", goosetable_own_tag(held), goosetable_own_tag(row), GOOSETABLE_TAG_SIZE);
@@ -264,12 +292,25 @@ static int by_key(const void *a, const void *b)
     return memcmp(a, b, 14);
 }
 
+static void put_window_row(uint8_t *row, const uint8_t *key_row)
+{
+    uint8_t made[GOOSETABLE_TAG_SIZE];
+    said("a key's tag", goosetable_route_tag(key, goosetable_key_direction(key_row), goosetable_key_generation(key_row),
+                                             goosetable_key_index(key_row), made), GOOSETABLE_DONE);
+    goosetable_window_row_put(row, PEER, key_row, made);
+    is("window contact", goosetable_window_contact(row), PEER);
+    is("window direction", goosetable_window_direction(row), goosetable_key_direction(key_row));
+    is("window generation", goosetable_window_generation(row), goosetable_key_generation(key_row));
+    is("window index", goosetable_window_index(row), goosetable_key_index(key_row));
+    are("window tag", goosetable_window_tag(row), made, GOOSETABLE_TAG_SIZE);
+}
+
 /* The keys of two chains as window rows: refused as the window call lists them, and taken when they are sorted. */
 static void sort_window(void)
 {
     static const uint8_t chains[2 * GOOSETABLE_CHAIN_ROW] = {'I', 0, 0, 0, 0, 0, 0, 0, 0, 7, 'I', 1, 0, 0, 0, 0, 0xff, 0xff, 0xff, 0xfe};
-    struct envelope e = envelope(tags[3], 48);
-    uint8_t *keys = area(GOOSETABLE_KEYS_SIZE), *row;
+    struct envelope e;
+    uint8_t *keys = area(GOOSETABLE_KEYS_SIZE), of_first[GOOSETABLE_TAG_SIZE];
     goosetable_answer a = goosetable_window((const uint8_t *)"", 0, chains, sizeof chains, keys, GOOSETABLE_KEYS_SIZE);
     size_t i;
     is("keys", a.length, 500);
@@ -279,12 +320,11 @@ static void sort_window(void)
     is("index of the last", goosetable_key_index(keys + 499 * GOOSETABLE_KEY_ROW), 7 + 497);
     free(post.window);
     post.window_len = GOOSETABLE_WINDOW_SIZE(a.length);
-    post.window = row = area(post.window_len);
-    for (i = 0; i < a.length; i++, row += GOOSETABLE_WINDOW_ROW) {
-        memcpy(row, post.contacts, 8);
-        memcpy(row + 8, keys + i * GOOSETABLE_KEY_ROW, GOOSETABLE_KEY_ROW);
-        memcpy(row + 14, i ? tags[0] : tags[3], GOOSETABLE_TAG_SIZE);
-    }
+    post.window = area(post.window_len);
+    for (i = 0; i < a.length; i++)
+        put_window_row(post.window + i * GOOSETABLE_WINDOW_ROW, keys + i * GOOSETABLE_KEY_ROW);
+    memcpy(of_first, goosetable_window_tag(post.window), GOOSETABLE_TAG_SIZE);
+    e = envelope(of_first, 48);
     said("as listed", post_envelope(&post, PEER, &e), GOOSETABLE_REFUSED_WINDOW_ROWS);
     qsort(post.window, a.length, GOOSETABLE_WINDOW_ROW, by_key);
     a = post_envelope(&post, PEER, &e);
@@ -360,6 +400,7 @@ int main(void)
         own_ct[i] = (uint8_t)(255 - i);
     post_open(&post, "post", 0);
     exchange_open(&exchange);
+    compute();
     set_up();
     add_own(7, 48, 0);
     add_own(8, 80, 1);

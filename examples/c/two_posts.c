@@ -10,8 +10,9 @@
 #include <stdlib.h>
 #include <string.h>
 
+/* What both phones have: the route key of the pair, and the key that seals and opens message 1. */
 static const uint8_t route_key[GOOSETABLE_KEY_SIZE] = "the key of this pair of phones";
-static const uint8_t secret[GOOSETABLE_TAG_SIZE] = "it was delivered";
+static const uint8_t message_key[GOOSETABLE_KEY_SIZE] = "the key that seals this message";
 static const uint8_t ciphertext[48] = "sealed by the sender, opened by the recipient";
 
 /* The most prefixes that are sent in one list. */
@@ -21,6 +22,21 @@ static struct post sender, recipient, post_a, post_b;
 
 /* ---- a meeting */
 
+/* An envelope that was ours was opened: the message key gives its secret, and the tomb goes back. */
+static void open_envelope(struct post *from, struct post *to, const struct envelope *e)
+{
+    const uint8_t *tag = goosetable_body_tag(e->header);
+    uint8_t secret[GOOSETABLE_TAG_SIZE], commitment[GOOSETABLE_TAG_SIZE];
+    goosetable_delivered(message_key, secret);
+    goosetable_commitment(secret, commitment);
+    begin(to, "its secret");
+    printf("%s\n", goosetable_same_tag(commitment, goosetable_body_commitment(e->header)) ? "opens the commitment" : "is another's");
+    begin(to, "opened it");
+    end(to, post_opened(to, from->id, tag, secret, goosetable_body_expiry(e->header)));
+    begin(from, "tomb of %s", to->name);
+    end(from, post_tomb(from, to->id, tag, goosetable_body_secret(goosetable_reply_body(to->replies, 0))));
+}
+
 /* An envelope arrives: the code for one of the offers goes back, or the tomb of one that was ours. */
 static void hand_envelope(struct post *from, struct post *to, struct exchange *offers, const struct envelope *e)
 {
@@ -29,11 +45,7 @@ static void hand_envelope(struct post *from, struct post *to, struct exchange *o
     begin(to, "envelope of %s, %zu bytes", from->name, e->ct_len);
     end(to, a);
     if (a.said == GOOSETABLE_OURS) {
-        a = post_opened(to, from->id, tag, secret, goosetable_body_expiry(e->header));
-        begin(to, "opened it");
-        end(to, a);
-        begin(from, "tomb of %s", to->name);
-        end(from, post_tomb(from, to->id, tag, goosetable_body_secret(reply)));
+        open_envelope(from, to, e);
     } else if (a.said == GOOSETABLE_DONE && offers) {
         a = post_custody_code(from, offers, to->id, tag, goosetable_body_code(reply));
         begin(from, "custody code of %s", to->name);
@@ -126,35 +138,62 @@ static void meet(struct post *answers, struct post *lists)
 
 /* ---- the phones */
 
-/* The sender queues message 1 for the recipient; the recipient lends a window row of the key that opens it. */
+/* The sender queues message 1 for the recipient, under key 7 of the first chain. */
 static void write_message(void)
 {
-    static const uint8_t chain[GOOSETABLE_CHAIN_ROW] = {GOOSETABLE_DIRECTION_I, 0, 0, 0, 0, 0, 0, 0, 0, 7};
-    uint8_t *row = area(GOOSETABLE_OWN_ROW), *keys = area(GOOSETABLE_KEYS_SIZE);
-    goosetable_answer a = goosetable_own_envelope(sender.device, recipient.id, 1, route_key, GOOSETABLE_DIRECTION_I, 0, 7, secret,
-                                                  ciphertext, sizeof ciphertext, sender.contacts, sender.own,
-                                                  sender.own_cells, GOOSETABLE_CELLS_SIZE(CELLS), row);
+    uint8_t secret[GOOSETABLE_TAG_SIZE], commitment[GOOSETABLE_TAG_SIZE], *row = area(GOOSETABLE_OWN_ROW);
+    goosetable_answer a;
+    goosetable_delivered(message_key, secret);
+    a = goosetable_own_envelope(sender.device, recipient.id, 1, route_key, GOOSETABLE_DIRECTION_I, 0, 7, secret, ciphertext, sizeof ciphertext,
+                                sender.contacts, sender.own, sender.own_cells, GOOSETABLE_CELLS_SIZE(CELLS), row);
     begin(&sender, "own envelope for %s", recipient.name);
     end(&sender, a);
     begin(&sender, "its row");
     tag(goosetable_own_tag(row));
     printf(", copies %d, expiry %" PRIu32 "\n", goosetable_own_copies(row), goosetable_own_expiry(row));
-
-    a = goosetable_window((const uint8_t *)"", 0, chain, sizeof chain, keys, GOOSETABLE_KEYS_SIZE);
-    begin(&recipient, "window of a chain from index 7");
-    end_with(a, "keys");
-    /*
-     * A phone derives the tag of every key from the route key, and sorts the window rows of all contacts by their first 14 bytes. The first key's
-     * tag is the sender's, and its row is all that is lent here.
-     */
-    free(recipient.window);
-    recipient.window_len = GOOSETABLE_WINDOW_SIZE(1);
-    recipient.window = area(recipient.window_len);
-    memset(recipient.window, 0, 8);
-    recipient.window[7] = (uint8_t)sender.id;
-    memcpy(recipient.window + 8, keys, GOOSETABLE_KEY_ROW);
-    memcpy(recipient.window + 14, goosetable_own_tag(row), GOOSETABLE_TAG_SIZE);
+    goosetable_commitment(secret, commitment);
+    begin(&sender, "its commitment");
+    tag(commitment);
+    putchar('\n');
     free(row);
+}
+
+/* Window rows by their key: contact, direction, generation, index. */
+static int by_key(const void *a, const void *b)
+{
+    return memcmp(a, b, 8 + GOOSETABLE_KEY_ROW);
+}
+
+/* A window row of each key row, in rising order. The keys are of one contact here. */
+static void make_window(struct post *p, uint64_t contact, const uint8_t *keys, size_t count)
+{
+    uint8_t tag[GOOSETABLE_TAG_SIZE];
+    size_t i;
+    free(p->window);
+    p->window_len = GOOSETABLE_WINDOW_SIZE(count);
+    p->window = area(p->window_len);
+    for (i = 0; i < count; i++) {
+        const uint8_t *key = keys + i * GOOSETABLE_KEY_ROW;
+        goosetable_route_tag(route_key, goosetable_key_direction(key), goosetable_key_generation(key), goosetable_key_index(key), tag);
+        goosetable_window_row_put(p->window + i * GOOSETABLE_WINDOW_ROW, contact, key, tag);
+    }
+    qsort(p->window, count, GOOSETABLE_WINDOW_ROW, by_key);
+}
+
+/* The recipient expects messages of the sender: key 3 of the chain was skipped, and 7 is its next. */
+static void expect_messages(void)
+{
+    static const uint8_t skipped[GOOSETABLE_KEY_ROW] = {GOOSETABLE_DIRECTION_I, 0, 0, 0, 0, 3};
+    static const uint8_t chain[GOOSETABLE_CHAIN_ROW] = {GOOSETABLE_DIRECTION_I, 0, 0, 0, 0, 0, 0, 0, 0, 7};
+    uint8_t *keys = area(GOOSETABLE_KEYS_SIZE);
+    goosetable_answer a = goosetable_window(skipped, sizeof skipped, chain, sizeof chain, keys, GOOSETABLE_KEYS_SIZE);
+    begin(&recipient, "window of a skipped key and a chain");
+    end_with(a, "keys");
+    make_window(&recipient, sender.id, keys, a.length);
+    begin(&recipient, "its second row");
+    tag(goosetable_window_tag(recipient.window + GOOSETABLE_WINDOW_ROW));
+    printf(", contact %" PRIu64 ", index %" PRIu32 "\n", goosetable_window_contact(recipient.window + GOOSETABLE_WINDOW_ROW),
+           goosetable_window_index(recipient.window + GOOSETABLE_WINDOW_ROW));
     free(keys);
 }
 
@@ -218,6 +257,7 @@ int main(void)
     post_contact(&post_b, &recipient, GOOSETABLE_UNVERIFIED);
 
     write_message();
+    expect_messages();
     meet(&sender, &post_a);
     meet(&post_a, &post_b);
     restart(&post_a, &sender, &post_b);

@@ -147,6 +147,28 @@ static void call_window(void)
     answer = CALL(window)(full.skipped, GOOSETABLE_KEY_ROW * 100, LENT(chains), LENT(keys));
 }
 
+static void call_route_tag(void)
+{
+    answer = CALL(route_tag)(full.key, GOOSETABLE_DIRECTION_R, 255, 0xffffffff, full.tag);
+}
+
+static void call_delivered(void)
+{
+    CALL(delivered)(full.key, full.secret);
+    answer.said = GOOSETABLE_DONE;
+}
+
+static void call_commitment(void)
+{
+    CALL(commitment)(full.secret, full.tag);
+    answer.said = GOOSETABLE_DONE;
+}
+
+static void call_version_0_2(void)
+{
+    answer.said = CALL(version_0_2)() == 0;
+}
+
 static void call_row_read(void)
 {
     held = CALL(row_read)(full.blob, full.file_len);
@@ -268,8 +290,12 @@ static const struct run runs[] = {
     {"save", NULL, call_save, GOOSETABLE_DONE},
     {"load", saved_file, call_load, GOOSETABLE_DONE},
     {"window", NULL, call_window, GOOSETABLE_DONE},
+    {"route_tag", NULL, call_route_tag, GOOSETABLE_DONE},
+    {"delivered", NULL, call_delivered, GOOSETABLE_DONE},
+    {"commitment", NULL, call_commitment, GOOSETABLE_DONE},
     {"row_read", blob_of_carried, call_row_read, GOOSETABLE_DONE},
     {"row_read", blob_of_tombstone, call_row_read, GOOSETABLE_DONE},
+    {"version_0_2", NULL, call_version_0_2, GOOSETABLE_DONE},
 };
 
 static uint8_t *stack;

@@ -64,7 +64,7 @@ route-sent key dir generation i x n r p e =
     let z : n - 0 ≡ n = omega arith in
     ap (λ (k : Key). k .bytes) e ∙ ap (mac key routeLabel) (ap (λ (k : ℕ). take k x) z ∙ p .input)
 
-pub secret-made : (key : List ℕ) (r : Key) → r ≡ keyAs deliveredLabel (kdf key [] deliveredLabel []) → r .bytes ≡ deliveredSecret key
+pub secret-made : (key : List ℕ) (r : Key) → r ≡ keyAs deliveredLabel (kdf key [] deliveredLabel [] 16) → r .bytes ≡ deliveredSecret key
 unfolding keyAs answered deliveredSecret
 secret-made key r e = ap (λ (k : Key). k .bytes) e
 

@@ -28,7 +28,7 @@ routeTag key dir generation idx = mac key routeLabel (routeInput dir generation 
 
 -- `delivered`: KDF(key, no salt, "delivered", no info), 16 bytes
 unfoldable pub deliveredSecret : List ℕ → List ℕ
-deliveredSecret key = kdf key [] deliveredLabel []
+deliveredSecret key = kdf key [] deliveredLabel [] 16
 
 -- `commitment`: the first 16 bytes of H("delivered", s)
 unfoldable pub commitmentOf : List ℕ → List ℕ

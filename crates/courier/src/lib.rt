@@ -77,7 +77,7 @@ pub fn route_tag(key: [u8; 32], dir: Dir, generation: u8, idx: u32) -> [u8; 16]
 pub fn delivered(key: [u8; 32]) -> [u8; 16]
     ensures { λ r. ⌜ r ≡ deliveredSecret key ⌝ }
 {
-    let s = kdf::kdf(&key, b"", b"delivered", b"");
+    let s = kdf::kdf_16(&key, b"", b"delivered", b"");
     s.bytes
 }
 

@@ -1,9 +1,11 @@
 // Reads a log from standard input, and writes its lines to standard output. What it keeps, hands on and puts at the end is `drill_turn`'s.
+ghost use mathlib.Core.Path.{_≡_};
 ghost use Prim.Native.Nat.{_≤_, _<_};
-ghost use lib.ListN.{length};
-ghost use Rattle.drill_turn.specs.Stream.{Inside, Waits, Fed, Stops};
-ghost use Rattle.drill.specs.Reads.{Reads};
-use drill_reason::Reason;
+ghost use lib.ListN.{length, take, replicate};
+ghost use Rattle.drill_run.specs.Drill.{drillStart};
+ghost use Rattle.drill_turn.specs.Stream.{Inside, Waits, Stops};
+ghost use Rattle.drill.specs.Reads.{Reads, Filled};
+ghost use Rattle.drill.specs.Written.{Takes, Writes, toldOf, usage, ranOf, Halts, Finishes, Written};
 use drill_turn::Turn;
 use libc::STDERR_FILENO;
 use libc::STDIN_FILENO;
@@ -31,7 +33,7 @@ fn read_behind(input: &mut [u8], at: usize) -> Got
 // Reads once, if more input is wanted. There is room: what is kept is less than a record and its head, 8,196 bytes.
 fn fill(turn: Turn, input: &mut [u8; 65536]) -> Turn
     requires { ⌜ Waits turn (now input) ⌝ }
-    ensures { λ r. ⌜ Fed turn (now (input .entry)) r (now (input .exit)) ⌝ }
+    ensures { λ r. ⌜ Filled turn (now (input .entry)) r (now (input .exit)) ⌝ }
 {
     if turn.why > drill_turn::MORE {
         return turn;
@@ -43,73 +45,139 @@ fn fill(turn: Turn, input: &mut [u8; 65536]) -> Turn
 
 // ---- writing
 
-// Writes the first n bytes.
-fn write_front(out: &[u8], n: usize) -> bool
-    requires { ⌜ n ≤ length (now out) ⌝ }
-{
-    io::write_all(STDOUT_FILENO, &out[..n])
+// What write took: so many of the bytes that it was handed, and so many in all, modulo 2^64.
+struct Took {
+    n: usize,
+    total: u64,
 }
 
-fn emit(out: &[u8; 655360], n: usize) -> bool
-    requires { ⌜ n ≤ 655360 ⌝ }
+// Hands the bytes to write once. All that the program writes goes through here, but for what `os::fail` says.
+fn write_once(fd: i32, bytes: &[u8], total: u64) -> Took
+    ensures { λ r. ⌜ Takes total (now (bytes .entry)) (r .n) (r .total) ⌝ }
 {
-    if write_front(out, n) {
-        return true;
+    let n = io::count(libc::write(fd, bytes), bytes);
+    let total = drill_turn::further(total, n);
+    Took { n, total }
+}
+
+// Writes the first n bytes in order, and stops at a write that takes none.
+fn write_front(fd: i32, bytes: &[u8], n: usize, total: u64) -> Took
+    requires { ⌜ n ≤ length (now bytes) ⌝ }
+    ensures { λ r. ⌜ Takes total (take n (now (bytes .entry))) (r .n) (r .total) ⌝ }
+{
+    let mut done = 0;
+    let mut sum = total;
+    while done < n {
+        let took = write_once(fd, &bytes[done..n], sum);
+        if took.n == 0 {
+            break;
+        }
+        done += took.n;
+        sum = took.total;
     }
-    os::fail(b"standard output");
-    false
+    Took {
+        n: done,
+        total: sum,
+    }
 }
 
-fn write_number(n: u64) {
-    let mut text = [0u8; 20];
-    let k = io::decimal(n, &mut text);
-    io::write_all(STDERR_FILENO, &text[..k]);
+// So many bytes in all, and whether those that were asked are among them.
+struct Wrote {
+    total: u64,
+    whole: bool,
 }
 
-fn write_reason(reason: Reason) -> bool {
-    match reason {
-        Reason::Mark => io::write_all(STDERR_FILENO, b"unknown mark\n"),
-        Reason::Length => io::write_all(STDERR_FILENO, b"body over 8192 bytes\n"),
-        Reason::Shape => io::write_all(STDERR_FILENO, b"body of wrong shape\n"),
-        Reason::Code => io::write_all(STDERR_FILENO, b"code above 4\n"),
-        Reason::Verification => io::write_all(STDERR_FILENO, b"verification above 2\n"),
-        Reason::Enabled => io::write_all(STDERR_FILENO, b"enabled above 1\n"),
-        Reason::Contacts => io::write_all(STDERR_FILENO, b"a 257th contact\n"),
-        Reason::End => io::write_all(STDERR_FILENO, b"end of input inside it\n"),
+// Writes the first n bytes to standard output, or says that it could not.
+fn emit(out: &[u8; 655360], n: usize, total: u64) -> Wrote
+    requires { ⌜ n ≤ 655360 ⌝ }
+    ensures { λ r. ⌜ Writes total (take n (now (out .entry))) r ⌝ }
+{
+    let took = write_front(STDOUT_FILENO, out, n, total);
+    if took.n < n {
+        os::fail(b"standard output");
+        return Wrote {
+            total: took.total,
+            whole: false,
+        };
+    }
+    Wrote {
+        total: took.total,
+        whole: true,
     }
 }
 
 // Where number 13 stands, and why: the lines do not say it, so standard error does. The first record has number 1, and the log's first byte
 // is byte 0.
-fn tell(turn: Turn, input: &[u8; 65536])
+fn tell(turn: Turn, input: &[u8; 65536]) -> Took
     requires { ⌜ Inside (turn .from) (turn .have) ⌝ }
+    ensures { λ r. ⌜ Takes 0 (toldOf turn (now (input .entry))) (r .n) (r .total) ⌝ }
 {
-    io::write_all(STDERR_FILENO, b"record ");
-    write_number(drill_turn::further(turn.records, 1));
-    io::write_all(STDERR_FILENO, b" at byte ");
-    write_number(drill_turn::further(turn.bytes, turn.from));
-    io::write_all(STDERR_FILENO, b": refused 13: ");
-    write_reason(drill_reason::reason_at(input, turn.from, turn.have));
+    let mut message = [0u8; 96];
+    let number = drill_turn::further(turn.records, 1);
+    let byte = drill_turn::further(turn.bytes, turn.from);
+    let n = drill_reason::message_at(input, turn.from, turn.have, number, byte, &mut message);
+    write_front(STDERR_FILENO, &message, n, 0)
+}
+
+// ---- the run
+
+const UNWRITTEN: u8 = 5; // the output could not be written
+
+// Why a run ended, as `drill_turn` numbers it; how many bytes of the log it read, and how many bytes of lines write took, both modulo 2^64.
+struct Ran {
+    why: u8,
+    read: u64,
+    wrote: u64,
+}
+
+fn ended(turn: Turn, wrote: u64, why: u8) -> Ran
+    ensures { λ r. ⌜ r ≡ ranOf turn wrote why ⌝ }
+{
+    Ran {
+        why,
+        read: drill_turn::further(turn.bytes, turn.have),
+        wrote,
+    }
+}
+
+// After a turn behind which there is none: number 13, or lines that could not be written.
+fn stop(turn: Turn, input: &[u8; 65536], wrote: Wrote) -> Ran
+    requires { ⌜ Inside (turn .from) (turn .have) ⌝ }
+    ensures { λ r. ⌜ Halts turn wrote r ⌝ }
+{
+    if wrote.whole {
+        if turn.why == drill_turn::REFUSED {
+            tell(turn, input);
+            return ended(turn, wrote.total, drill_turn::REFUSED);
+        }
+    }
+    ended(turn, wrote.total, UNWRITTEN)
 }
 
 // The end of the input, or a read that failed.
-fn finish(turn: Turn, input: &[u8; 65536], out: &mut [u8; 655360])
+fn finish(turn: Turn, input: &[u8; 65536], out: &mut [u8; 655360], total: u64) -> Ran
     requires { ⌜ Stops turn (now input) ⌝ }
+    ensures { λ r. ⌜ Finishes turn total r ⌝ }
 {
-    if turn.why == drill_turn::FAILED {
+    if turn.why != drill_turn::ENDED {
         os::fail(b"standard input");
-        return;
+        return ended(turn, total, drill_turn::FAILED);
     }
     let n = drill_turn::at_end(turn, out);
-    if n > 0 {
-        if emit(out, n) {
+    let wrote = emit(out, n, total);
+    if wrote.whole {
+        if n > 0 {
             tell(turn, input);
         }
+        return ended(turn, wrote.total, drill_turn::ENDED);
     }
+    ended(turn, wrote.total, UNWRITTEN)
 }
 
 // Nothing says that the input ends, so the turns are counted down, from a number that no run uses up.
-fn run() {
+fn run() -> Ran
+    ensures { λ r. ⌜ Written (drillStart (replicate 33024 0) (replicate 33024 0)) r ⌝ }
+{
     let mut input = [0u8; 65536];
     let mut out = [0u8; 655360];
     let mut contacts = [0u8; 2304];
@@ -124,13 +192,13 @@ fn run() {
     let mut actions = [0u8; 19968];
     let mut blob = [0u8; 2110];
     let mut turn = drill_turn::start();
+    let mut total = 0;
     let mut turns = u64::MAX;
     while turns > 0 {
         turns -= 1;
         let filled = fill(turn, &mut input);
         if filled.why > drill_turn::REFUSED {
-            finish(filled, &input, &mut out);
-            return;
+            return finish(filled, &input, &mut out, total);
         }
         let next = drill_turn::advance(
             filled,
@@ -148,25 +216,34 @@ fn run() {
             &mut blob,
             &mut out,
         );
-        if emit(&out, next.put) {
-            if next.why > drill_turn::FULL {
-                tell(next, &input);
-                return;
+        let wrote = emit(&out, next.put, total);
+        if next.why < drill_turn::REFUSED {
+            if wrote.whole {
+                turn = next;
+                total = wrote.total;
+                continue;
             }
-            turn = next;
-        } else {
-            return;
         }
+        return stop(next, &input, wrote);
     }
+    ended(turn, total, turn.why)
 }
 
 // ---- how it is used
 
-fn say_use() {
-    io::write_all(
-        STDERR_FILENO,
+// Writes all of a text to standard error.
+fn say(text: &[u8]) -> Took
+    ensures { λ r. ⌜ Takes 0 (now (text .entry)) (r .n) (r .total) ⌝ }
+{
+    write_front(STDERR_FILENO, text, text.len(), 0)
+}
+
+fn say_use() -> Took
+    ensures { λ r. ⌜ Takes 0 usage (r .n) (r .total) ⌝ }
+{
+    say(
         b"usage: drill < LOG\nIt reads a log from standard input and prints a line for each action and reply, and one for each record.\nsamples/README.md tells the format; tools/drill-log makes a log from text.\n",
-    );
+    )
 }
 
 // A log is not typed on a terminal, and the program takes no word.

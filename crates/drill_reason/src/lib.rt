@@ -1,10 +1,12 @@
-// Why number 13 came, told from the bytes at whose front the refused record stands.
+// Why number 13 came, told from the bytes at whose front the refused record stands, and the message that says it.
 ghost use mathlib.Core.Path.{_≡_};
-ghost use Prim.Native.Nat.{_-_, _≤_};
+ghost use Prim.Native.Nat.{_+_, _-_, _≤_};
 ghost use lib.ListN.{length};
 ghost use Rattle.octets.specs.Bytes.{part};
+ghost use Rattle.text.specs.Text.{Puts};
 ghost use Rattle.wire.specs.Log.{markAt, sizeAt, bodyOf};
 ghost use Rattle.drill_reason.specs.Reason.{known, fieldOf, headReason, bodyReason, reasonOf};
+ghost use Rattle.drill_reason.specs.Message.{wordsOf, placeOf, messageOf};
 use wire::Body;
 use wire::Head;
 use wire::Mark;
@@ -96,9 +98,57 @@ fn reason_of(s: &[u8]) -> Reason
 }
 
 // Of the record at input[from], where the bytes that were read end before `end`.
-pub fn reason_at(input: &[u8], from: usize, end: usize) -> Reason
+fn reason_at(input: &[u8], from: usize, end: usize) -> Reason
     requires { ⌜ (from ≤ end) × (end ≤ length (now input)) ⌝ }
     ensures { λ r. ⌜ r ≡ reasonOf (part (now (input .entry)) from (end - from)) ⌝ }
 {
     reason_of(&input[from..end])
+}
+
+// ---- the message
+
+fn put_words(out: &mut [u8], at: usize, reason: Reason) -> usize
+    requires { ⌜ at + 23 ≤ length (now out) ⌝ }
+    ensures { λ r. ⌜ Puts 23 (now (out .entry)) at (wordsOf reason) r (now (out .exit)) ⌝ }
+{
+    match reason {
+        Reason::Mark => text::put_run(out, at, b"unknown mark\n"),
+        Reason::Length => text::put_run(out, at, b"body over 8192 bytes\n"),
+        Reason::Shape => text::put_run(out, at, b"body of wrong shape\n"),
+        Reason::Code => text::put_run(out, at, b"code above 4\n"),
+        Reason::Verification => text::put_run(out, at, b"verification above 2\n"),
+        Reason::Enabled => text::put_run(out, at, b"enabled above 1\n"),
+        Reason::Contacts => text::put_run(out, at, b"a 257th contact\n"),
+        Reason::End => text::put_run(out, at, b"end of input inside it\n"),
+    }
+}
+
+// Which record, from 1, and the byte at which it begins, from 0.
+fn put_place(out: &mut [u8], number: u64, byte: u64) -> usize
+    requires { ⌜ 56 ≤ length (now out) ⌝ }
+    ensures { λ r. ⌜ Puts 56 (now (out .entry)) 0 (placeOf number byte) r (now (out .exit)) ⌝ }
+{
+    let p = text::put_run(out, 0, b"record ");
+    let p = text::put_decimal(out, p, number);
+    let p = text::put_run(out, p, b" at byte ");
+    text::put_decimal(out, p, byte)
+}
+
+// Of the record at input[from], where the bytes that were read end before `end`: the message stands at the front of `out`.
+pub fn message_at(
+    input: &[u8],
+    from: usize,
+    end: usize,
+    number: u64,
+    byte: u64,
+    out: &mut [u8],
+) -> usize
+    requires { ⌜ (from ≤ end) × (end ≤ length (now input)) ⌝ }
+    requires { ⌜ 93 ≤ length (now out) ⌝ }
+    ensures { λ r. ⌜ Puts 93 (now (out .entry)) 0 (messageOf number byte (reasonOf (part (now (input .entry)) from (end - from)))) r (now (out .exit)) ⌝ }
+{
+    let reason = reason_at(input, from, end);
+    let p = put_place(out, number, byte);
+    let p = text::put_run(out, p, b": refused 13: ");
+    put_words(out, p, reason)
 }

@@ -81,6 +81,11 @@ pub record Stays (number : ℕ) (r : Answer) (before after : List (List ℕ)) : 
   pub answer : r ≡ answered number 0 0 0
   pub areas : after ≡ before
 
+-- a call that is done and fills one area
+pub record Fills (made : List ℕ) (r : Answer) (after : List ℕ) : Type 0 where
+  pub answer : r ≡ answered 0 0 0 0
+  pub area : after ≡ made
+
 -- ---- values by their numbers
 
 abbrev pub contactId : ℕ → ContactId

@@ -1,1 +1,2 @@
 pub mod Hosts
+pub mod Version

@@ -5,6 +5,7 @@ ghost use mathlib.Core.List.{[], _∷_};
 ghost use lib.ListN.{length};
 ghost use Rattle.chain.specs.Chain.{dirOf, windowSays, windowArea};
 ghost use Rattle.courier.specs.Courier.{fromCode};
+ghost use Rattle.courier.specs.Tags.{routeTag, deliveredSecret, commitmentOf};
 ghost use Rattle.state.specs.Held.{heldDecode, heldRead};
 ghost use Rattle.wire.specs.Log.{enabledOf, verificationOf, codeRead};
 ghost use Rattle.boundary.specs.Boundary.{FreshArea, deviceKept, deviceRead, exchangeKept, bothKept};
@@ -25,7 +26,8 @@ ghost use Rattle.saved.specs.Saving.{saveSays};
 ghost use Rattle.load.specs.Load.{loadStep};
 ghost use Rattle.load.specs.Laying.{says as loadSays, loadLent};
 ghost use Rattle.host_answers.specs.HostAnswers.{contactAnswer, openedAnswer, envelopeAnswer, fetchedAnswer, ownAnswers, listedAnswer, inventoryAnswer, codeAnswer, storedAnswer, tombAnswer, maintainedAnswer, blobAnswer, saveAnswer, loadAnswer, windowAnswer, rowOf};
-ghost use Rattle.goosetable.specs.Hosts.{Hosts, HostsCall, HostsOwn, alone, OnRead, dirRead, Stays, contactId, headerFrom};
+ghost use Rattle.goosetable.specs.Hosts.{Hosts, HostsCall, HostsOwn, alone, OnRead, dirRead, Stays, Fills, contactId, headerFrom};
+ghost use Rattle.goosetable.specs.Version.{version};
 use boundary::VerificationRead;
 use boundary::device_of;
 use boundary::exchange_of;
@@ -40,6 +42,7 @@ use courier::Custody;
 use courier::CustodyRead;
 use courier::Header;
 use host_answers::Answer;
+use host_answers::DONE;
 use host_answers::Row;
 use host_answers::answer_of;
 use host_answers::blob_answer;
@@ -60,6 +63,9 @@ use host_answers::save_answer;
 use host_answers::stored_answer;
 use host_answers::tomb_answer;
 use host_answers::window_answer;
+
+// 0.2.0 as a number: major * 10,000 + minor * 100 + patch.
+const VERSION: u32 = 200;
 
 // ---- what the host sets
 
@@ -596,10 +602,57 @@ pub extern "C" fn goosetable_window(skipped: &[u8], chains: &[u8], answer: &mut 
     window_answer(chain::window(skipped, chains, answer))
 }
 
+// The tag of a message key. A direction other than `I` and `R` is refused with 12.
+#[no_mangle]
+pub extern "C" fn goosetable_route_tag(
+    key: &[u8; 32],
+    dir: u8,
+    generation: u8,
+    idx: u32,
+    tag: &mut [u8; 16],
+) -> Answer
+    ensures { λ r. ⌜ OnRead (dirRead (dirOf dir)) (λ way. Fills (routeTag (now (key .entry)) way generation idx) r (now (tag .exit)))
+        (Stays 12 r (now (tag .entry) ∷ []) (now (tag .exit) ∷ [])) ⌝ }
+{
+    match Dir::from_label(dir) {
+        DirRead::Is(d) => {
+            *tag = courier::route_tag(*key, d, generation, idx);
+            answer_of(DONE, 0, 0, 0)
+        }
+        DirRead::Neither => answer_of(12, 0, 0, 0),
+    }
+}
+
+// The secret of a message key, which proves that its envelope was delivered.
+#[no_mangle]
+pub extern "C" fn goosetable_delivered(key: &[u8; 32], s: &mut [u8; 16])
+    ensures { λ _. ⌜ now (s .exit) ≡ deliveredSecret (now (key .entry)) ⌝ }
+{
+    *s = courier::delivered(*key);
+}
+
+// The commitment that a secret opens.
+#[no_mangle]
+pub extern "C" fn goosetable_commitment(s: &[u8; 16], c: &mut [u8; 16])
+    ensures { λ _. ⌜ now (c .exit) ≡ commitmentOf (now (s .entry)) ⌝ }
+{
+    *c = courier::commitment(*s);
+}
+
 // A held row as it is in a blob.
 #[no_mangle]
 pub extern "C" fn goosetable_row_read(blob: &[u8]) -> Row
     ensures { λ r. ⌜ r ≡ rowOf (heldRead (heldDecode (now (blob .entry)))) ⌝ }
 {
     row_of(state::decode(blob))
+}
+
+// ---- the version
+
+// Its name has the first two numbers: what was compiled for others does not link.
+#[no_mangle]
+pub extern "C" fn goosetable_version_0_2() -> u32
+    ensures { λ r. ⌜ r ≡ version ⌝ }
+{
+    VERSION
 }

@@ -1,17 +1,24 @@
 -- Labels, and what is made with them. Assumes nothing.
-use mathlib.Core.Path.{_≡_, refl, sym, ap, _∙_}
-use mathlib.Core.List.{List, [], _∷_, _++_, append-assoc, append-nil}
-use Prim.Native.Nat.{ℕ, _+_, _≤_, _<_}
+use mathlib.Core.Path.{_≡_, refl, ap, ap₂, _∙_}
+use mathlib.Core.Bool.{Bool, true, false, cond}
+use mathlib.Core.List.{List, _++_}
+use Prim.Native.Nat.{ℕ, _+_, _-_, _≤_, _<_}
+use native.Mathlib.Nat.{sub-zero}
 use native.Mathlib.Omega.{arith}
-use lib.ListN.{length, take, replicate, length-append}
+use lib.ListN.{length, take, replicate, length-append, length-take}
+use lib.Dec.{leb}
 use borrow.Author.Tests.{le-leb, lt-leb}
-use Rattle.octets.specs.Bytes.{part, splice, be}
+use Rattle.octets.specs.Bytes.{splice, be}
 use Rattle.octets.proofs.Parts.{splice-then, splice-all}
 use Rattle.octets.proofs.Numbers.{length-be}
 use Rattle.sha384.specs.Sha384.{sha384}
-use Rattle.hmac.specs.Hmac.{K0, keyed, hmac}
-use Rattle.hmac.specs.Hkdf.{extract, T, upTo, expand, hkdf}
-use Rattle.kdf.specs.Kdf.{protocol, head, labelled, mac, kdf, hash, longestLabel, answered}
+use Rattle.hmac.specs.Hmac.{hmac}
+use Rattle.hmac.specs.Hkdf.{extract, expand, hkdf}
+use Rattle.kdf.specs.declared.Key.{Key}
+use Rattle.kdf.specs.declared.Digest.{Digest}
+use Rattle.kdf.specs.declared.Made.{Made}
+use Rattle.kdf.specs.declared.Made.the-variants.{Done, LabelTooLong, OutTooLong}
+use Rattle.kdf.specs.Kdf.{protocol, head, labelled, tag, kdf, hash, commitLabel, commit, longestLabel, answered, keyAs, digestAs, told, kept, isDone}
 
 -- ---- the answers
 
@@ -32,25 +39,55 @@ head-written label x y ex ey =
     splice-then (replicate 11 0) x y 0 2 (be 2 (9 + length label)) protocol ex ey (omega arith) (omega arith)
     ∙ splice-all (replicate 11 0) (be 2 (9 + length label) ++ protocol) (length-append (be 2 (9 + length label)) protocol ∙ ap (λ (n : ℕ). n + 9) l)
 
--- ---- what a hasher takes
+-- ---- a lent area: what is answered, and what it holds
 
-pub labelled-behind : (x label : List ℕ) → x ++ head label ++ label ≡ x ++ labelled label
+module _ (label : List ℕ) (most : ℕ) (asked out : List ℕ) where
+  pub done : length label ≤ longestLabel → length out ≤ most → (Done ≡ told label most (length out)) × (asked ≡ kept label most asked out)
+  unfolding told kept
+  done h k = let e = le-leb (length out) most k in (rw e (label-fits label _ _ h), rw e (label-fits label _ _ h))
+
+  pub label-refused : longestLabel < length label → (LabelTooLong ≡ told label most (length out)) × (out ≡ kept label most asked out)
+  unfolding told kept
+  label-refused h = (label-too-long label _ _ h, label-too-long label _ _ h)
+
+  pub out-refused : length label ≤ longestLabel → most < length out → (OutTooLong ≡ told label most (length out)) × (out ≡ kept label most asked out)
+  unfolding told kept
+  out-refused h k = let e = lt-leb (length out) most k in (rw e (label-fits label _ _ h), rw e (label-fits label _ _ h))
+
+-- an area of 16 zeros that was lent, and its answer, are a key by value
+pub key-made : (label key : List ℕ) (most : ℕ) (m : Made) (fits : Bool) (b : List ℕ) → 16 ≤ most → m ≡ told label most 16 → fits ≡ isDone m
+    → b ≡ kept label most key (replicate 16 0) → _≡_ {A = Key} (record { fits = fits; bytes = b }) (keyAs label key)
+unfolding told kept keyAs answered
+key-made label key most m fits b h em ef eb =
+    ap₂ (λ (f : Bool) (x : List ℕ). record { fits = f; bytes = x }) (ef ∙ ap isDone em) eb ∙ rw (le-leb 16 most h) (go (leb (length label) longestLabel))
+  where
+    go : (t : Bool) → _≡_ {A = Key} (record { fits = isDone (cond t Done LabelTooLong); bytes = cond t key (replicate 16 0) })
+        (cond t (record { fits = true; bytes = key }) (record { fits = false; bytes = replicate 16 0 }))
+    go true = refl
+    go false = refl
+
+-- ---- the bytes
+
+-- an area that a digest's front was copied into
+pub front-bytes : (d out out′ : List ℕ) → length d ≡ 48 → length out ≤ 48 → out′ ≡ splice out 0 (take (length out - 0) d) → out′ ≡ take (length out) d
+front-bytes d out out′ ld lo eo =
+    eo ∙ splice-all out (take (length out - 0) d) (omega (arith, length-take (length out - 0) d)) ∙ ap (λ (n : ℕ). take n d) (sub-zero (length out))
+
+pub tag-bytes : (key label x h d out out′ : List ℕ) → h ≡ head label → d ≡ hmac key (h ++ label ++ x) → length d ≡ 48 → length out ≤ 48
+    → out′ ≡ splice out 0 (take (length out - 0) d) → out′ ≡ tag (length out) key label x
 unfolding labelled
-labelled-behind x label = append-assoc x (head label) label
+tag-bytes key label x h d out out′ eh ed ld lo eo =
+    front-bytes d out out′ ld lo eo ∙ ap (take (length out)) (ed ∙ ap (λ (l : List ℕ). hmac key (l ++ label ++ x)) eh)
 
--- ---- sixteen bytes
+pub kdf-bytes : (ikm salt label info h prk out out′ : List ℕ) → h ≡ head label → prk ≡ extract salt ikm
+    → out′ ≡ expand prk (h ++ label ++ info) (length out) → out′ ≡ kdf ikm salt label info (length out)
+unfolding kdf hkdf labelled
+kdf-bytes ikm salt label info h prk out out′ eh ep eo = eo ∙ ap₂ (λ (p l : List ℕ). expand p (l ++ label ++ info) (length out)) ep eh
 
-pub mac-bytes : (key label x k0 d b : List ℕ) → k0 ≡ K0 key → d ≡ keyed k0 (labelled label ++ x ++ []) → b ≡ part d 0 16 → b ≡ mac key label x
-unfolding mac hmac part
-mac-bytes key label x k0 d b ek ed eb =
-    eb ∙ ap (take 16) (ed ∙ (λ i. keyed (ek i) (append-nil (labelled label ++ x) i)))
+pub hash-bytes : (label x h : List ℕ) {b : List ℕ} → h ≡ head label → b ≡ sha384 (h ++ label ++ x) → b ≡ hash label x
+unfolding hash labelled
+hash-bytes label x h eh e = e ∙ ap (λ (l : List ℕ). sha384 (l ++ label ++ x)) eh
 
-pub kdf-bytes : (ikm salt label info prk k0 d b : List ℕ) → prk ≡ extract salt ikm → k0 ≡ K0 prk
-    → d ≡ keyed k0 (labelled label ++ info ++ (1 ∷ [])) → b ≡ part d 0 16 → b ≡ kdf ikm salt label info
-unfolding kdf hkdf expand upTo T hmac part
-kdf-bytes ikm salt label info prk k0 d b ep ek ed eb =
-    eb ∙ ap (take 16) (ed ∙ ap (λ (k : List ℕ). keyed k (labelled label ++ info ++ (1 ∷ []))) (ek ∙ ap K0 ep))
-
-pub hash-bytes : (label x : List ℕ) {b : List ℕ} → b ≡ sha384 (labelled label ++ x) → b ≡ hash label x
-unfolding hash
-hash-bytes label x e = e
+pub commit-bytes : (nonce : List ℕ) (d : Digest) (b : List ℕ) → d ≡ digestAs commitLabel (hash commitLabel nonce) → b ≡ take 32 (d .bytes) → b ≡ commit nonce
+unfolding commit digestAs answered
+commit-bytes nonce d b ed eb = eb ∙ ap (λ (x : Digest). take 32 (x .bytes)) ed

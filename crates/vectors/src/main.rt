@@ -3,6 +3,9 @@
 use libc::STDOUT_FILENO;
 use std::num::wrapping_add_u8;
 
+// What an area holds before it is lent.
+const BEFORE: u8 = 0xa5;
+
 fn say(text: &[u8]) {
     io::write_all(STDOUT_FILENO, text);
 }
@@ -212,6 +215,7 @@ fn hkdf_lengths() {
     hkdf_longest();
 }
 
+// By value: the bytes, or that the label is too long.
 fn key_line(name: &[u8], k: kdf::Key) {
     say(name);
     let bytes = k.bytes;
@@ -233,7 +237,10 @@ fn head_line() {
 fn keys() {
     let key = rising(3, 7);
     key_line(b"mac ", kdf::mac(front(&key, 32), b"route", b"I\x01\x07"));
-    key_line(b"kdf ", kdf::kdf(front(&key, 32), b"", b"delivered", b""));
+    key_line(
+        b"kdf ",
+        kdf::kdf_16(front(&key, 32), b"", b"delivered", b""),
+    );
 }
 
 fn key_with_salt() {
@@ -242,7 +249,7 @@ fn key_with_salt() {
     let info = rising(3, 7);
     key_line(
         b"kdf with salt and info ",
-        kdf::kdf(front(&key, 32), front(&salt, 5), b"mk", front(&info, 40)),
+        kdf::kdf_16(front(&key, 32), front(&salt, 5), b"mk", front(&info, 40)),
     );
 }
 
@@ -254,22 +261,10 @@ fn labelled_hash() {
     say_line(&bytes);
 }
 
-fn long_label() {
-    let key = rising(3, 7);
-    let label = [97u8; 65526];
-    key_line(
-        b"label of 65526 bytes ",
-        kdf::mac(front(&key, 32), &label, b""),
-    );
-}
-
-fn longer_label() {
-    let key = rising(3, 7);
-    let label = [97u8; 65527];
-    key_line(
-        b"label of 65527 bytes ",
-        kdf::mac(front(&key, 32), &label, b""),
-    );
+fn commit_line(name: &[u8], nonce: [u8; 16]) {
+    say(name);
+    let c = kdf::commit(nonce);
+    say_line(&c);
 }
 
 fn labels() {
@@ -278,8 +273,95 @@ fn labels() {
     keys();
     key_with_salt();
     labelled_hash();
-    long_label();
-    longer_label();
+    commit_line(b"commit to zeros ", [0u8; 16]);
+    commit_line(
+        b"commit ",
+        [0, 1, 2, 3, 4, 5, 6, 7, 8, 9, 10, 11, 12, 13, 14, 15],
+    );
+}
+
+// The answer for a lent area.
+fn say_made(made: kdf::Made) {
+    match made {
+        kdf::Made::Done => say(b"done "),
+        kdf::Made::LabelTooLong => say(b"label too long "),
+        kdf::Made::OutTooLong => say(b"too long "),
+    }
+}
+
+// By the length of the area. It holds another byte before the call, which stays where the call is refused.
+fn tag_sized(name: &[u8], label: &[u8], out: &mut [u8]) {
+    let key = rising(3, 7);
+    say(name);
+    say_made(kdf::tag(front(&key, 32), label, b"I\x01\x07", out));
+    say_line(out);
+}
+
+fn tags() {
+    say(b"kdf.rs, tag\n");
+    tag_sized(b"0 ", b"route", &mut [BEFORE; 0]);
+    tag_sized(b"1 ", b"route", &mut [BEFORE; 1]);
+    tag_sized(b"16 ", b"route", &mut [BEFORE; 16]);
+    tag_sized(b"32 ", b"route", &mut [BEFORE; 32]);
+    tag_sized(b"48 ", b"route", &mut [BEFORE; 48]);
+    tag_sized(b"49 ", b"route", &mut [BEFORE; 49]);
+}
+
+fn kdf_of(name: &[u8], label: &[u8], out: &mut [u8]) {
+    let ikm = rising(3, 7);
+    let salt = rising(5, 11);
+    let info = rising(9, 13);
+    say(name);
+    say_made(kdf::kdf(
+        front(&ikm, 32),
+        front(&salt, 5),
+        label,
+        front(&info, 40),
+        out,
+    ));
+}
+
+fn kdf_sized(name: &[u8], label: &[u8], out: &mut [u8]) {
+    kdf_of(name, label, out);
+    say_line(out);
+}
+
+// The longest area and one byte more, by their hashes.
+fn kdf_longest() {
+    let mut out = [BEFORE; 12240];
+    kdf_of(b"12240, its hash ", b"mk", &mut out);
+    hash_line(b"", &out);
+    let mut more = [BEFORE; 12241];
+    kdf_of(b"12241, its hash ", b"mk", &mut more);
+    hash_line(b"", &more);
+}
+
+fn kdfs() {
+    say(b"kdf.rs, kdf\n");
+    kdf_sized(b"0 ", b"mk", &mut [BEFORE; 0]);
+    kdf_sized(b"1 ", b"mk", &mut [BEFORE; 1]);
+    kdf_sized(b"16 ", b"mk", &mut [BEFORE; 16]);
+    kdf_sized(b"32 ", b"mk", &mut [BEFORE; 32]);
+    kdf_sized(b"48 ", b"mk", &mut [BEFORE; 48]);
+    kdf_sized(b"49 ", b"mk", &mut [BEFORE; 49]);
+    kdf_sized(b"100 ", b"mk", &mut [BEFORE; 100]);
+    kdf_longest();
+}
+
+// A label, by value and into areas. An area that is too long as well is told behind the label.
+fn with_label(label: &[u8]) {
+    let key = rising(3, 7);
+    say_number(label.len());
+    key_line(b"mac ", kdf::mac(front(&key, 32), label, b""));
+    tag_sized(b"tag ", label, &mut [BEFORE; 48]);
+    tag_sized(b"tag of 49 ", label, &mut [BEFORE; 49]);
+    kdf_sized(b"kdf of 100 ", label, &mut [BEFORE; 100]);
+}
+
+fn longest_labels() {
+    say(b"kdf.rs, lengths of labels\n");
+    with_label(&[97u8; 65526]);
+    with_label(&[97u8; 65527]);
 }
 
 fn leb_line(v: u32) {
@@ -313,5 +395,8 @@ fn main() {
     hkdfs();
     hkdf_lengths();
     labels();
+    tags();
+    kdfs();
+    longest_labels();
     lebs();
 }

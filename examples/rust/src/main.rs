@@ -6,10 +6,10 @@ mod meeting;
 mod party;
 mod sealing;
 
-use goosetable::{Chain, ContactId, Direction, MessageKey, OwnMessage, Secret, Window, WindowRow};
+use goosetable::{Chain, ContactId, Direction, MessageKey, OwnMessage, Window, delivered};
 use meeting::meet;
 use party::{Party, Problem};
-use sealing::{ROUTE_KEY, route_tag, seal};
+use sealing::{ROUTE_KEY, message_key, seal};
 use std::process::ExitCode;
 
 const SENDER: ContactId = ContactId(1);
@@ -23,39 +23,43 @@ const FIRST_KEY: MessageKey = MessageKey {
     index: 0,
 };
 
-/// What opening the message gives away.
-const SECRET: Secret = Secret([0x5e; 16]);
-
-/// The phone awaits messages from the start of the sender's first chain.
+/// The phone awaits one skipped message and those of the sender's first chain. Skipped keys are listed first; the window
+/// has its rows by generation and index.
 fn awaited() -> Result<Window, Problem> {
+    let skipped = MessageKey {
+        generation: 1,
+        ..FIRST_KEY
+    };
     let chain = Chain {
         direction: FIRST_KEY.direction,
         generation: FIRST_KEY.generation,
         next: 0,
     };
     let mut window = Window::EMPTY;
-    for key in goosetable::window(&[], &[chain])? {
-        let tag = route_tag(key)?;
-        let contact = SENDER;
-        window.push(WindowRow { contact, key, tag });
+    for key in goosetable::window(&[skipped], &[chain])? {
+        window.push_route(SENDER, &ROUTE_KEY, key)?;
     }
+    let first = window.rows().next().ok_or("nothing is awaited")?;
+    println!(
+        "phone awaits {} messages, the first has tag {}",
+        window.len(),
+        first.tag
+    );
     Ok(window)
 }
 
 /// The sender queues a message for the phone, and makes its envelope.
 fn send(sender: &mut Party, text: &str) -> Result<(), Problem> {
+    let key = message_key(FIRST_KEY);
     let message = OwnMessage {
         contact: PHONE,
         message: 1,
         route_key: &ROUTE_KEY,
         key: FIRST_KEY,
-        secret: SECRET,
-        ciphertext: &seal(SECRET, text),
+        secret: delivered(&key),
+        ciphertext: &seal(&key, text),
     };
-    let row = sender
-        .post
-        .own_envelope(message)?
-        .ok_or("no envelope was made")?;
+    let row = sender.send(message)?;
     println!(
         "sender makes an envelope for the phone: tag {}, copies {}, until minute {}",
         row.tag, row.copies, row.expiry_min
@@ -71,6 +75,7 @@ fn tell() -> Result<(), Problem> {
 
     send(&mut sender, "pump 3 is dry")?;
     meet(&mut sender, &mut a)?;
+    sender.restart()?;
     meet(&mut a, &mut b)?;
     b.restart()?;
     meet(&mut b, &mut phone)?;

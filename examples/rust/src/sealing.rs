@@ -1,7 +1,6 @@
 //! Stand-ins for the host's own crypto.
 
-use crate::party::Problem;
-use goosetable::{ContactId, MessageKey, OwnMessage, Post, Secret, Sizes, Tag, Verification};
+use goosetable::MessageKey;
 
 /// The route key that sender and phone share.
 pub const ROUTE_KEY: [u8; 32] = [0x0a; 32];
@@ -9,10 +8,17 @@ pub const ROUTE_KEY: [u8; 32] = [0x0a; 32];
 /// Bytes of a ciphertext for a message of up to 64 bytes.
 const SEALED: usize = 64 + 16;
 
-/// Seals a message: here it is the secret and the text, in the clear.
-pub fn seal(secret: Secret, text: &str) -> [u8; SEALED] {
+/// The key that a message is sealed with: here it is made of its place, where a host has chains.
+pub fn message_key(key: MessageKey) -> [u8; 32] {
+    let mut bytes = [key.direction.label(); 32];
+    bytes[..4].copy_from_slice(&key.index.to_be_bytes());
+    bytes
+}
+
+/// Seals a message: here it is a part of the key and the text, in the clear.
+pub fn seal(key: &[u8; 32], text: &str) -> [u8; SEALED] {
     let mut sealed = [0; SEALED];
-    let message = secret.0.iter().chain(text.as_bytes());
+    let message = key[..16].iter().chain(text.as_bytes());
     sealed
         .iter_mut()
         .zip(message)
@@ -20,30 +26,9 @@ pub fn seal(secret: Secret, text: &str) -> [u8; SEALED] {
     sealed
 }
 
-/// Opens a message: its secret and its text, if it is one.
-pub fn open(sealed: &[u8]) -> Option<(Secret, &str)> {
-    let (secret, text) = sealed.split_first_chunk()?;
+/// Opens a message: its text, if it was sealed with the key.
+pub fn open<'a>(key: &[u8; 32], sealed: &'a [u8]) -> Option<&'a str> {
+    let text = sealed.strip_prefix(&key[..16])?;
     let text = str::from_utf8(text).ok()?;
-    Some((Secret(*secret), text.trim_end_matches('\0')))
-}
-
-/// The route tag of a key: here a spare post makes it.
-pub fn route_tag(key: MessageKey) -> Result<Tag, Problem> {
-    let contact = ContactId(0);
-    let mut spare = Post::new(Sizes {
-        carried_cells: 0,
-        own_cells: 1,
-        tombstone_rows: 0,
-        bad_tag_rows: 0,
-    })?;
-    spare.set_contact(contact, Verification::Unverified)?;
-    let row = spare.own_envelope(OwnMessage {
-        contact,
-        message: 0,
-        route_key: &ROUTE_KEY,
-        key,
-        secret: Secret([0; 16]),
-        ciphertext: &[0; SEALED],
-    })?;
-    Ok(row.ok_or("no envelope was made")?.tag)
+    Some(text.trim_end_matches('\0'))
 }

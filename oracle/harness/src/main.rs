@@ -8,6 +8,8 @@ mod generate;
 mod sample;
 #[cfg(feature = "library")]
 mod spoiled;
+#[cfg(feature = "library")]
+mod tags;
 mod tally;
 mod variants;
 mod vectors;
@@ -19,6 +21,7 @@ const USAGE: &str =
     "usage: oracle compare --seeds FROM..TO --calls N [--profile P] [--against PARTY] [--tally] [--reach]
        oracle garbage FROM..TO N [--reach]    the library on garbage areas, by seeds
        oracle spoiled               every byte at the library's boundary, and the library with one thing wrong
+       oracle tags N                N of the library's tags, delivery secrets and commitments, and those with one thing wrong
        oracle drill                 a drill log on standard input
        oracle log SEED RECORDS [--no-13]
                                     a random drill log; with the option no record of it meets 13
@@ -100,6 +103,8 @@ fn main() -> ExitCode {
         Some((command, rest)) if command == "garbage" => garbage::main(rest).unwrap_or_else(usage),
         #[cfg(feature = "library")]
         Some((command, [])) if command == "spoiled" => spoiled::main(),
+        #[cfg(feature = "library")]
+        Some((command, rest)) if command == "tags" => tags::main(rest).unwrap_or_else(usage),
         Some((command, [])) if command == "vectors" => {
             vectors::print();
             ExitCode::SUCCESS

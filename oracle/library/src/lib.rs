@@ -4,10 +4,12 @@
 mod boundary;
 mod calls;
 mod guarded;
+mod tags;
 mod wrong;
 
 pub use boundary::{wrong_arguments, wrong_flags, wrong_fresh_device};
 pub use guarded::watch;
+pub use tags::Tags;
 pub use wrong::Spoiled;
 
 use guarded::Guarded;

@@ -337,5 +337,19 @@ unsafe extern "C" {
         answer: *mut u8,
         answer_len: usize,
     ) -> Answer;
+    pub fn goosetable_route_tag(
+        key: *const [u8; 32],
+        dir: u8,
+        generation: u8,
+        idx: u32,
+        tag: *mut [u8; 16],
+    ) -> Answer;
+    pub fn goosetable_delivered(key: *const [u8; 32], s: *mut [u8; 16]);
+    pub fn goosetable_commitment(s: *const [u8; 16], c: *mut [u8; 16]);
     pub fn goosetable_row_read(blob: *const u8, blob_len: usize) -> Row;
+    pub fn goosetable_version_0_2() -> u32;
 }
+
+/// Refers to the function whose name has the version, so that a library of another version does not link.
+#[used]
+static VERSION_LINKED: unsafe extern "C" fn() -> u32 = goosetable_version_0_2;

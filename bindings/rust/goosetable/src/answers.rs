@@ -2,13 +2,15 @@
 #![forbid(unsafe_code)]
 
 use crate::{ContactId, Custody, Envelope, Header, Post, Secret, Slot, Tag, rows::Fields};
-use core::slice;
+use alloc::vec::Vec;
+use core::{fmt, iter::FusedIterator, slice};
 use goosetable_sys::{ACTION_ROW, REPLY_ROW};
 
 /// What a call made of a peer's record.
 #[derive(Clone, Debug)]
 pub enum Record<T> {
-    /// It is no record that a peer may send now. Nothing was changed.
+    /// It is no record that a peer may send now. Nothing was changed: the host drops the session and sends
+    /// nothing more on it.
     Malformed,
     /// It was taken, with this answer.
     Taken(T),
@@ -17,7 +19,13 @@ pub enum Record<T> {
 /// What became of an envelope.
 #[derive(Clone, Debug)]
 pub enum Received<'a> {
-    /// It is in the window: the host opens it and reports what came of it.
+    /// It is in the window, and nothing was changed. The host opens it and reports what came of it, with
+    /// [`Post::opened`] or [`Post::failed`].
+    ///
+    /// Contact, generation and index are those of the first window row with the tag. The direction is not
+    /// said: in a window of both directions two rows that differ in nothing else cannot be told apart by
+    /// this answer. [`Window::row_of`](crate::Window::row_of) has that row, with its direction.
+    #[non_exhaustive]
     Ours {
         /// Whose message it is.
         contact: ContactId,
@@ -27,18 +35,21 @@ pub enum Received<'a> {
         index: u32,
     },
     /// It is answered by a code.
+    #[non_exhaustive]
     Replied {
         /// The code for the peer.
         code: Custody,
-        /// What changed in the held rows.
+        /// What changed in the held rows: one put where the code is Accepted, else nothing. It is stored
+        /// before the code is sent.
         actions: Actions<'a>,
     },
 }
 
 /// What follows the opening of an envelope.
 #[derive(Clone, Debug)]
+#[non_exhaustive]
 pub struct Opened<'a> {
-    /// The tomb for the peer.
+    /// The tomb for the peer, in place of a code.
     pub replies: Replies<'a>,
     /// What changed in the held rows.
     pub actions: Actions<'a>,
@@ -67,14 +78,58 @@ pub enum Reply<'a> {
     },
 }
 
-/// A change that the host's store is to follow. Actions are carried out in order.
+impl<'a> Reply<'a> {
+    /// The number of its kind: 0 fetch, 1 envelope, 2 custody, 3 tomb.
+    pub const fn kind(&self) -> u8 {
+        match self {
+            Reply::Fetch(_) => 0,
+            Reply::Envelope(_) => 1,
+            Reply::Custody { .. } => 2,
+            Reply::Tomb { .. } => 3,
+        }
+    }
+
+    /// The record's bytes on the link, without its kind: that is the session's matter.
+    pub fn to_bytes(&self) -> Vec<u8> {
+        match self {
+            Reply::Fetch(tag) => tag.0.to_vec(),
+            Reply::Envelope(envelope) => envelope.to_bytes(),
+            Reply::Custody { tag, code } => [&tag.0[..], &[code.code()]].concat(),
+            Reply::Tomb { tag, secret } => [tag.0, secret.0].concat(),
+        }
+    }
+
+    /// The record that bytes of a kind are. None for another kind, another length or a code above 4: the peer's
+    /// session is dropped.
+    pub fn from_bytes(kind: u8, bytes: &'a [u8]) -> Option<Reply<'a>> {
+        let mut fields = Fields(bytes);
+        Some(match (kind, bytes.len()) {
+            (0, 16) => Reply::Fetch(fields.tag()),
+            (1, _) => Reply::Envelope(Envelope::from_bytes(bytes)?),
+            (2, 17) => Reply::Custody {
+                tag: fields.tag(),
+                code: Custody::from_code(fields.u8())?,
+            },
+            (3, 32) => Reply::Tomb {
+                tag: fields.tag(),
+                secret: fields.secret(),
+            },
+            _ => return None,
+        })
+    }
+}
+
+/// A change that the host's store is to follow, before the next call and before a reply of this call is sent.
 #[derive(Clone, Copy, Debug, PartialEq, Eq)]
+#[non_exhaustive]
 pub enum Action {
-    /// Store the row of a slot, in place of what is there: its bytes are [`Post::row_blob`]'s.
+    /// Store the row of a slot, in place of what is there, in one write: its bytes are [`Post::row_blob`]'s.
     Put(Slot),
     /// Delete what is stored in a slot.
     Delete(Slot),
-    /// An own row changed or left: what it is now is [`Post::own_row`]'s.
+    /// An own row changed or ended. If [`Post::own_row`] still has it, store its
+    /// [`to_bytes`](crate::OwnRow::to_bytes): copies were handed on, or it was renewed. If not, it has ended:
+    /// after [`Post::tomb`] it was delivered, after [`Post::maintenance`] it expired a second time.
     OwnPut {
         /// Whom the message is for.
         contact: ContactId,
@@ -83,8 +138,25 @@ pub enum Action {
     },
 }
 
+/// How many items of a long list `Debug` shows.
+const SHOWN: usize = 16;
+
+/// The first items of a list, and how many follow.
+fn debug_list<I>(items: I, f: &mut fmt::Formatter<'_>) -> fmt::Result
+where
+    I: ExactSizeIterator<Item: fmt::Debug>,
+{
+    let more = items.len().saturating_sub(SHOWN);
+    let mut list = f.debug_list();
+    list.entries(items.take(SHOWN));
+    if 0 < more {
+        list.entry(&format_args!("and {more} more"));
+    }
+    list.finish()
+}
+
 /// The replies of a call, in the order in which they are sent.
-#[derive(Clone, Debug)]
+#[derive(Clone)]
 #[must_use = "the peer waits for them"]
 pub struct Replies<'a> {
     post: &'a Post,
@@ -158,8 +230,17 @@ impl<'a> Iterator for Replies<'a> {
 
 impl ExactSizeIterator for Replies<'_> {}
 
-/// The actions of a call, in the order in which they are carried out.
-#[derive(Clone, Debug)]
+impl FusedIterator for Replies<'_> {}
+
+impl fmt::Debug for Replies<'_> {
+    fn fmt(&self, f: &mut fmt::Formatter<'_>) -> fmt::Result {
+        debug_list(self.clone(), f)
+    }
+}
+
+/// The actions of a call, in the order in which they are carried out: all in one write, if the host's storage
+/// can. For one that cannot there is [`held_first`](Actions::held_first).
+#[derive(Clone)]
 #[must_use = "the host's store is to follow them"]
 pub struct Actions<'a> {
     post: &'a Post,
@@ -178,6 +259,15 @@ impl<'a> Actions<'a> {
     /// The post as the call left it, for the rows that are to be stored.
     pub fn post(&self) -> &'a Post {
         self.post
+    }
+
+    /// The same actions for a storage that writes one thing after the other: puts and deletes in their order,
+    /// then the own puts. If power goes between them the tomb of an own row leaves the row beside its
+    /// tombstone, which the next start sees and ends, and never neither of them.
+    pub fn held_first(self) -> impl Iterator<Item = Action> + Clone + use<'a> {
+        let is_own = |action: &Action| matches!(action, Action::OwnPut { .. });
+        let held = self.clone().filter(move |action| !is_own(action));
+        held.chain(self.filter(is_own))
     }
 
     fn read(row: &[u8; ACTION_ROW]) -> Action {
@@ -207,3 +297,11 @@ impl Iterator for Actions<'_> {
 }
 
 impl ExactSizeIterator for Actions<'_> {}
+
+impl FusedIterator for Actions<'_> {}
+
+impl fmt::Debug for Actions<'_> {
+    fn fmt(&self, f: &mut fmt::Formatter<'_>) -> fmt::Result {
+        debug_list(self.clone(), f)
+    }
+}

@@ -7,18 +7,35 @@
 #![allow(unsafe_code)]
 
 use crate::{
-    BLOB, ContactId, Custody, Envelope, Exchange, MAX_LISTED, OwnMessage, Post, Prefix, Refusal,
-    Secret, Setting, Slot, Tag, Verification, Window,
+    BLOB, Commitment, ContactId, Custody, Envelope, Exchange, MAX_LISTED, MessageKey, OwnMessage,
+    Post, Prefix, Refusal, Secret, Setting, Slot, Tag, Verification, Window,
 };
 use goosetable_sys::{self as sys, Answer};
 
 type Said = Result<Answer, Refusal>;
 
+/// The answer of a call that is done. Every other number refuses it, one that this crate does not know too.
 fn said(answer: Answer) -> Said {
-    match Refusal::from_number(answer.said) {
-        Some(refusal) => Err(refusal),
-        None => Ok(answer),
+    said_or(sys::DONE, answer)
+}
+
+/// The answer of a call that is done or says one thing more. Every other number refuses it.
+fn said_or(more: u8, answer: Answer) -> Said {
+    match answer.said {
+        sys::DONE => Ok(answer),
+        number if number == more => Ok(answer),
+        number => Err(Refusal::of(number)),
     }
+}
+
+/// The answer of a call that nothing refuses as it is made here.
+fn never_refused(said: Said) -> Answer {
+    said.unwrap_or_else(|refusal| unreachable!("{refusal}"))
+}
+
+/// The library's version, major × 10,000 + minor × 100 + patch. One of another version than 0.2 does not link.
+pub(crate) fn version() -> u32 {
+    unsafe { sys::goosetable_version_0_2() }
 }
 
 pub(crate) fn fresh() -> [u8; sys::DEVICE] {
@@ -28,7 +45,8 @@ pub(crate) fn fresh() -> [u8; sys::DEVICE] {
 }
 
 pub(crate) fn clock(post: &mut Post, seconds: u64) {
-    unsafe { sys::goosetable_clock(&mut post.areas.device, seconds) };
+    let answer = unsafe { sys::goosetable_clock(&mut post.areas.device, seconds) };
+    never_refused(said(answer));
 }
 
 pub(crate) fn setting(post: &mut Post, to: Setting) -> Said {
@@ -78,7 +96,7 @@ pub(crate) fn envelope(
 ) -> Said {
     let areas = &mut post.areas;
     let head = &envelope.header;
-    said(unsafe {
+    said_or(sys::OURS, unsafe {
         sys::goosetable_envelope(
             &mut areas.device,
             peer.0,
@@ -107,7 +125,7 @@ pub(crate) fn envelope(
 
 pub(crate) fn fetch(post: &mut Post, peer: ContactId, tag: Tag) -> Said {
     let areas = &post.areas;
-    said(unsafe {
+    said_or(sys::MISSING, unsafe {
         sys::goosetable_fetch(
             &areas.device,
             peer.0,
@@ -131,7 +149,7 @@ pub(crate) fn own_envelope(
     row: &mut [u8; sys::OWN_ROW],
 ) -> Said {
     let areas = &mut post.areas;
-    said(unsafe {
+    said_or(sys::NO_ENVELOPE, unsafe {
         sys::goosetable_own_envelope(
             &mut areas.device,
             message.contact.0,
@@ -181,7 +199,7 @@ pub(crate) fn inventory(
 ) -> Said {
     let areas = &post.areas;
     let prefixes = exchange.prefixes.as_flattened_mut();
-    said(unsafe {
+    said_or(sys::MALFORMED, unsafe {
         sys::goosetable_inventory(
             &areas.device,
             &mut exchange.state,
@@ -256,7 +274,7 @@ pub(crate) fn stored_tombstone(post: &mut Post, tag: Tag, secret: Secret, expiry
 
 pub(crate) fn tomb(post: &mut Post, peer: ContactId, tag: Tag, secret: Secret) -> Said {
     let areas = &mut post.areas;
-    said(unsafe {
+    said_or(sys::MALFORMED, unsafe {
         sys::goosetable_tomb(
             &mut areas.device,
             peer.0,
@@ -301,7 +319,7 @@ pub(crate) fn opened(
 
 pub(crate) fn failed(post: &mut Post, peer: ContactId, tag: Tag) -> Said {
     let areas = &mut post.areas;
-    said(unsafe {
+    said_or(sys::MALFORMED, unsafe {
         sys::goosetable_failed(
             &mut areas.device,
             peer.0,
@@ -328,9 +346,9 @@ pub(crate) fn maintenance(post: &mut Post) -> Said {
     })
 }
 
-pub(crate) fn row_blob(post: &Post, slot: Slot, blob: &mut [u8; BLOB]) -> Said {
+pub(crate) fn row_blob(post: &Post, slot: Slot, blob: &mut [u8; BLOB]) -> Answer {
     let areas = &post.areas;
-    said(unsafe {
+    let answer = unsafe {
         sys::goosetable_row_blob(
             &areas.device,
             slot.0,
@@ -342,7 +360,8 @@ pub(crate) fn row_blob(post: &Post, slot: Slot, blob: &mut [u8; BLOB]) -> Said {
             blob.as_mut_ptr(),
             blob.len(),
         )
-    })
+    };
+    never_refused(said_or(sys::MISSING, answer))
 }
 
 pub(crate) fn save(post: &Post, file: &mut [u8]) -> Said {
@@ -391,6 +410,62 @@ pub(crate) fn window(skipped: &[u8], chains: &[u8], keys: &mut [u8; sys::KEYS]) 
     })
 }
 
+pub(crate) fn route_tag(key: &[u8; 32], at: MessageKey) -> Tag {
+    let mut tag = [0; 16];
+    let answer = unsafe {
+        sys::goosetable_route_tag(key, at.direction.label(), at.generation, at.index, &mut tag)
+    };
+    never_refused(said(answer));
+    Tag(tag)
+}
+
+pub(crate) fn delivered(key: &[u8; 32]) -> Secret {
+    let mut secret = [0; 16];
+    unsafe { sys::goosetable_delivered(key, &mut secret) };
+    Secret(secret)
+}
+
+pub(crate) fn commitment(secret: &Secret) -> Commitment {
+    let mut commitment = [0; 16];
+    unsafe { sys::goosetable_commitment(&secret.0, &mut commitment) };
+    Commitment(commitment)
+}
+
 pub(crate) fn row_read(blob: &[u8]) -> sys::Row {
     unsafe { sys::goosetable_row_read(blob.as_ptr(), blob.len()) }
+}
+
+#[cfg(test)]
+mod tests {
+    use super::*;
+
+    fn answer(said: u8) -> Answer {
+        Answer {
+            contact: 0,
+            replies: 0,
+            actions: 0,
+            length: 0,
+            idx: 0,
+            generation: 0,
+            said,
+        }
+    }
+
+    #[test]
+    fn a_number_that_is_not_known_is_a_refusal() {
+        assert!(said(answer(sys::DONE)).is_ok());
+        for number in 1..=u8::MAX {
+            let refusal = said(answer(number)).unwrap_err();
+            assert_eq!(refusal.number(), number);
+            assert_eq!(matches!(refusal, Refusal::Other { .. }), 13 < number);
+        }
+    }
+
+    #[test]
+    fn a_call_may_say_one_thing_more_and_no_other() {
+        for more in [sys::MALFORMED, sys::OURS, sys::MISSING, sys::NO_ENVELOPE] {
+            let passed = |number: &u8| said_or(more, answer(*number)).is_ok();
+            assert!((0..=u8::MAX).filter(passed).eq([sys::DONE, more]));
+        }
+    }
 }

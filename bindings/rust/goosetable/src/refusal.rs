@@ -4,40 +4,52 @@
 use core::{error, fmt};
 
 /// Why a call is refused, by the scope's number. A refused call has changed nothing.
+///
+/// Later versions know more numbers. What is [`Other`](Refusal::Other) today may have a name then: to meet such
+/// a number in both, ask for [`number`](Refusal::number).
 #[derive(Clone, Copy, Debug, PartialEq, Eq, Hash, PartialOrd, Ord)]
-#[repr(u8)]
+#[non_exhaustive]
 pub enum Refusal {
-    /// An area for an answer is too short. A [`Post`](crate::Post) has its own, so that only a file area can be.
-    ShortArea = 1,
-    /// The contact, or one in a window row, isn't known.
-    UnknownContact = 2,
-    /// The exchange was opened for another contact or for none.
-    WrongExchange = 3,
-    /// A row would be added and its cells are all used.
-    NoCell = 4,
-    /// A tombstone would be added and, after any deletion, all its rows are used.
-    NoTombstoneRow = 5,
-    /// A new slot is needed and the next slot is 2^64 − 1.
-    NoSlot = 6,
-    /// The setting is outside its range.
-    Configuration = 7,
-    /// The saved file is not one, or does not fit this post's contacts.
-    SavedFile = 8,
-    /// A new bad tag and no row left.
-    NoBadTagRow = 9,
-    /// The contact has an own row with this message number.
-    MessageNumberTaken = 10,
-    /// No own ciphertext has this length.
-    OwnLength = 11,
-    /// Window keys that do not rise, over 500 skipped keys, or a chain's next above 2^32.
-    WindowRows = 12,
-    /// A 257th contact.
-    LogRecord = 13,
+    /// 1: an area for an answer is too short. A [`Post`](crate::Post) has its own, so that only the area for
+    /// [`Post::save`](crate::Post::save) can be.
+    ShortArea,
+    /// 2: the contact, or one in a window row, isn't known.
+    UnknownContact,
+    /// 3: the exchange was opened for another contact or for none.
+    WrongExchange,
+    /// 4: a row would be added and its cells are all used.
+    NoCell,
+    /// 5: a tombstone would be added and, after any deletion, all R rows are used.
+    NoTombstoneRow,
+    /// 6: a new slot is needed and the next slot is 2^64 − 1.
+    NoSlot,
+    /// 7: the setting is outside its range.
+    Configuration,
+    /// 8: the saved file is not one, or does not fit this post's contacts.
+    SavedFile,
+    /// 9: a new bad tag and no row left.
+    NoBadTagRow,
+    /// 10: the contact has an own row with this message number.
+    MessageNumberTaken,
+    /// 11: no own ciphertext has this length.
+    OwnLength,
+    /// 12: over 500 skipped keys, or a chain's next above 2^32. A [`Window`](crate::Window) is always in order.
+    WindowRows,
+    /// 13: a 257th contact.
+    LogRecord,
+    /// A number that this version does not know. Up to 127 it is a refusal like the others, of a later version.
+    /// Above 131 no library says it: then nothing is known of what changed, and a host starts again from what
+    /// is stored.
+    #[non_exhaustive]
+    Other {
+        /// The number.
+        number: u8,
+    },
 }
 
 impl Refusal {
-    /// Every refusal, by its number.
-    pub const ALL: [Refusal; 13] = [
+    /// Every refusal that this version knows, by its number from 1 on.
+    pub const ALL: &'static [Refusal] = &[
         Refusal::ShortArea,
         Refusal::UnknownContact,
         Refusal::WrongExchange,
@@ -53,33 +65,67 @@ impl Refusal {
         Refusal::LogRecord,
     ];
 
-    /// The scope's number, from 1 to 13.
+    /// The scope's number.
     pub const fn number(self) -> u8 {
-        self as u8
+        match self {
+            Refusal::ShortArea => 1,
+            Refusal::UnknownContact => 2,
+            Refusal::WrongExchange => 3,
+            Refusal::NoCell => 4,
+            Refusal::NoTombstoneRow => 5,
+            Refusal::NoSlot => 6,
+            Refusal::Configuration => 7,
+            Refusal::SavedFile => 8,
+            Refusal::NoBadTagRow => 9,
+            Refusal::MessageNumberTaken => 10,
+            Refusal::OwnLength => 11,
+            Refusal::WindowRows => 12,
+            Refusal::LogRecord => 13,
+            Refusal::Other { number } => number,
+        }
     }
 
-    /// The refusal with a number.
+    /// The refusal with a number from 1 to 127; no other number is one.
     pub fn from_number(number: u8) -> Option<Refusal> {
-        Refusal::ALL
-            .into_iter()
-            .find(|refusal| refusal.number() == number)
+        matches!(number, 1..=127).then(|| Refusal::of(number))
     }
 
+    /// What a number that is not an answer of its call stands for.
+    pub(crate) fn of(number: u8) -> Refusal {
+        Refusal::ALL
+            .iter()
+            .copied()
+            .find(|refusal| refusal.number() == number)
+            .unwrap_or(Refusal::Other { number })
+    }
+
+    /// The scope's words.
     const fn reason(self) -> &'static str {
         match self {
-            Refusal::ShortArea => "an area is too short",
-            Refusal::UnknownContact => "a contact is not known",
+            Refusal::ShortArea => {
+                "the reply, exchange, action, answer, blob or file area is too short"
+            }
+            Refusal::UnknownContact => "the contact, or one in a window row, isn't known",
             Refusal::WrongExchange => "the exchange was opened for another contact or for none",
-            Refusal::NoCell => "all cells are used",
-            Refusal::NoTombstoneRow => "all tombstone rows are used",
-            Refusal::NoSlot => "there is no slot left",
-            Refusal::Configuration => "the setting is outside its range",
-            Refusal::SavedFile => "the saved file is wrong",
-            Refusal::NoBadTagRow => "all bad-tag rows are used",
-            Refusal::MessageNumberTaken => "the message number is taken",
-            Refusal::OwnLength => "no own ciphertext has this length",
-            Refusal::WindowRows => "the rows of the window are wrong",
-            Refusal::LogRecord => "there are 256 contacts already",
+            Refusal::NoCell => "a row would be added and its cells are all used",
+            Refusal::NoTombstoneRow => {
+                "a tombstone would be added and, after any deletion, all R rows are used"
+            }
+            Refusal::NoSlot => "a new slot is needed and next slot is 2^64−1",
+            Refusal::Configuration => "configuration outside its range",
+            Refusal::SavedFile => {
+                "saved file: mark, length or place of HN wrong, blob refused, slot twice or not below next slot, carried tag twice, unknown depositor, over 256 carried or 32 for one"
+            }
+            Refusal::NoBadTagRow => "a new bad tag and no row left",
+            Refusal::MessageNumberTaken => "own row: message number already there",
+            Refusal::OwnLength => {
+                "own ciphertext less 16 isn't 32, 64, 128, 256, 512, 1024, 2048 or 4048"
+            }
+            Refusal::WindowRows => {
+                "window or prefix area not whole rows; a direction not I or R; keys not rising; over 500 skipped; a next above 2^32"
+            }
+            Refusal::LogRecord => "code, verification or enabled, or a 257th contact",
+            Refusal::Other { .. } => "a number that this version does not know",
         }
     }
 }

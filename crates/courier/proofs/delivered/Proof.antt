@@ -5,7 +5,7 @@ use Rattle.courier.proofs.delivered.Statement.{statement}
 use Rattle.courier.proofs.delivered.Tie as tie
 
 returns : tie.Need-returns
-returns c = secret-made (c .before .before .before .before .before .before .args .t1) _ (c .before .kdf .ensures)
+returns c = secret-made (c .before .before .before .before .before .before .args .t1) _ (c .before .kdf-16 .ensures)
 
 pub delivered-spec : {M : Type 1} → statement M
 delivered-spec =

@@ -11,7 +11,15 @@ use Rattle.hmac.proofs.expand_more.Statement.{statement}
 use Rattle.hmac.proofs.expand_more.Tie as tie
 
 returns : tie.Need-returns
-returns c = (c .before .before .before .before .before .before .before .next-block .ensures ∙ ap (λ (n : ℕ). keyed (c .before .before .before .before .before .before .before .before .before .before .before .before .args .k0) (take n (c .before .before .before .before .before .before .before .before .before .before .before .before .args .t3) ++ c .before .before .before .before .before .before .before .before .before .before .before .before .args .info .now ++ ((c .before .before .before .before .before .before .before .before .before .before .before .before .args .i + 1) ∷ []))) (sub-zero (c .before .before .before .before .before .before .before .before .before .before .before .before .args .have)), c .before .before .copy-in .ensures ∙ ap (splice (c .before .before .before .before .before .before .before .before .before .before .before .before .args .out .now) (48 * c .before .before .before .before .before .before .before .before .before .before .before .before .args .i)) (take-least (c .before .before .before .before .before .before .before .next-block .result) (length (c .before .before .before .before .before .before .before .before .before .before .before .before .args .out .now) - 48 * c .before .before .before .before .before .before .before .before .before .before .before .before .args .i) _ (search needs) (sub-zero (c .before .before .before .before .before .before .least .result) ∙ c .before .before .before .before .before .before .least .ensures)))
+returns c =
+    let a = c .before .before .before .before .before .before .before .before .before .before .before .before .before .before .args in
+    let info = a .first .now ++ a .second .now ++ a .third .now in
+    let block = c .before .before .before .before .before .before .before .next-block in
+    let n = c .before .before .before .before .before .before .least in (
+      block .ensures ∙ ap (λ (n : ℕ). keyed (a .k0) (take n (a .t3) ++ info ++ ((a .i + 1) ∷ []))) (sub-zero (a .have)),
+      c .before .before .copy-in .ensures
+          ∙ ap (splice (a .out .now) (48 * a .i)) (take-least (block .result) (length (a .out .now) - 48 * a .i) _ (search needs) (sub-zero (n .result) ∙ n .ensures)),
+    )
 
 pub expand-more-spec : {M : Type 1} → statement M
 expand-more-spec =

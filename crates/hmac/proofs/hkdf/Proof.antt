@@ -5,13 +5,17 @@ use Rattle.hmac.proofs.hkdf.Statement.{statement}
 use Rattle.hmac.proofs.hkdf.Tie as tie
 
 returns : tie.Need-returns
-returns c = too-long (c .before .before .before .before .before .args .ikm .now) (c .before .before .before .before .before .args .salt .now) (c .before .before .before .before .before .args .info .now) (c .before .before .before .before .before .args .out .now) (omega arith)
+returns c =
+    let a = c .before .before .before .before .before .args in
+    too-long (a .ikm .now) (a .salt .now) (a .info .now) (a .out .now) (omega arith)
 
 returns-2 : tie.Need-returns-2
-returns-2 c = fits (c .before .before .before .before .before .before .before .before .before .before .args .ikm .now) (c .before .before .before .before .before .before .before .before .before .before .args .salt .now) (c .before .before .before .before .before .before .before .before .before .before .args .info .now) (c .before .before .before .before .before .before .before .before .before .before .args .out .now) _ _ (omega arith) (c .before .before .before .before .extract .ensures) (c .before .before .expand .ensures)
+returns-2 c =
+    let a = c .before .before .before .before .before .before .before .before .before .before .before .before .args in
+    fits (a .ikm .now) (a .salt .now) (a .info .now) (a .out .now) _ _ (omega arith) (c .before .before .before .before .before .before .extract .ensures) (c .before .before .expand .ensures)
 
 pub hkdf-spec : {M : Type 1} → statement M
 hkdf-spec =
     tie.close
     (tie.spec
-    (λ c. search needs) returns (λ c κs. search needs) (λ c κs. search needs) (λ c. search needs) returns-2)
+    returns (λ c κs. search needs) (λ c. search needs) (λ c. search needs) (λ c κs. search needs) (λ c. search needs) returns-2)

@@ -19,11 +19,14 @@ returns c = label-too-long (c .before .before .before .args .label .now) _ _ (om
 
 returns-2 : tie.Need-returns-2
 unfolding digestAs
-returns-2 c = ap made (hash-bytes (c .before .before .before .before .before .before .before .before .before .before .before .args .label .now) (c .before .before .before .before .before .before .before .before .before .before .before .args .x .now) (c .finish .ensures _ (c .before .before .update .ensures .0 _ (c .before .before .before .before .take-label .ensures .0 _ (c .before .before .before .before .before .before .start .ensures))))) ∙ label-fits (c .before .before .before .before .before .before .before .before .before .before .before .args .label .now) _ _ (omega arith)
+returns-2 c =
+    let a = c .before .before .before .before .before .before .before .before .before .before .before .args in
+    ap made (hash-bytes (a .label .now) (a .x .now) _ (c .before .before .before .before .before .before .head-of .ensures) (c .finish .ensures _ (c .before .before .take-parts .ensures .0 _ (c .before .before .before .before .start .ensures))))
+    ∙ label-fits (a .label .now) _ _ (omega arith)
 
 pub hash-spec : {M : Type 1} → statement M
 hash-spec =
     tie.close
     (tie.spec
-    returns (λ c κs. search needs) (λ c κs. search needs) (λ c κs. search needs) (λ c κs. search needs) (λ c κs. search needs)
-    returns-2)
+    returns (λ c κs. search needs) (λ c κs. search needs) (λ c κs. search needs) (λ c. search needs) (λ c κs. search needs)
+    (λ c κs. search needs) returns-2)

@@ -1,29 +1,25 @@
-use mathlib.Core.Path.{_≡_, ap, _∙_}
-use Prim.Native.Nat.{ℕ}
-use mathlib.Core.Bool.{true}
-use mathlib.Core.List.{List}
+use mathlib.Core.Path.{_∙_}
 use native.Mathlib.Omega.{arith}
-use Rattle.kdf.specs.Kdf.{keyAs}
-use Rattle.kdf.specs.declared.Key.{Key}
-use Rattle.kdf.proofs.KdfLaws.{label-fits, label-too-long, kdf-bytes}
+use Rattle.hmac.specs.Hkdf.{longest}
+use Rattle.kdf.proofs.KdfLaws.{done, label-refused, out-refused, kdf-bytes}
 use borrow.Author.Needs.{needs}
 use Rattle.kdf.proofs.kdf.Statement.{statement}
 use Rattle.kdf.proofs.kdf.Tie as tie
 
-abbrev made : List ℕ → Key
-made b = record { fits = true; bytes = b }
-
 returns : tie.Need-returns
-unfolding keyAs
-returns c = label-too-long (c .before .before .before .before .before .args .label .now) _ _ (omega arith)
+returns c = label-refused (c .before .before .before .before .before .before .args .label .now) longest _ (c .before .before .before .before .before .before .args .out .now) (omega arith)
 
 returns-2 : tie.Need-returns-2
-unfolding keyAs
-returns-2 c = ap made (kdf-bytes (c .before .before .before .before .before .before .before .before .before .before .before .before .args .ikm .now) (c .before .before .before .before .before .before .before .before .before .before .before .before .args .salt .now) (c .before .before .before .before .before .before .before .before .before .before .before .before .args .label .now) (c .before .before .before .before .before .before .before .before .before .before .before .before .args .info .now) _ _ _ _ (c .before .before .before .before .before .before .extract .ensures) (c .before .before .before .before .block-key .ensures) (c .before .before .keyed .ensures) (c .get-16 .ensures)) ∙ label-fits (c .before .before .before .before .before .before .before .before .before .before .before .before .args .label .now) _ _ (omega arith)
+returns-2 c = out-refused (c .before .before .before .before .before .before .before .args .label .now) longest _ (c .before .before .before .before .before .before .before .args .out .now) (omega arith) (omega arith)
+
+returns-3 : tie.Need-returns-3
+returns-3 c =
+    let a = c .before .before .before .before .before .before .before .before .before .before .before .before .before .before .args in
+    let r = done (a .label .now) longest _ (a .out .now) (omega arith) (omega arith) in
+    (r .0, kdf-bytes (a .ikm .now) (a .salt .now) (a .label .now) (a .info .now) _ _ (a .out .now) _ (c .before .before .before .before .before .before .head-of .ensures) (c .before .before .before .before .before .extract .ensures) (c .before .before .expand .ensures) ∙ r .1)
 
 pub kdf-spec : {M : Type 1} → statement M
 kdf-spec =
     tie.close
     (tie.spec
-    returns (λ c κs. search needs) (λ c. search needs) (λ c κs. search needs) (λ c. search needs) (λ c κs. search needs)
-    (λ c. search needs) (λ c κs. search needs) returns-2)
+    returns returns-2 (λ c κs. search needs) (λ c κs. search needs) (λ c. search needs) (λ c κs. search needs) (λ c. search needs) returns-3)

@@ -1,10 +1,12 @@
 //! What the checks build their posts of.
 
+use crate::compare::maker;
+use crate::compare::pair::{Judge, difference};
 use post::{
     Action, Answer, Areas, Call, Custody, Dir, Envelope, Held, NewOwn, Post, Prefix, Reply, Sizes, State, Tag,
     Verification, WindowRow,
 };
-use reference::{Raw, Reference, Source};
+use reference::{Raw, Source};
 
 /// A verified, an unverified and a compromised contact.
 pub const VERIFIED: u64 = 5;
@@ -136,16 +138,26 @@ pub const SIZES: Sizes = Sizes {
     exchanges: 2,
 };
 
-/// A post under document 01's refusals, with the three contacts and minute 10.
+/// Who must answer as the reference does: the second statement, and the library where it is linked.
+const OTHERS: &[&str] = if cfg!(feature = "library") {
+    &["rules", "library"]
+} else {
+    &["rules"]
+};
+
+/// A post under document 01's refusals, with the three contacts and minute 10. Every call is put to the others too.
 pub struct Bench {
-    pub post: Reference,
+    judge: Judge,
+    others: Vec<Box<dyn Post>>,
     pub areas: Areas,
 }
 
 impl Bench {
     pub fn new(sizes: Sizes) -> Self {
+        let other = |name: &&str| maker(name).expect("a party")(sizes);
         let mut bench = Self {
-            post: Reference::new(sizes),
+            judge: Judge::new(sizes),
+            others: OTHERS.iter().map(other).collect(),
             areas: Areas::enough(&sizes),
         };
         for (id, verification) in [
@@ -160,11 +172,20 @@ impl Bench {
     }
 
     pub fn call(&mut self, call: Call) -> Answer {
-        self.post.perform(&call)
+        let others = &mut self.others;
+        let taken = self.judge.take(&call, |seen| {
+            for (name, other) in OTHERS.iter().zip(others) {
+                difference(&mut **other, seen).map_err(|what| format!("{name}: {what}"))?;
+            }
+            Ok(seen.answer.clone())
+        });
+        taken
+            .and_then(|answer| answer)
+            .unwrap_or_else(|what| panic!("{call:?}: {what}"))
     }
 
-    pub fn state(&mut self) -> State {
-        self.post.state().into_owned()
+    pub fn state(&self) -> State {
+        self.judge.state().clone()
     }
 
     pub fn refusal(&mut self, call: Call) -> Option<u8> {

@@ -75,19 +75,6 @@ fn no_places() -> Outcome {
     same(bench.refusal(turning), Some(5))
 }
 
-/// Restore takes what a load refuses with 8: a tag twice, 33 rows of one depositor, depositors that only a count knows.
-fn restore_is_no_load() -> Outcome {
-    let row = |slot: u64, tag: post::Tag| (slot, raw::blob(&carried(3, tag, 100, 1)));
-    let twice = [row(1, tag(1)), row(7, tag(1))];
-    let (rows, next) = raw::restore(&twice, 4).ok_or("restored")?;
-    same((rows.len(), next), (2, 8))?;
-    let many: Vec<(u64, Vec<u8>)> = (0..257).map(|slot| row(slot, tag(slot as u8))).collect();
-    same(raw::restore(&many, 4).map(|(rows, _)| rows.len()), Some(257))?;
-    same(raw::restore(&twice, 3), None)?;
-    same(raw::restore(&[], 4).map(|(_, next)| next), Some(0))?;
-    stops(|| raw::restore(&[row(u64::MAX, tag(1))], 4))
-}
-
 /// Without the peer among the contacts the source answers, acts or stops, by the call.
 fn unknown_peers() -> Outcome {
     let sent = envelope(tag(1), 100, 1);
@@ -115,6 +102,64 @@ fn unknown_peers() -> Outcome {
     )?;
     post.failed(STRANGER, tag(2), false);
     holds(post.is_bad(STRANGER, &tag(2)), "a bad tag of the stranger")
+}
+
+/// Without the contact: an own envelope stops, unless it gets none before the contact is looked for. An exchange that is open is answered.
+fn unknown_contacts() -> Outcome {
+    let new = |length| NewOwn {
+        contact: STRANGER,
+        ..new_own(1, length)
+    };
+    stops(|| source().own_envelope(&new(48)))?;
+    same(source().own_envelope(&new(4_064)), None)?;
+    let mut post = source();
+    post.put_held(0, &carried(VERIFIED, tag(1), 100, 4));
+    post.fresh_exchange(0, STRANGER);
+    let offer = Reply::Envelope(envelope(tag(1), 100, 2));
+    same(listed(&mut post, 0, STRANGER, &[prefix(2)], &[]), vec![offer])?;
+    let taken = post.custody_code(0, STRANGER, tag(1), 0);
+    same(
+        (taken.actions, copies(&post, tag(1))),
+        (vec![Action::Put { slot: 0 }], Some(2)),
+    )
+}
+
+/// The product looks for the contact first, whatever else is wrong with the call.
+fn unknown_to_the_product() -> Outcome {
+    let mut bench = Bench::new(SIZES);
+    let (areas, exchange, peer) = (bench.areas, 0, STRANGER);
+    let open = Call::FreshExchange {
+        areas,
+        exchange,
+        peer: VERIFIED,
+    };
+    for before in [None, Some(open)] {
+        before.map(|open| bench.call(open));
+        let calls = [
+            bench.own_call(peer, 1, 48),
+            bench.own_call(peer, 1, 49),
+            bench.own_call(peer, 1, 4_064),
+            Call::FreshExchange { areas, exchange, peer },
+            Call::Inventory {
+                areas,
+                window: Vec::new().into(),
+                exchange,
+                peer,
+                prefixes: Vec::new().into(),
+            },
+            Call::CustodyCode {
+                areas,
+                exchange,
+                peer,
+                tag: tag(1),
+                code: Custody::Accepted,
+            },
+        ];
+        for call in calls {
+            same(bench.refusal(call), Some(2))?;
+        }
+    }
+    Ok(())
 }
 
 /// An exchange opened for another contact, or for none, is no session of the peer.
@@ -179,6 +224,37 @@ fn window_order() -> Outcome {
         envelope: envelope(tag(3), 100, 1),
     });
     same(number, Some(12))
+}
+
+/// The source has one tag for each key; the product asks that keys rise, also where both rows are the same.
+fn window_rows_of_one_key() -> Outcome {
+    let tag = raw::route_tag(&raw::route_key_of(VERIFIED), b'I', 0, 3);
+    let rows = [window_row(VERIFIED, 3, tag); 2];
+    let prefix: post::Prefix = post::array(&tag, 0);
+    let sent = envelope(tag, 100, 1);
+    same(source().envelope(VERIFIED, &sent, &rows).ours, Some((VERIFIED, 0, 3)))?;
+    same(
+        listed(&mut source(), 0, VERIFIED, &[prefix], &rows),
+        vec![Reply::Fetch(tag)],
+    )?;
+    let mut bench = Bench::new(SIZES);
+    let (areas, exchange, peer) = (bench.areas, 0, VERIFIED);
+    bench.call(Call::FreshExchange { areas, exchange, peer });
+    let window = post::encode_window(&rows);
+    let inventory = Call::Inventory {
+        areas,
+        window: window.clone(),
+        exchange,
+        peer,
+        prefixes: Vec::new().into(),
+    };
+    let envelope = Call::Envelope {
+        areas,
+        window,
+        peer,
+        envelope: sent,
+    };
+    same([envelope, inventory].map(|call| bench.refusal(call)), [Some(12); 2])
 }
 
 fn long_labels() -> Outcome {
@@ -269,14 +345,16 @@ pub const CHECKS: &[Check] = &[
     ("a next above 2^32", next_above_the_indices),
     ("next slot 2^64 - 1", last_slot),
     ("cells and R", no_places),
-    ("restore and load", restore_is_no_load),
     ("unknown peers", unknown_peers),
+    ("unknown contacts of own envelopes and exchanges", unknown_contacts),
+    ("unknown contacts, put to the product", unknown_to_the_product),
     ("exchanges of others", other_exchange),
     ("contact rows around reports", contact_rows_around_reports),
     ("ours, and reports", ours_is_reported),
     ("lists of 500", lists_of_500),
     ("over 500 window rows of one contact", long_windows),
     ("window rows not in order", window_order),
+    ("two window rows of one key", window_rows_of_one_key),
     ("a label over 65,526 bytes", long_labels),
     ("own rows: message numbers and sizes", own_rows),
     ("own rows that have ended", ended_messages_stay_queued),

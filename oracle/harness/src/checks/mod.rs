@@ -9,6 +9,7 @@ mod exhaustive;
 mod files;
 mod plain;
 mod refusals;
+mod restored;
 mod tombs;
 
 use crate::compare::pair::caught;
@@ -37,7 +38,7 @@ pub fn stops<T>(what: impl FnOnce() -> T) -> Outcome {
     }
 }
 
-const GROUPS: [(&str, &[Check]); 9] = [
+const GROUPS: [(&str, &[Check]); 10] = [
     ("chain, courier, state, kdf, data", plain::CHECKS),
     ("custody", custody::CHECKS),
     ("exchange", exchange::CHECKS),
@@ -46,6 +47,7 @@ const GROUPS: [(&str, &[Check]); 9] = [
     ("refusals", refusals::CHECKS),
     ("drill", drills::CHECKS),
     ("source and document differ", differences::CHECKS),
+    ("restore and load", restored::CHECKS),
     ("short inputs, all of them", exhaustive::CHECKS),
 ];
 

@@ -30,9 +30,9 @@ pub fn quiet() {
 
 /// A party that stops on a call has not answered it.
 pub fn caught<T>(who: &str, run: impl FnOnce() -> T) -> Result<T, String> {
-    CATCHING.set(true);
+    let before = CATCHING.replace(true);
     let result = catch_unwind(AssertUnwindSafe(run));
-    CATCHING.set(false);
+    CATCHING.set(before);
     result.map_err(|payload| {
         let text = payload
             .downcast_ref::<String>()

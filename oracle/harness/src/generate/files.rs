@@ -1,7 +1,7 @@
 //! Saved files and row blobs, whole and damaged.
 
-use super::Generator;
 use super::pool::secret_of;
+use super::{Generator, Profile};
 use post::{Bytes, Call, Envelope, FileRecord, Held, State, encode_file};
 use reference::raw;
 
@@ -10,11 +10,14 @@ fn row(slot: u64, held: &Held) -> FileRecord {
     FileRecord::Row(kind, slot, raw::blob(held))
 }
 
+/// Carried rows of lower numbers may have a tag of the pool.
+const POOLED: u64 = 12;
+
 impl Generator {
     fn carried(&mut self, depositor: u64, number: u64, end: u32) -> Held {
         let mut tag = [0xc0; 16];
         tag[8..].copy_from_slice(&number.to_be_bytes());
-        if number < 12 && self.rng.percent(30) {
+        if number < POOLED && self.rng.percent(30) {
             tag = self.pool.tags[number as usize];
         }
         Held::Carried {
@@ -53,12 +56,14 @@ impl Generator {
         let end = self.minute(state).saturating_add(70).min(u32::MAX - 2);
         let mut slot = self.rng.below(3) as u64;
         let known: Vec<u64> = state.contacts.iter().map(|contact| contact.id).collect();
+        // A row whose tag stands before it is left out; a full list has none.
+        let first = if self.profile == Profile::Full { POOLED } else { 0 };
         let mut helds = Vec::new();
         for number in 0..carried {
             let Some(depositor) = known.get(number / each) else {
                 break;
             };
-            helds.push(self.carried(*depositor, number as u64, end));
+            helds.push(self.carried(*depositor, first + number as u64, end));
         }
         for number in 0..tombstones {
             let held = self.tombstone(number as u64, end);
@@ -83,7 +88,7 @@ impl Generator {
             FileRecord::Row(_, slot, _) => *slot,
             FileRecord::NextSlot(slot) => *slot,
         });
-        let near_the_end = self.profile == super::Profile::Slots;
+        let near_the_end = self.profile == Profile::Slots;
         if near_the_end && self.rng.percent(80) {
             return u64::MAX - self.rng.below(3) as u64;
         }

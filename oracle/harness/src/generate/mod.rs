@@ -13,7 +13,7 @@ mod windows;
 pub use profile::Profile;
 pub use rng::Rng;
 
-use pool::Pool;
+use pool::{Pool, secret_of};
 use post::{Areas, Call, FileRecord, Kind, Sizes, State, Verification, WindowRow, encode_file};
 use std::collections::VecDeque;
 
@@ -29,6 +29,13 @@ pub struct Generator {
     made: usize,
     numbered: u64,
 }
+
+/// A full list begins with a load of so many rows of each of its depositors, who are verified, and of so many tombstones.
+const DEPOSITORS: usize = 8;
+const EACH: usize = 31;
+const LOADED_TOMBSTONES: usize = 1020;
+/// As many as a stored tombstone leaves.
+const TOMBSTONES: usize = 1024;
 
 pub const VERIFICATIONS: [Verification; 3] = [
     Verification::Unverified,
@@ -58,7 +65,7 @@ impl Generator {
     /// A few contacts and a time; what the profile needs besides comes once these are known.
     fn open(&mut self) {
         let contacts = match self.profile {
-            Profile::Quota => 10,
+            Profile::Quota | Profile::Full => 10,
             Profile::Contacts => self.rng.pick(&[3, 256]),
             Profile::Files => self.rng.pick(&[3, 10]),
             _ => self.rng.between(2, 6),
@@ -66,7 +73,7 @@ impl Generator {
         for place in 0..contacts {
             let id = self.pool.contacts.get(place).copied().unwrap_or(1000 + place as u64);
             let verification = self.rng.pick(&VERIFICATIONS);
-            let verification = if self.profile == Profile::Quota && place < 7 {
+            let verification = if place < self.profile.verified() {
                 Verification::Verified
             } else {
                 verification
@@ -94,6 +101,7 @@ impl Generator {
             ),
             Profile::Tombs => (self.rng.between(5, 20), self.rng.between(1015, 1024), 16),
             Profile::Slots => (3, 2, 16),
+            Profile::Full => (DEPOSITORS * EACH, LOADED_TOMBSTONES, EACH),
             _ => (0, 0, 1),
         };
         let room = self.sizes.tombstone_rows;
@@ -110,12 +118,51 @@ impl Generator {
                 file: encode_file(&records),
             });
         }
+        if self.profile == Profile::Full {
+            self.fill_up(state);
+        }
         if self.profile == Profile::Own && self.rng.percent(50) {
             for _ in 0..self.rng.between(248, 256) {
                 let call = self.numbered_own(state);
                 self.opening.push_back(call);
             }
         }
+    }
+
+    /// After the load of a full list: one row more of each of its depositors, which makes 256 carried rows, and one of another contact; tombstones up
+    /// to 1,024 and one more; a save, and an inventory of all.
+    fn fill_up(&mut self, state: &State) {
+        let (areas, none) = (Areas::enough(&self.sizes), || Vec::new().into());
+        for place in 0..=DEPOSITORS {
+            let envelope = self.plain_envelope(state);
+            self.opening.push_back(Call::Envelope {
+                areas,
+                window: none(),
+                peer: self.pool.contacts[place],
+                envelope,
+            });
+        }
+        for _ in LOADED_TOMBSTONES..=TOMBSTONES {
+            let tag = self.new_tag();
+            self.opening.push_back(Call::StoredTombstone {
+                areas,
+                tag,
+                secret: secret_of(&tag),
+                expiry: u32::MAX,
+            });
+        }
+        let (exchange, peer) = (0, self.pool.contacts[0]);
+        self.opening.extend([
+            Call::Save { areas },
+            Call::FreshExchange { areas, exchange, peer },
+            Call::Inventory {
+                areas,
+                window: none(),
+                exchange,
+                peer,
+                prefixes: none(),
+            },
+        ]);
     }
 
     pub fn next(&mut self, state: &State) -> Call {

@@ -116,6 +116,18 @@ impl Generator {
         vec![self.rng.next() as u8; length].into()
     }
 
+    /// A valid envelope of a tag that no call has had.
+    pub(super) fn plain_envelope(&mut self, state: &State) -> Envelope {
+        let tag = self.new_tag();
+        Envelope {
+            tag,
+            commitment: rules::commitment(&secret_of(&tag)),
+            expiry: self.minute(state).saturating_add(50),
+            copies: 4,
+            ciphertext: vec![self.rng.next() as u8; 48].into(),
+        }
+    }
+
     pub(super) fn envelope(&mut self, state: &State) -> Envelope {
         let plain = self.rng.percent(50);
         let tag = if plain && self.rng.percent(60) {

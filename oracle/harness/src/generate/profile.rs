@@ -22,10 +22,16 @@ pub enum Profile {
     Contacts,
     /// The window call.
     Windows,
+    /// All that a post can hold at once: 256 carried rows and 1,024 tombstones.
+    Full,
 }
 
+/// The lists of the seeds that this divides hold all at once.
+const FULL_EVERY: u64 = 25;
+
 impl Profile {
-    pub const ALL: [Self; 9] = [
+    /// The profiles of the other seeds, in turn.
+    const IN_TURN: [Self; 9] = [
         Self::Mixed,
         Self::Exchange,
         Self::Quota,
@@ -38,12 +44,25 @@ impl Profile {
     ];
 
     pub fn of_seed(seed: u64) -> Self {
-        Self::ALL[(seed % Self::ALL.len() as u64) as usize]
+        if seed.is_multiple_of(FULL_EVERY) {
+            return Self::Full;
+        }
+        Self::IN_TURN[(seed % Self::IN_TURN.len() as u64) as usize]
     }
 
     pub fn named(name: &str) -> Option<Self> {
         let lower = |profile: &Self| format!("{profile:?}").to_lowercase();
-        Self::ALL.into_iter().find(|profile| lower(profile) == name)
+        let mut all = Self::IN_TURN.into_iter().chain([Self::Full]);
+        all.find(|profile| lower(profile) == name)
+    }
+
+    /// So many contacts at the front are verified from the start.
+    pub fn verified(self) -> usize {
+        match self {
+            Self::Quota => 7,
+            Self::Full => super::DEPOSITORS,
+            _ => 0,
+        }
     }
 
     pub fn sizes(self, rng: &mut Rng) -> Sizes {
@@ -86,6 +105,11 @@ impl Profile {
                 carried_cells: 40,
                 ..few
             },
+            Self::Full => Sizes {
+                carried_cells: 256,
+                tombstone_rows: rng.pick(&[1024, 1025]),
+                ..few
+            },
         }
     }
 
@@ -109,8 +133,8 @@ impl Profile {
             (Self::Exchange, Kind::OwnEnvelope) => usual * 2,
             (Self::Exchange | Self::Own, Kind::Load) => 1,
             (Self::Quota, Kind::Envelope) => 70,
-            (Self::Quota | Self::Tombs, Kind::Load | Kind::Save | Kind::Maintenance) => 1,
-            (Self::Quota | Self::Tombs, Kind::Clock) => 3,
+            (Self::Quota | Self::Tombs | Self::Full, Kind::Load | Kind::Save | Kind::Maintenance) => 1,
+            (Self::Quota | Self::Tombs | Self::Full, Kind::Clock) => 3,
             (Self::Tombs, Kind::StoredTombstone | Kind::Opened | Kind::Tomb) => 30,
             (Self::Slots, Kind::Load) => 8,
             (Self::Slots, Kind::StoredTombstone | Kind::Opened | Kind::Tomb) => 14,

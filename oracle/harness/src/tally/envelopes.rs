@@ -3,6 +3,7 @@
 use super::Corner;
 use crate::compare::pair::Seen;
 use post::{Answer, Call, Custody, Envelope, Kind, OwnRow, Reply, State, Verification};
+use std::collections::BTreeSet;
 
 fn minute(state: &State) -> u64 {
     (state.clock / 60).min(u64::from(u32::MAX))
@@ -25,6 +26,11 @@ fn got(seen: &Seen, code: Custody, holds: impl Fn(u64, &Envelope) -> bool) -> bo
 
 fn rows_of(state: &State, peer: u64) -> usize {
     state.carried().filter(|(_, depositor, _)| *depositor == peer).count()
+}
+
+fn depositors(state: &State) -> usize {
+    let all: BTreeSet<u64> = state.carried().map(|(_, depositor, _)| depositor).collect();
+    all.len()
 }
 
 fn verified(state: &State, peer: u64) -> bool {
@@ -89,6 +95,14 @@ pub const CORNERS: &[Corner] = &[
     ("a 256th carried row is accepted", |seen| {
         got(seen, Custody::Accepted, |_, _| seen.before.carried().count() == 255)
     }),
+    (
+        "a 256th carried row is accepted, and eight depositors have one",
+        |seen| {
+            got(seen, Custody::Accepted, |_, _| {
+                seen.after.carried().count() == 256 && depositors(seen.after) >= 8
+            })
+        },
+    ),
     ("256 carried rows are Full to a depositor below its quota", |seen| {
         got(seen, Custody::Full, |peer, _| {
             seen.before.carried().count() == 256 && rows_of(seen.before, peer) < 16

@@ -4,6 +4,7 @@ use super::Corner;
 use crate::compare::pair::Seen;
 use post::{Action, Answer, Call, ChainRow, Held, Kind, State, Tag};
 
+const CARRIED: usize = 256;
 const TOMBSTONES: usize = 1024;
 
 fn actions<'a>(seen: &'a Seen, kind: Kind) -> &'a [Action] {
@@ -40,12 +41,30 @@ fn tombstones(state: &State) -> usize {
     state.tombstones().count()
 }
 
-fn least_expiries(state: &State) -> usize {
+/// The slots of the tombstones of least expiry.
+fn of_least_expiry(state: &State) -> Vec<u64> {
     let least = state.tombstones().map(|row| row.held.expiry()).min();
     state
         .tombstones()
         .filter(|row| Some(row.held.expiry()) == least)
-        .count()
+        .map(|row| row.slot)
+        .collect()
+}
+
+/// One is stored where 1,024 are: one of least expiry goes though others expire later, and 1,024 stay.
+fn least_goes(seen: &Seen) -> bool {
+    let least = of_least_expiry(seen.before);
+    let goes = match seen.answer {
+        Answer::Done { actions, .. } => matches!(actions[..], [Action::Delete { slot }, _] if least.contains(&slot)),
+        _ => false,
+    };
+    stored(seen, 2) && goes && least.len() < TOMBSTONES && [seen.before, seen.after].map(tombstones) == [TOMBSTONES; 2]
+}
+
+/// All that a post can hold, but for own rows: 256 carried rows and 1,024 tombstones.
+fn full(state: &State) -> bool {
+    let carried = state.carried().count();
+    carried == CARRIED && state.held.len() == CARRIED + TOMBSTONES
 }
 
 /// The kinds of the rows that maintenance deleted, in its order: carried or not.
@@ -130,7 +149,15 @@ pub const CORNERS: &[Corner] = &[
         stored(seen, 1) && tombstones(seen.before) == TOMBSTONES - 1
     }),
     ("the deleted tombstone has equals in expiry", |seen| {
-        stored(seen, 2) && least_expiries(seen.before) > 1
+        stored(seen, 2) && of_least_expiry(seen.before).len() > 1
+    }),
+    ("one of least expiry goes at 1,024, and 1,024 stay", least_goes),
+    ("256 carried rows and 1,024 tombstones at once", |seen| full(seen.after)),
+    ("a save of 256 carried rows and 1,024 tombstones", |seen| {
+        matches!(seen.answer, Answer::Saved(_)) && full(seen.before)
+    }),
+    ("an inventory that offers most of 256 carried rows", |seen| {
+        matches!(seen.answer, Answer::Done { replies, .. } if replies.len() > CARRIED / 2) && full(seen.before)
     }),
     ("nothing is stored at 1,024, the tag has a tombstone", |seen| {
         stored(seen, 0) && tombstones(seen.before) >= TOMBSTONES
@@ -186,7 +213,7 @@ pub const CORNERS: &[Corner] = &[
         loaded(seen) && tombstones(seen.after) == seen.sizes.tombstone_rows
     }),
     ("a load of 256 carried rows", |seen| {
-        loaded(seen) && seen.after.carried().count() == 256
+        loaded(seen) && seen.after.carried().count() == CARRIED
     }),
     ("a load of two tombstones of one tag", |seen| {
         let tags: Vec<&Tag> = seen.after.tombstones().map(|row| row.held.tag()).take(40).collect();

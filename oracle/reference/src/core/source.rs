@@ -1,5 +1,6 @@
 //! The source's calls on a device, as they are: no refusal, and no area that could be too short.
 
+mod restart;
 pub(crate) mod view;
 
 use super::convert::{action_out, dir_in, envelope_in, held_in, own_out, reply_out, verification_in};
@@ -316,24 +317,31 @@ impl Source {
             .collect()
     }
 
-    /// The own row that `own_envelope` makes; it is not yet held.
-    pub fn own_envelope(&mut self, new: &NewOwn) -> Option<post::OwnRow> {
-        let id = ContactId(new.contact);
-        let contact = self.core.contact_mut(id);
-        let before = std::mem::replace(&mut contact.route_key, Zeroizing::new(new.route_key));
+    /// The contact has this route key and a send chain where it was sealed; answers the key before.
+    fn lend_route(&mut self, new: &NewOwn) -> Zeroizing<[u8; 32]> {
+        let contact = self.core.contact_mut(ContactId(new.contact));
         contact.send = Some(SendChain {
             gen_: new.generation,
             dir: dir_in(new.dir),
             idx: new.index,
             key: key(0),
         });
+        std::mem::replace(&mut contact.route_key, Zeroizing::new(new.route_key))
+    }
+
+    /// The own row that `own_envelope` makes; it is not yet held. A contact that is not known has no key to lend.
+    pub fn own_envelope(&mut self, new: &NewOwn) -> Option<post::OwnRow> {
+        let id = ContactId(new.contact);
+        let before = self.knows(new.contact).then(|| self.lend_route(new));
         let outgoing = outgoing(new);
         let inner = new.ciphertext.len().saturating_sub(TAG_LEN);
         let own = self
             .core
             .own_envelope(id, &outgoing.queued, Zeroizing::new(new.secret), inner)
             .expect("the backend has no fault here");
-        self.core.contact_mut(id).route_key = before;
+        if let Some(before) = before {
+            self.core.contact_mut(id).route_key = before;
+        }
         own.map(|own| own_out(new.contact, new.message, &outgoing, &own))
     }
 

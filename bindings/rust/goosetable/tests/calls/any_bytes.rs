@@ -3,10 +3,10 @@
 use super::*;
 
 /// Numbers that look random: a linear congruential generator.
-struct Noise(u64);
+pub struct Noise(pub u64);
 
 impl Noise {
-    fn next(&mut self) -> u64 {
+    pub fn next(&mut self) -> u64 {
         self.0 = self
             .0
             .wrapping_mul(6364136223846793005)
@@ -168,6 +168,10 @@ fn naming(own: u16, carried: u16) -> (Areas, Tag) {
 fn ciphertexts(own: u16, carried: u16) -> [Vec<u8>; 4] {
     let (areas, own_tag) = naming(own, carried);
     let mut post = Post::over(areas).unwrap();
+    let listed = [
+        post.own_ciphertext(UNVERIFIED, 1).unwrap().to_vec(),
+        post.carried().next().unwrap().envelope.ciphertext.to_vec(),
+    ];
     let fetched = [own_tag, tag(2)].map(|tag| {
         post.fetch(VERIFIED, tag)
             .unwrap()
@@ -187,7 +191,8 @@ fn ciphertexts(own: u16, carried: u16) -> [Vec<u8>; 4] {
         Reply::Envelope(envelope) => envelope.ciphertext.to_vec(),
         other => panic!("{other:?}"),
     });
-    let all: Vec<_> = fetched.into_iter().chain(offered).collect();
+    let all: Vec<_> = fetched.iter().cloned().chain(offered).collect();
+    assert_eq!(listed, fetched);
     all.try_into().unwrap()
 }
 
@@ -208,4 +213,125 @@ fn a_row_of_a_cell_that_does_not_count_has_no_ciphertext() {
             [&own, &none, &own, &none].map(Vec::clone)
         );
     }
+}
+
+/// The tables of a post: what each lists is as long as it says, and each ciphertext is the one that a fetch gives.
+fn tables(post: &mut Post) -> usize {
+    let counts = post.counts();
+    assert_eq!(post.contacts().count(), counts.contacts);
+    assert_eq!(post.own_rows().count(), counts.own);
+    assert_eq!(post.carried().count(), counts.carried);
+    assert_eq!(post.tombstones().count(), counts.tombstones);
+    assert_eq!(post.bad_tags().count(), counts.bad_tags);
+    assert_eq!(post.carried().len(), counts.carried);
+    let areas = post.areas();
+    assert!(
+        post.carried()
+            .all(|row| lies_within(areas, row.envelope.ciphertext))
+    );
+    let own: Vec<_> = post
+        .own_rows()
+        .filter(|row| row.contact != VERIFIED)
+        .map(|row| row.tag)
+        .collect();
+    let carried: Vec<_> = post
+        .carried()
+        .map(|row| (row.envelope.header, row.envelope.ciphertext.to_vec()))
+        .collect();
+    let mut compared = 0;
+    for (place, (header, ciphertext)) in carried.iter().enumerate() {
+        let same = |(other, _): &(Header, Vec<u8>)| other.tag == header.tag;
+        if own.contains(&header.tag) || carried[..place].iter().any(same) {
+            continue;
+        }
+        let fetched = post.fetch(VERIFIED, header.tag).unwrap().unwrap();
+        assert_eq!(
+            (&fetched.header, fetched.ciphertext),
+            (header, &ciphertext[..])
+        );
+        compared += ciphertext.len();
+    }
+    compared
+}
+
+#[test]
+fn tables_of_any_bytes_are_listed() {
+    let mut noise = Noise(2);
+    let mut compared = 0;
+    for _ in 0..40 {
+        let mut post = Post::over(noise.areas()).unwrap();
+        compared += tables(&mut post);
+    }
+    assert!(0 < compared);
+}
+
+#[test]
+fn a_count_above_what_fits_is_what_fits() {
+    let mut areas = Areas::fresh(SIZES).unwrap();
+    areas.device[12..52].fill(0xff);
+    let mut post = Post::over(areas).unwrap();
+    assert_eq!(
+        [
+            post.contacts().len(),
+            post.own_rows().len(),
+            post.carried().len(),
+            post.tombstones().len(),
+            post.bad_tags().len(),
+        ],
+        [256, 256, 256, SIZES.tombstone_rows, SIZES.bad_tag_rows]
+    );
+    assert_eq!(post.tombstones().last().unwrap().tag, tag(0));
+    let mut row = [0; OwnRow::SIZE];
+    row[51] = 48;
+    for (message, number) in [(0, 10), (1, 4)] {
+        row[11] = message;
+        let row = OwnRow::from_bytes(&row);
+        let restored = |post: &mut Post| post.restore_own_row(row, &[0; 48]);
+        assert_eq!(refused(&mut post, restored), number);
+    }
+}
+
+#[test]
+fn an_own_row_is_restored_in_any_bytes_or_refused() {
+    let mut noise = Noise(3);
+    let mut source = post();
+    let row = source.own_envelope(message(VERIFIED, 1, 7)).unwrap();
+    let mut restored = 0;
+    for _ in 0..40 {
+        let mut areas = noise.areas();
+        areas.device[20..28].copy_from_slice(&(noise.next() % 4).to_be_bytes());
+        let mut post = Post::over(areas).unwrap();
+        let before = post.counts().own;
+        match post.restore_own_row(row.unwrap(), &[0x0e; 80]) {
+            Ok(()) => {
+                restored += 1;
+                assert_eq!(post.counts().own, before + 1);
+                assert_eq!(post.own_ciphertext(VERIFIED, 1), Some(&[0x0e; 80][..]));
+            }
+            Err(refusal) => assert_eq!(refusal, Refusal::NoCell),
+        }
+    }
+    assert!(0 < restored);
+}
+
+#[test]
+fn blobs_and_records_of_any_bytes_are_read_or_none() {
+    let mut noise = Noise(6);
+    let (mut rows, mut records) = (0, 0);
+    for len in (0..200).chain([BLOB, BLOB + 1]) {
+        let bytes = noise.bytes(len);
+        for kind in 0..=4 {
+            let Some(reply) = Reply::from_bytes(kind, &bytes) else {
+                continue;
+            };
+            assert_eq!((reply.kind(), &*reply.to_bytes()), (kind, &*bytes));
+            records += 1;
+        }
+        for first in [0, 1] {
+            let mut blob = bytes.clone();
+            blob.iter_mut().take(1).for_each(|byte| *byte = first);
+            rows += usize::from(stored_row(&blob).is_some());
+        }
+    }
+    assert!(0 < rows && 0 < records, "{rows} {records}");
 }

@@ -152,3 +152,27 @@ fn at_1024_a_stored_tombstone_deletes_the_one_of_least_expiry() {
         "a turned row passes no limit"
     );
 }
+
+/// How many tombstones a carried tag has after a call.
+fn tombstones_after(call: impl FnOnce(&mut Post)) -> usize {
+    let mut post = post();
+    carry(&mut post, VERIFIED, envelope(1, 4));
+    call(&mut post);
+    assert_eq!(post.carried_of(tag(1)), None);
+    post.tombstones().filter(|row| row.tag == tag(1)).count()
+}
+
+#[test]
+fn a_tomb_before_opened_leaves_one_tombstone() {
+    let tomb_first = tombstones_after(|post| {
+        assert_eq!(tomb(post, tag(1), SECRET).unwrap().len(), 1);
+        let opened = post.opened(VERIFIED, tag(1), SECRET, 100).unwrap();
+        assert_eq!((opened.replies.len(), opened.actions.len()), (1, 0));
+    });
+    let opened_first = tombstones_after(|post| {
+        let opened = post.opened(VERIFIED, tag(1), SECRET, 100).unwrap();
+        assert_eq!((opened.replies.len(), opened.actions.len()), (1, 1));
+        assert_eq!(tomb(post, tag(1), SECRET).unwrap().len(), 1);
+    });
+    assert_eq!((tomb_first, opened_first), (1, 2));
+}

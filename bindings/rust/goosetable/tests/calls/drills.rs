@@ -116,7 +116,7 @@ fn action_lines(actions: Actions<'_>) -> String {
                 writeln!(lines, "put {} {length}", slot.0).unwrap();
             }
             Action::Delete(slot) => writeln!(lines, "del {}", slot.0).unwrap(),
-            Action::OwnPut { .. } => panic!("a drill has no own rows"),
+            other => panic!("a drill has no own rows: {other:?}"),
         }
         lines
     })
@@ -156,7 +156,7 @@ fn perform(
 ) -> Result<Option<String>, Refusal> {
     Ok(Some(match step {
         Step::Envelope(peer, envelope) => match post.envelope(peer, envelope, &Window::EMPTY)? {
-            Received::Replied { code, actions } => {
+            Received::Replied { code, actions, .. } => {
                 let tag = envelope.header.tag;
                 action_lines(actions) + &reply_line(Reply::Custody { tag, code })
             }

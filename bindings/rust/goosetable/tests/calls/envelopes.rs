@@ -11,6 +11,7 @@ fn the_worked_example() {
     let Received::Replied {
         code: first,
         actions,
+        ..
     } = post.envelope(VERIFIED, worked, &Window::EMPTY).unwrap()
     else {
         panic!("ours");
@@ -158,12 +159,10 @@ fn no_slot_meets_6_only_where_one_is_needed() {
 #[test]
 fn an_envelope_in_the_window_is_ours() {
     let mut post = post();
-    let window: Window = [
+    let window = window_of([
         window_row(VERIFIED, 2, tag(1)),
         window_row(VERIFIED, 3, tag(2)),
-    ]
-    .into_iter()
-    .collect();
+    ]);
     let mut sealed = envelope(2, 0);
     sealed.header.expiry_min = 0;
     let before = post.areas().clone();
@@ -172,6 +171,7 @@ fn an_envelope_in_the_window_is_ours() {
             contact,
             generation,
             index,
+            ..
         } => assert_eq!((contact, generation, index), (VERIFIED, 0, 3)),
         other => panic!("{other:?}"),
     }
@@ -185,7 +185,7 @@ fn unknown_contacts_meet_2() {
         move |post: &mut Post| post.envelope(peer, envelope(1, 4), &window).map(drop)
     };
     assert_eq!(refused(&mut post, from(STRANGER, Window::EMPTY)), 2);
-    let window = Window::from_iter([window_row(STRANGER, 0, tag(9))]);
+    let window = window_of([window_row(STRANGER, 0, tag(9))]);
     assert_eq!(refused(&mut post, from(VERIFIED, window)), 2);
     assert_eq!(
         refused(&mut post, |post| post.fetch(STRANGER, tag(1)).map(drop)),
@@ -194,15 +194,23 @@ fn unknown_contacts_meet_2() {
 }
 
 #[test]
-fn window_keys_that_do_not_rise_meet_12() {
+fn ours_is_the_first_row_with_the_tag_and_says_no_direction() {
     let mut post = post();
-    for (first, second) in [(1, 0), (1, 1)] {
-        let window = Window::from_iter([
-            window_row(VERIFIED, first, tag(1)),
-            window_row(VERIFIED, second, tag(2)),
-        ]);
-        let call = |post: &mut Post| post.envelope(VERIFIED, envelope(3, 4), &window).map(drop);
-        assert_eq!(refused(&mut post, call), 12);
+    let initiator = window_row(VERIFIED, 3, tag(2));
+    let mut responder = initiator;
+    responder.key.direction = Direction::Responder;
+    for (rows, first) in [
+        (vec![initiator], initiator),
+        (vec![responder], responder),
+        (vec![responder, initiator], initiator),
+    ] {
+        let window = Window::from_rows(rows).unwrap();
+        let said = post.envelope(UNVERIFIED, envelope(2, 4), &window);
+        assert_eq!(
+            format!("{:?}", said.unwrap()),
+            "Ours { contact: ContactId(5), generation: 0, index: 3 }"
+        );
+        assert_eq!(window.row_of(tag(2)), Some(first));
     }
 }
 

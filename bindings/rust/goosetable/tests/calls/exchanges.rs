@@ -165,7 +165,7 @@ fn a_listed_or_tombstoned_row_is_not_offered_but_is_in_our_inventory() {
 #[test]
 fn fetches_follow_listed_order_then_tombs_then_offers() {
     let mut post = post();
-    let window = Window::from_iter([
+    let window = window_of([
         window_row(VERIFIED, 0, tag(0xa0)),
         window_row(VERIFIED, 1, tag(0xa1)),
     ]);
@@ -195,7 +195,7 @@ fn a_bad_tag_is_not_fetched_from_its_peer_nor_looked_past() {
     let mut post = post();
     let mut twin = tag(0xa0);
     twin.0[15] = 0;
-    let window = Window::from_iter([
+    let window = window_of([
         window_row(VERIFIED, 0, tag(0xa0)),
         window_row(VERIFIED, 1, twin),
     ]);
@@ -245,15 +245,11 @@ fn an_exchange_of_another_or_of_nobody_meets_3() {
 }
 
 #[test]
-fn inventories_meet_12_and_2_before_3() {
+fn inventories_meet_2_before_3() {
     let mut post = post();
     let mut exchange = Exchange::closed();
-    let falling = Window::from_iter([
-        window_row(VERIFIED, 1, tag(1)),
-        window_row(VERIFIED, 0, tag(2)),
-    ]);
-    let unknown = Window::from_iter([window_row(STRANGER, 0, tag(1))]);
-    for (window, number) in [(falling, 12), (unknown, 2), (Window::EMPTY, 3)] {
+    let unknown = window_of([window_row(STRANGER, 0, tag(1))]);
+    for (window, number) in [(unknown, 2), (Window::EMPTY, 3)] {
         let call = |post: &mut Post| {
             post.inventory(&mut exchange, VERIFIED, &window, &[])
                 .map(drop)

@@ -4,12 +4,18 @@
 
 mod any_bytes;
 mod deliveries;
+mod documented;
 mod drills;
 mod envelopes;
 mod exchanges;
 mod files;
+mod keys;
+mod later;
 mod own;
+mod restart;
 mod settings;
+mod shown;
+mod tables;
 mod upkeep;
 mod windows;
 
@@ -94,6 +100,11 @@ fn window_row(contact: ContactId, index: u32, tag: Tag) -> WindowRow {
     }
 }
 
+/// A window of rows that have different keys.
+fn window_of<const N: usize>(rows: [WindowRow; N]) -> Window {
+    Window::from_rows(rows).unwrap()
+}
+
 /// The code that answers an envelope which is not ours.
 fn code(post: &mut Post, peer: ContactId, envelope: Envelope<'_>) -> Custody {
     match post.envelope(peer, envelope, &Window::EMPTY).unwrap() {
@@ -108,6 +119,7 @@ fn carry(post: &mut Post, peer: ContactId, envelope: Envelope<'_>) -> Slot {
         Received::Replied {
             code: Custody::Accepted,
             mut actions,
+            ..
         } => match actions.next() {
             Some(Action::Put(slot)) => slot,
             other => panic!("{other:?}"),

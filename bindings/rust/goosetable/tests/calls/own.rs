@@ -107,3 +107,42 @@ fn no_envelope_of_a_long_message_or_of_a_257th() {
     );
     assert_eq!(post.counts().own, 256);
 }
+
+#[test]
+fn it_goes_to_couriers_alone() {
+    let mut post = post();
+    let row = post.own_envelope(message(VERIFIED, 1, 7)).unwrap().unwrap();
+    for (peer, goes) in [(VERIFIED, false), (UNVERIFIED, true)] {
+        let mut area = [[0; 8]; MAX_LISTED];
+        let listed = post.inventory_of_ours(peer, &mut area).unwrap();
+        assert_eq!(listed.contains(&row.tag.prefix()), goes);
+        assert_eq!(post.fetch(peer, row.tag).unwrap().is_some(), goes);
+        let mut exchange = Exchange::closed();
+        post.fresh_exchange(&mut exchange, peer).unwrap();
+        let record = post.inventory(&mut exchange, peer, &Window::EMPTY, &[]);
+        let Record::Taken(replies) = record.unwrap() else {
+            panic!("malformed");
+        };
+        assert_eq!(replies.len(), usize::from(goes));
+    }
+}
+
+#[test]
+fn rows_are_equal_in_any_cell() {
+    let mut post = post();
+    post.own_envelope(message(VERIFIED, 1, 1)).unwrap();
+    let row = post.own_envelope(message(VERIFIED, 2, 2)).unwrap().unwrap();
+    let mut again = self::post();
+    again.restore_own_row(row, &[0x0e; 80]).unwrap();
+    let restored = again.own_row(VERIFIED, 2).unwrap();
+    assert_ne!(restored.to_bytes(), row.to_bytes(), "another cell");
+    assert_eq!(restored, row);
+    for at in (0..52).filter(|at| *at != 49) {
+        let mut bytes = row.to_bytes();
+        bytes[at] ^= 1;
+        assert_ne!(OwnRow::from_bytes(&bytes), row, "byte {at}");
+    }
+    let mut renewed = row;
+    renewed.renewed = true;
+    assert_ne!(renewed, row);
+}

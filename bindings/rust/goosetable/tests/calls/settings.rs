@@ -90,11 +90,42 @@ fn a_setting_outside_its_range_meets_7() {
 }
 
 #[test]
+fn a_setting_has_4_bytes_and_a_verification_1() {
+    let setting = Setting {
+        enabled: true,
+        copies: 7,
+        lifetime_min: 0x0102,
+    };
+    let disabled = Setting {
+        enabled: false,
+        ..setting
+    };
+    for (setting, bytes) in [(setting, [1, 7, 1, 2]), (disabled, [0, 7, 1, 2])] {
+        assert_eq!(setting.to_bytes(), bytes);
+        assert_eq!(Setting::from_bytes(bytes), Some(setting));
+    }
+    assert_eq!(Setting::from_bytes([2, 7, 1, 2]), None);
+    for (code, verification) in [
+        (0, Verification::Unverified),
+        (1, Verification::Verified),
+        (2, Verification::Compromised),
+    ] {
+        assert_eq!(verification.code(), code);
+        assert_eq!(Verification::from_code(code), Some(verification));
+    }
+    assert!((3..=u8::MAX).all(|code| Verification::from_code(code).is_none()));
+}
+
+#[test]
 fn the_minute_stops_at_the_last_that_fits() {
     let mut post = post();
-    assert_eq!(post.clock(), 600);
+    assert_eq!((post.clock(), post.minute()), (600, 10));
+    for (seconds, minute) in [(659, 10), (660, 11), ((1 << 32) * 60 - 61, u32::MAX - 1)] {
+        post.set_clock(seconds);
+        assert_eq!(post.minute(), minute);
+    }
     post.set_clock(u64::MAX);
-    assert_eq!(post.clock(), u64::MAX);
+    assert_eq!((post.clock(), post.minute()), (u64::MAX, u32::MAX));
     let row = post.own_envelope(message(VERIFIED, 1, 0)).unwrap();
     assert_eq!(row.unwrap().expiry_min, u32::MAX);
 }
@@ -103,12 +134,27 @@ fn the_minute_stops_at_the_last_that_fits() {
 fn a_refusal_says_its_number_and_why() {
     assert_eq!(
         Refusal::UnknownContact.to_string(),
-        "refused 2: a contact is not known"
+        "refused 2: the contact, or one in a window row, isn't known"
     );
-    for (place, refusal) in Refusal::ALL.into_iter().enumerate() {
+    for (place, refusal) in Refusal::ALL.iter().enumerate() {
         assert_eq!(usize::from(refusal.number()), place + 1);
-        assert_eq!(Refusal::from_number(refusal.number()), Some(refusal));
+        assert_eq!(Refusal::from_number(refusal.number()), Some(*refusal));
     }
-    assert_eq!(Refusal::from_number(0), None);
-    assert_eq!(Refusal::from_number(14), None);
+}
+
+#[test]
+fn every_number_up_to_127_is_a_refusal() {
+    for number in 1..=127 {
+        let refusal = Refusal::from_number(number).unwrap();
+        assert_eq!(refusal.number(), number);
+        let is_other = matches!(refusal, Refusal::Other { .. });
+        assert_eq!(is_other, 13 < number);
+    }
+    assert_eq!(
+        Refusal::from_number(14).unwrap().to_string(),
+        "refused 14: a number that this version does not know"
+    );
+    for number in [0, 128, 129, 130, 131, 255] {
+        assert_eq!(Refusal::from_number(number), None);
+    }
 }

@@ -1,4 +1,4 @@
-//! The window call.
+//! The window call, and windows that are made of what it lists.
 
 use super::*;
 
@@ -59,4 +59,91 @@ fn too_many_skipped_or_a_next_too_high_meets_12() {
     };
     assert_eq!(window(&[], &[above]), Err(Refusal::WindowRows));
     assert_eq!(Refusal::WindowRows.number(), 12);
+}
+
+/// A row of every contact, direction, generation and index of a few, in the order of keys; each with its own tag.
+fn rows_in_order() -> Vec<WindowRow> {
+    let mut rows = Vec::new();
+    for contact in [VERIFIED, UNVERIFIED] {
+        for direction in [Direction::Initiator, Direction::Responder] {
+            for generation in [0, 1] {
+                for index in [0, 1, 256] {
+                    let tag = tag(rows.len() as u8);
+                    let key = MessageKey {
+                        direction,
+                        generation,
+                        index,
+                    };
+                    rows.push(WindowRow { contact, key, tag });
+                }
+            }
+        }
+    }
+    rows
+}
+
+#[test]
+fn rows_stand_sorted_in_whatever_order_they_are_pushed() {
+    let sorted = rows_in_order();
+    let mut mixed = sorted.clone();
+    mixed.reverse();
+    mixed.rotate_left(7);
+    mixed.swap(0, 11);
+    let mut pushed = Window::EMPTY;
+    for row in &mixed {
+        pushed.push(*row).unwrap();
+    }
+    assert!(pushed.rows().eq(sorted.iter().copied()));
+    assert_eq!((pushed.len(), pushed.is_empty()), (sorted.len(), false));
+    assert!(Window::from_rows(mixed).unwrap() == pushed);
+    for row in sorted {
+        assert_eq!(pushed.row_of(row.tag), Some(row));
+        let mut post = post();
+        let mut sealed = envelope(0, 4);
+        sealed.header.tag = row.tag;
+        let said = post.envelope(VERIFIED, sealed, &pushed).unwrap();
+        assert!(matches!(said, Received::Ours { .. }), "{said:?}");
+    }
+    assert_eq!(pushed.row_of(tag(0xff)), None);
+}
+
+#[test]
+fn a_key_is_not_taken_twice() {
+    let twice = window_row(VERIFIED, 1, tag(9));
+    let mut window = window_of([window_row(VERIFIED, 0, tag(1)), twice]);
+    let before = window.clone();
+    let again = WindowRow {
+        tag: tag(8),
+        ..twice
+    };
+    for refused in [
+        window.push(again),
+        window.push_route(VERIFIED, &ROUTE_KEY, twice.key),
+    ] {
+        let error = refused.unwrap_err();
+        assert_eq!((error.contact, error.key), (VERIFIED, key(1)));
+        assert_eq!(
+            error.to_string(),
+            "the window has this key already: contact 5, direction I, generation 0, index 1"
+        );
+    }
+    assert!(window == before);
+    let error = Window::from_rows([again, window_row(VERIFIED, 0, tag(1)), twice]).unwrap_err();
+    assert_eq!((error.contact, error.key), (VERIFIED, key(1)));
+    window.push(window_row(UNVERIFIED, 1, tag(9))).unwrap();
+    assert_eq!(window.len(), 3);
+}
+
+#[test]
+fn a_route_is_pushed_with_its_tag() {
+    let mut post = post();
+    let own = post.own_envelope(message(VERIFIED, 1, 7)).unwrap().unwrap();
+    let mut window = Window::EMPTY;
+    for index in [9, 7, 8] {
+        window.push_route(VERIFIED, &ROUTE_KEY, key(index)).unwrap();
+    }
+    let indexes: Vec<_> = window.rows().map(|row| row.key.index).collect();
+    assert_eq!(indexes, [7, 8, 9]);
+    assert_eq!(window.rows().next().unwrap().tag, own.tag);
+    assert_eq!(window.row_of(own.tag).unwrap().key, key(7));
 }
