@@ -339,7 +339,7 @@ goosetable_answer goosetable_own_envelope(
     uint8_t device[GOOSETABLE_DEVICE_SIZE],
     uint64_t contact,
     uint32_t msgno,
-    const uint8_t key[GOOSETABLE_KEY_SIZE],
+    const uint8_t route_key[GOOSETABLE_KEY_SIZE],
     uint8_t dir,
     uint8_t generation,
     uint32_t idx,
@@ -564,7 +564,7 @@ goosetable_answer goosetable_save(
  * Replaces the held rows and the next slot by those of a saved file, nothing else. 8: mark (its kind too), length or place of HN wrong, blob
  * refused, slot twice or not below next slot, carried tag twice, unknown depositor, over 256 carried or 32 for one. A carried row with copies 0
  * is saved, and its blob is refused. Rows may stand in any order, but where slots do not rise along the file the time grows with the square of the
- * number of rows (1,024 tombstones: over a hundred times as long). Of areas that calls left, goosetable_save writes no file whose slots do not rise.
+ * number of rows (1,024 tombstones: about a hundred times as long). Of areas that calls left, goosetable_save writes no file whose slots do not rise.
  * Writes: device, carried, tombstones, carried_cells.
  * Refused by: 8, 4, 5.
  * Stack: 6,752 bytes.
@@ -610,7 +610,7 @@ goosetable_answer goosetable_window(
  * Stack: 4,776 bytes.
  */
 goosetable_answer goosetable_route_tag(
-    const uint8_t key[GOOSETABLE_KEY_SIZE],
+    const uint8_t route_key[GOOSETABLE_KEY_SIZE],
     uint8_t dir,
     uint8_t generation,
     uint32_t idx,
@@ -623,7 +623,7 @@ goosetable_answer goosetable_route_tag(
  * Refused by: nothing.
  * Stack: 6,568 bytes.
  */
-void goosetable_delivered(const uint8_t key[GOOSETABLE_KEY_SIZE], uint8_t s[GOOSETABLE_TAG_SIZE]);
+void goosetable_delivered(const uint8_t message_key[GOOSETABLE_KEY_SIZE], uint8_t s[GOOSETABLE_TAG_SIZE]);
 
 /*
  * The commitment c that a secret opens. Envelopes have it, those in replies too: a host makes it only to test a secret against an envelope itself.

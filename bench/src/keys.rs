@@ -44,7 +44,7 @@ const CASES: [Pair; 3] = [
 ];
 
 pub fn run() {
-    println!("| of a key | library, ns | of the source |\n|---|---|---|");
+    println!("\n| of a key | library, ns | of the source |\n|---|---|---|");
     for (name, ours, source) in CASES {
         assert!(ours() == source(), "{name} differs from the source's");
         let times = best(

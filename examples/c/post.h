@@ -9,8 +9,8 @@
  * fewer there comes a refusal, 4, where a code should go back.
  */
 #define CELLS GOOSETABLE_MAX_ROWS
-/* How many tombstones and bad tags: few are enough here. docs/HOST.md says what a post needs. */
-#define TOMBSTONES 8
+/* How many tombstones: what docs/HOST.md asks for at least; and bad tags: few are enough here. */
+#define TOMBSTONES 1024
 #define BAD_TAGS 2
 
 /* Every area is allocated by itself and has just its size, so that a checker sees a byte that is written or read past its end. */

@@ -11,6 +11,13 @@ fn main() {
         },
         PathBuf::from,
     );
+    if folder.is_relative() {
+        eprintln!(
+            "GOOSETABLE_LIB names the folder {}: it must be absolute, since a build script does not know where it was called",
+            folder.display()
+        );
+        process::exit(1);
+    }
     let archive = folder.join("libgoosetable.a");
     if !archive.is_file() {
         eprintln!(

@@ -10,7 +10,7 @@ use crate::post::sealed;
 use crate::post::secret;
 use crate::post::tag;
 
-// A carried row and own row 2 have one tag, and different secrets.
+// A carried row and own row 2 have one tag, and different secrets. Tombs come ten minutes later: a tombstone has its row's expiry, not a new one.
 pub fn tombs() {
     text(
         b"a tomb looks for a carried row first; a wrong secret is malformed; an unknown tag changes nothing\n",
@@ -20,7 +20,7 @@ pub fn tombs() {
         .contact(6)
         .contact(7)
         .deposit(7, sealed(t, 4, 100));
-    let p = p.own_envelope(6, 2).own_envelope(6, 3);
+    let p = p.own_envelope(6, 2).own_envelope(6, 3).at_minute(10);
     let p = p.tomb(t, own_secret());
     let p = p.tomb(tag(0x99), secret());
     let p = p.tomb(t, secret());

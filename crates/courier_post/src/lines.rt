@@ -171,13 +171,14 @@ pub fn show_counts(device: Device) {
     end();
 }
 
-// The first byte of each prefix, and how many there are.
+// The first byte of a prefix.
 fn show_prefix(prefixes: &[u8; 4096], i: usize) {
     text(b" ");
     let first = octets::get_u8(prefixes, i % 512 * 8);
     io::print_hex(STDOUT_FILENO, first as u64, 2);
 }
 
+// How many prefixes there are, and the first byte of each.
 pub fn show_prefixes(prefixes: &[u8; 4096], n: usize) {
     text(b"ours");
     number(n as u64);

@@ -64,7 +64,7 @@ pub fn secret() -> [u8; 16] {
     tag(0x66)
 }
 
-// Its header.
+// The header of an envelope whose commitment `secret` opens.
 pub fn sealed(tag: [u8; 16], copies: u8, expiry: u32) -> Header {
     Header {
         tag,
@@ -74,7 +74,7 @@ pub fn sealed(tag: [u8; 16], copies: u8, expiry: u32) -> Header {
     }
 }
 
-// The header of any other.
+// The header of an envelope for which no tomb comes.
 pub fn header(b: u8, copies: u8, expiry: u32) -> Header {
     Header {
         tag: tag(b),

@@ -18,7 +18,7 @@ use Rattle.drill_turn.proofs.StreamLaws.{streamed-more, between-on, between-end
 use Rattle.drill.specs.declared.Wrote.{Wrote}
 use Rattle.drill.specs.declared.Ran.{Ran}
 use Rattle.drill.specs.Reads.{Filled}
-use Rattle.drill.specs.Written.{Sent, Takes, Writes, ranOf, Halts, LastSent, Finishes, Sending, Whole, Written}
+use Rattle.drill.specs.Written.{Sent, Takes, Writes, ranOf, Halts, Finishes, Sending, SentAll}
 
 -- ---- one write, none, and one after another
 
@@ -105,8 +105,8 @@ module _ {s : State} {c o k t oc rc p f : List ℕ} {u v : Turn} {input input' :
   abbrev lines : List ℕ
   lines = so-far .turning .lines
 
-  pub written-end : {r : Ran} → Finishes v total r → Written s r
-  unfolding Written
+  pub written-end : {r : Ran} → Finishes v total r → SentAll s r
+  unfolding SentAll
   written-end {r} done low high =
       let z = done .ended high in
       let w : Printed s (readOf v) (lines ++ take (z .2 .put) (z .2 .out)) = between-end (so-far .turning .between) fed (z .1) (filled .inside (z .1) (so-far .turning .between .goesOn)) (z .2 .end) in record {
@@ -127,8 +127,8 @@ module _ {s : State} {c o k t oc rc p f : List ℕ} {u v : Turn} {input input' :
     }
 
     -- number 13
-    pub written-stop : {r : Ran} → Halts w wrote r → Written s r
-    unfolding Writes Written
+    pub written-stop : {r : Ran} → Halts w wrote r → SentAll s r
+    unfolding Writes SentAll
     written-stop {r} halts low high =
         let z = halts .refused high in
         let here : Streamed s (drillAreas (v .device) (v .exchange) c o k t oc rc p f) (left v input') (readOf v) lines =
@@ -143,6 +143,6 @@ module _ {s : State} {c o k t oc rc p f : List ℕ} {u v : Turn} {input input' :
         }
 
 -- the turns are used up
-pub written-none : (s : State) (u : Turn) {r : Ran} (total : ℕ) → u .why < 2 → r ≡ ranOf u total (u .why) → Written s r
-unfolding Written
+pub written-none : (s : State) (u : Turn) {r : Ran} (total : ℕ) → u .why < 2 → r ≡ ranOf u total (u .why) → SentAll s r
+unfolding SentAll
 written-none s u {r} total h is low high = absurd (omega (arith, h, low, ap (λ (x : Ran). x .why) is))

@@ -2,7 +2,7 @@
 -- definitions count them. Assumes nothing.
 use Prim.Native.Nat.{ℕ, _+_, _%_, _^_, _≤_, _<_}
 use mathlib.Core.Path.{_≡_}
-use mathlib.Core.Bool.{Bool, true}
+use mathlib.Core.Bool.{true}
 use mathlib.Core.List.{List, [], _∷_, _++_}
 use lib.ListN.{length, take}
 use Rattle.model.specs.State.{State}
@@ -88,5 +88,5 @@ pub record Whole (s : State) (r : Ran) : Type 0 where
   pub begins : r .why ≡ 2 → (more : List ℕ) → printed s (log ++ more) ≡ printed s log
 
 -- where a run says that it ended at number 13 or at the end of the input
-unfoldable pub Written : State → Ran → Type 0
-Written s r = 1 < r .why → r .why < 4 → Whole s r
+unfoldable pub SentAll : State → Ran → Type 0
+SentAll s r = 1 < r .why → r .why < 4 → Whole s r

@@ -5,7 +5,7 @@ ghost use lib.ListN.{length, take, replicate};
 ghost use Rattle.drill_run.specs.Drill.{drillStart};
 ghost use Rattle.drill_turn.specs.Stream.{Inside, Waits, Stops};
 ghost use Rattle.drill.specs.Reads.{Reads, Filled};
-ghost use Rattle.drill.specs.Written.{Takes, Writes, toldOf, usage, ranOf, Halts, Finishes, Written};
+ghost use Rattle.drill.specs.Written.{Takes, Writes, toldOf, usage, ranOf, Halts, Finishes, SentAll};
 use drill_turn::Turn;
 use libc::STDERR_FILENO;
 use libc::STDIN_FILENO;
@@ -112,7 +112,7 @@ fn tell(turn: Turn, input: &[u8; 65536]) -> Took
     requires { ⌜ Inside (turn .from) (turn .have) ⌝ }
     ensures { λ r. ⌜ Takes 0 (toldOf turn (now (input .entry))) (r .n) (r .total) ⌝ }
 {
-    let mut message = [0u8; 96];
+    let mut message = [0u8; drill_reason::LONGEST_MESSAGE];
     let number = drill_turn::further(turn.records, 1);
     let byte = drill_turn::further(turn.bytes, turn.from);
     let n = drill_reason::message_at(input, turn.from, turn.have, number, byte, &mut message);
@@ -176,7 +176,7 @@ fn finish(turn: Turn, input: &[u8; 65536], out: &mut [u8; 655360], total: u64) -
 
 // Nothing says that the input ends, so the turns are counted down, from a number that no run uses up.
 fn run() -> Ran
-    ensures { λ r. ⌜ Written (drillStart (replicate 33024 0) (replicate 33024 0)) r ⌝ }
+    ensures { λ r. ⌜ SentAll (drillStart (replicate 33024 0) (replicate 33024 0)) r ⌝ }
 {
     let mut input = [0u8; 65536];
     let mut out = [0u8; 655360];

@@ -17,6 +17,16 @@ wordsOf reason.Enabled = 101 ∷ 110 ∷ 97 ∷ 98 ∷ 108 ∷ 101 ∷ 100 ∷ 3
 wordsOf reason.Contacts = 97 ∷ 32 ∷ 50 ∷ 53 ∷ 55 ∷ 116 ∷ 104 ∷ 32 ∷ 99 ∷ 111 ∷ 110 ∷ 116 ∷ 97 ∷ 99 ∷ 116 ∷ 10 ∷ []  -- a 257th contact
 wordsOf reason.End = 101 ∷ 110 ∷ 100 ∷ 32 ∷ 111 ∷ 102 ∷ 32 ∷ 105 ∷ 110 ∷ 112 ∷ 117 ∷ 116 ∷ 32 ∷ 105 ∷ 110 ∷ 115 ∷ 105 ∷ 100 ∷ 101 ∷ 32 ∷ 105 ∷ 116 ∷ 10 ∷ []  -- end of input inside it
 
+-- the most bytes that a reason's words have; that a place has, with two numbers of 20 digits; that the message has
+abbrev pub longestWords : ℕ
+longestWords = 23
+
+abbrev pub longestPlace : ℕ
+longestPlace = 56
+
+abbrev pub longestMessage : ℕ
+longestMessage = 93
+
 -- which record, and the byte at which it begins
 unfoldable pub placeOf : (number byte : ℕ) → List ℕ
 placeOf number byte = (114 ∷ 101 ∷ 99 ∷ 111 ∷ 114 ∷ 100 ∷ 32 ∷ []) ++ decimal number ++ (32 ∷ 97 ∷ 116 ∷ 32 ∷ 98 ∷ 121 ∷ 116 ∷ 101 ∷ 32 ∷ []) ++ decimal byte  -- record, at byte

@@ -6,7 +6,7 @@ ghost use Rattle.octets.specs.Bytes.{part};
 ghost use Rattle.text.specs.Text.{Puts};
 ghost use Rattle.wire.specs.Log.{markAt, sizeAt, bodyOf};
 ghost use Rattle.drill_reason.specs.Reason.{known, fieldOf, headReason, bodyReason, reasonOf};
-ghost use Rattle.drill_reason.specs.Message.{wordsOf, placeOf, messageOf};
+ghost use Rattle.drill_reason.specs.Message.{wordsOf, placeOf, messageOf, longestWords, longestPlace, longestMessage};
 use wire::Body;
 use wire::Head;
 use wire::Mark;
@@ -107,9 +107,11 @@ fn reason_at(input: &[u8], from: usize, end: usize) -> Reason
 
 // ---- the message
 
+pub const LONGEST_MESSAGE: usize = 93;
+
 fn put_words(out: &mut [u8], at: usize, reason: Reason) -> usize
-    requires { ⌜ at + 23 ≤ length (now out) ⌝ }
-    ensures { λ r. ⌜ Puts 23 (now (out .entry)) at (wordsOf reason) r (now (out .exit)) ⌝ }
+    requires { ⌜ at + longestWords ≤ length (now out) ⌝ }
+    ensures { λ r. ⌜ Puts longestWords (now (out .entry)) at (wordsOf reason) r (now (out .exit)) ⌝ }
 {
     match reason {
         Reason::Mark => text::put_run(out, at, b"unknown mark\n"),
@@ -125,8 +127,8 @@ fn put_words(out: &mut [u8], at: usize, reason: Reason) -> usize
 
 // Which record, from 1, and the byte at which it begins, from 0.
 fn put_place(out: &mut [u8], number: u64, byte: u64) -> usize
-    requires { ⌜ 56 ≤ length (now out) ⌝ }
-    ensures { λ r. ⌜ Puts 56 (now (out .entry)) 0 (placeOf number byte) r (now (out .exit)) ⌝ }
+    requires { ⌜ longestPlace ≤ length (now out) ⌝ }
+    ensures { λ r. ⌜ Puts longestPlace (now (out .entry)) 0 (placeOf number byte) r (now (out .exit)) ⌝ }
 {
     let p = text::put_run(out, 0, b"record ");
     let p = text::put_decimal(out, p, number);
@@ -144,8 +146,8 @@ pub fn message_at(
     out: &mut [u8],
 ) -> usize
     requires { ⌜ (from ≤ end) × (end ≤ length (now input)) ⌝ }
-    requires { ⌜ 93 ≤ length (now out) ⌝ }
-    ensures { λ r. ⌜ Puts 93 (now (out .entry)) 0 (messageOf number byte (reasonOf (part (now (input .entry)) from (end - from)))) r (now (out .exit)) ⌝ }
+    requires { ⌜ longestMessage ≤ length (now out) ⌝ }
+    ensures { λ r. ⌜ Puts longestMessage (now (out .entry)) 0 (messageOf number byte (reasonOf (part (now (input .entry)) from (end - from)))) r (now (out .exit)) ⌝ }
 {
     let reason = reason_at(input, from, end);
     let p = put_place(out, number, byte);

@@ -247,7 +247,7 @@ pub extern "C" fn goosetable_own_envelope(
     device: &mut [u8; 60],
     contact: u64,
     msgno: u32,
-    key: &[u8; 32],
+    route_key: &[u8; 32],
     dir: u8,
     generation: u8,
     idx: u32,
@@ -259,7 +259,7 @@ pub extern "C" fn goosetable_own_envelope(
     row: &mut [u8; 54],
 ) -> Answer
     ensures { λ r. ⌜ OnRead (dirRead (dirOf dir)) (λ way. HostsOwn (λ o. ownAnswers (now (row .entry)) (ownSays o))
-        (addOwn (contactId contact) msgno (now (key .entry)) way generation idx (now (s .entry)) (now (ct .entry))) (r, now (row .exit)) (now (device .entry)) (now (device .exit))
+        (addOwn (contactId contact) msgno (now («route_key» .entry)) way generation idx (now (s .entry)) (now (ct .entry))) (r, now (row .exit)) (now (device .entry)) (now (device .exit))
         (λ d. lentOwn d (now (contacts .entry)) (now (own .entry)) (now («own_cells» .entry)))
         (λ d. lentOwn d (now (contacts .entry)) (now (own .exit)) (now («own_cells» .exit))))
         (Stays 12 r (now (device .entry) ∷ now (own .entry) ∷ now («own_cells» .entry) ∷ now (row .entry) ∷ []) (now (device .exit) ∷ now (own .exit) ∷ now («own_cells» .exit) ∷ now (row .exit) ∷ [])) ⌝ }
@@ -271,7 +271,7 @@ pub extern "C" fn goosetable_own_envelope(
         device_of(device),
         ContactId(contact),
         msgno,
-        *key,
+        *route_key,
         d,
         generation,
         idx,
@@ -602,33 +602,33 @@ pub extern "C" fn goosetable_window(skipped: &[u8], chains: &[u8], answer: &mut 
     window_answer(chain::window(skipped, chains, answer))
 }
 
-// The tag of a message key. A direction other than `I` and `R` is refused with 12.
+// The tag of a message key, under the contact's route key. A direction other than `I` and `R` is refused with 12.
 #[no_mangle]
 pub extern "C" fn goosetable_route_tag(
-    key: &[u8; 32],
+    route_key: &[u8; 32],
     dir: u8,
     generation: u8,
     idx: u32,
     tag: &mut [u8; 16],
 ) -> Answer
-    ensures { λ r. ⌜ OnRead (dirRead (dirOf dir)) (λ way. Fills (routeTag (now (key .entry)) way generation idx) r (now (tag .exit)))
+    ensures { λ r. ⌜ OnRead (dirRead (dirOf dir)) (λ way. Fills (routeTag (now («route_key» .entry)) way generation idx) r (now (tag .exit)))
         (Stays 12 r (now (tag .entry) ∷ []) (now (tag .exit) ∷ [])) ⌝ }
 {
     match Dir::from_label(dir) {
         DirRead::Is(d) => {
-            *tag = courier::route_tag(*key, d, generation, idx);
+            *tag = courier::route_tag(*route_key, d, generation, idx);
             answer_of(DONE, 0, 0, 0)
         }
         DirRead::Neither => answer_of(12, 0, 0, 0),
     }
 }
 
-// The secret of a message key, which proves that its envelope was delivered.
+// The secret of a message key (not the route key), which proves that its envelope was delivered.
 #[no_mangle]
-pub extern "C" fn goosetable_delivered(key: &[u8; 32], s: &mut [u8; 16])
-    ensures { λ _. ⌜ now (s .exit) ≡ deliveredSecret (now (key .entry)) ⌝ }
+pub extern "C" fn goosetable_delivered(message_key: &[u8; 32], s: &mut [u8; 16])
+    ensures { λ _. ⌜ now (s .exit) ≡ deliveredSecret (now («message_key» .entry)) ⌝ }
 {
-    *s = courier::delivered(*key);
+    *s = courier::delivered(*message_key);
 }
 
 // The commitment that a secret opens.

@@ -142,3 +142,7 @@ length-lent m at n h = length-take-le (at + n - at) (drop at m) (omega (arith, l
 pub more-lent : (x m : List ℕ) (at n : ℕ) → (x ++ take at m) ++ take (at + n - at) (drop at m) ≡ x ++ take (at + n) m
 unfolding part
 more-lent x m at n = let k : at + n - at ≡ n = omega arith in ap (λ (j : ℕ). (x ++ take at m) ++ take j (drop at m)) k ∙ more-part x m at n
+
+-- three parts, one behind the other
+pub regroup : (p a b c : List ℕ) → p ++ a ++ b ++ c ≡ p ++ (a ++ b ++ c)
+regroup p a b c = simp append-assoc

@@ -99,6 +99,18 @@ pub fn update(k: &[u64; 80], s: Hasher, m: &[u8]) -> Hasher
     h
 }
 
+// The bytes of three parts, one behind the other.
+pub fn update_parts(k: &[u64; 80], s: Hasher, first: &[u8], second: &[u8], third: &[u8]) -> Hasher
+    requires { ⌜ now k ≡ K ⌝ }
+    requires { ⌜ s .len + length (now first) + length (now second) + length (now third) < 2 ^ 64 ⌝ }
+    ensures { λ r. ⌜ ((x : List ℕ) → Taken s x → Taken r (x ++ (now (first .entry) ++ now (second .entry) ++ now (third .entry)))) ⌝ }
+    ensures { λ r. ⌜ r .len ≡ s .len + length (now (first .entry)) + length (now (second .entry)) + length (now (third .entry)) ⌝ }
+{
+    let a = update(k, s, first);
+    let b = update(k, a, second);
+    update(k, b, third)
+}
+
 // The hash of what s has taken.
 pub fn finish(k: &[u64; 80], s: Hasher) -> [u8; 48]
     requires { ⌜ now k ≡ K ⌝ }

@@ -1,6 +1,6 @@
 -- HKDF, block by block. Assumes nothing.
 use mathlib.Core.Path.{_≡_, refl, sym, ap, ap₂, _∙_}
-use mathlib.Core.List.{List, [], _∷_, _++_, append-assoc, append-nil}
+use mathlib.Core.List.{List, [], _∷_, _++_}
 use Prim.Native.Nat.{ℕ, zero, suc, _+_, _-_, _*_, _/_, _≤_, _<_, min}
 use native.Mathlib.Nat.{le-antisymm}
 use native.Mathlib.Numerals.{add-one}
@@ -28,9 +28,6 @@ unfolding extract
 some-salt salt ikm h = rw (ne-eqb (length salt) 0 h)
 
 -- ---- 2.3
-
-pub regroup : (p a b c : List ℕ) → p ++ a ++ b ++ c ≡ p ++ (a ++ b ++ c)
-regroup p a b c = simp append-assoc
 
 -- i blocks are written, as far as there is room for them, and T(i) is at hand
 pub record Expanding (prk info out t : List ℕ) (L have i : ℕ) : Type 0 where

@@ -3,12 +3,12 @@ use hasher::Hasher;
 use octets::least;
 ghost use mathlib.Core.Path.{_≡_};
 ghost use mathlib.Core.List.{List, [], _∷_, _++_};
-ghost use Prim.Native.Nat.{ℕ, _+_, _-_, _*_, _^_, _≤_, _<_, min};
+ghost use Prim.Native.Nat.{ℕ, _+_, _-_, _*_, _^_, _≤_, _<_};
 ghost use lib.ListN.{length, take};
 ghost use Rattle.octets.specs.Bytes.{splice};
 ghost use Rattle.sha_block.specs.Constants.{K};
 ghost use Rattle.hasher.specs.Taken.{Taken};
-ghost use Rattle.hmac.specs.Hmac.{K0, padded, ipad, opad, keyed, hmac as hmacOf};
+ghost use Rattle.hmac.specs.Hmac.{K0, padded, ipad, keyed, hmac as hmacOf};
 ghost use Rattle.hmac.specs.Hkdf.{extract as extractOf, expand as expandOf, longest, derived, filled};
 
 // Section 4, steps 1 to 3: the key as one block.
@@ -58,18 +58,6 @@ fn end(k: &[u64; 80], k0: [u8; 128], s: Hasher) -> [u8; 48]
     sha384::hash_after(&outer, &h)
 }
 
-// The hasher takes three parts, one behind the other.
-pub fn take_parts(k: &[u64; 80], s: Hasher, first: &[u8], second: &[u8], third: &[u8]) -> Hasher
-    requires { ⌜ now k ≡ K ⌝ }
-    requires { ⌜ s .len + length (now first) + length (now second) + length (now third) < 2 ^ 64 ⌝ }
-    ensures { λ r. ⌜ ((x : List ℕ) → Taken s x → Taken r (x ++ (now (first .entry) ++ now (second .entry) ++ now (third .entry)))) ⌝ }
-    ensures { λ r. ⌜ r .len ≡ s .len + length (now (first .entry)) + length (now (second .entry)) + length (now (third .entry)) ⌝ }
-{
-    let a = hasher::update(k, s, first);
-    let b = hasher::update(k, a, second);
-    hasher::update(k, b, third)
-}
-
 // HMAC of a text in three parts. The first two are short, so that the length of the whole has 64 bits.
 pub fn hmac_parts(key: &[u8], first: &[u8], second: &[u8], third: &[u8]) -> [u8; 48]
     requires { ⌜ length (now first) + length (now second) < 2 ^ 62 ⌝ }
@@ -78,7 +66,7 @@ pub fn hmac_parts(key: &[u8], first: &[u8], second: &[u8], third: &[u8]) -> [u8;
     let k = sha_block::constants();
     let k0 = block_key(key);
     let s = begin(&k, k0);
-    let t = take_parts(&k, s, first, second, third);
+    let t = hasher::update_parts(&k, s, first, second, third);
     end(&k, k0, t)
 }
 
@@ -117,7 +105,7 @@ fn next_block(
     let counter = [i];
     let s = begin(k, k0);
     let a = hasher::update(k, s, previous);
-    let b = take_parts(k, a, first, second, third);
+    let b = hasher::update_parts(k, a, first, second, third);
     let c = hasher::update(k, b, &counter);
     end(k, k0, c)
 }

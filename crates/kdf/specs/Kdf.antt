@@ -23,6 +23,7 @@ protocol = 99 ∷ 97 ∷ 105 ∷ 114 ∷ 110 ∷ 45 ∷ 114 ∷ 49 ∷ 32 ∷ []
 unfoldable pub head : (label : List ℕ) → List ℕ
 head label = be 2 (9 + length label) ++ protocol
 
+-- `labelled`: what stands before a label, and the label
 unfoldable pub labelled : (label : List ℕ) → List ℕ
 labelled label = head label ++ label
 
@@ -38,6 +39,7 @@ mac key label x = tag 16 key label x
 unfoldable pub kdf : (ikm salt label info : List ℕ) (n : ℕ) → List ℕ
 kdf ikm salt label info n = hkdf ikm salt (labelled label ++ info) n
 
+-- `hash` of a labelled label and x: what it is called with here
 unfoldable pub hash : (label x : List ℕ) → List ℕ
 hash label x = sha384 (labelled label ++ x)
 
@@ -72,7 +74,7 @@ digestAs label digest = answered label (record { fits = true; bytes = digest }) 
 abbrev pub longestTag : ℕ
 longestTag = 48
 
--- the answer for an area of n bytes, of which there are at most `most`
+-- the answer for an area of n bytes, where at most `most` can be made
 unfoldable pub told : (label : List ℕ) (most n : ℕ) → Made
 told label most n = answered label (cond (leb n most) Done OutTooLong) LabelTooLong
 

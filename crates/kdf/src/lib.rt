@@ -140,7 +140,7 @@ pub fn hash(label: &[u8], x: &[u8]) -> Digest
     }
     let k = sha_block::constants();
     let head = head_of(label);
-    let s = hmac::take_parts(&k, hasher::start(), &head, label, x);
+    let s = hasher::update_parts(&k, hasher::start(), &head, label, x);
     let bytes = hasher::finish(&k, s);
     Digest { fits: true, bytes }
 }

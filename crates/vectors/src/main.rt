@@ -215,23 +215,25 @@ fn hkdf_lengths() {
     hkdf_longest();
 }
 
-// By value: the bytes, or that the label is too long.
-fn key_line(name: &[u8], k: kdf::Key) {
+// By value: the bytes, and where the label is too long that it is; the bytes are zeros then.
+fn value_line(name: &[u8], fits: bool, bytes: &[u8]) {
     say(name);
-    let bytes = k.bytes;
-    if k.fits {
-        say_line(&bytes);
-    } else {
-        say(b"too long\n");
+    if !fits {
+        say(b"too long ");
     }
+    say_line(bytes);
 }
 
-fn head_line() {
-    say(b"labelled route ");
-    let h = kdf::labelled(b"route");
+fn key_line(name: &[u8], k: kdf::Key) {
+    let bytes = k.bytes;
+    value_line(name, k.fits, &bytes);
+}
+
+// The eleven bytes before a label.
+fn head_line(name: &[u8], label: &[u8]) {
+    let h = kdf::labelled(label);
     let head = h.bytes;
-    say_hex(&head);
-    say_line(b"route");
+    value_line(name, h.fits, &head);
 }
 
 fn keys() {
@@ -253,12 +255,11 @@ fn key_with_salt() {
     );
 }
 
-fn labelled_hash() {
+fn digest_line(name: &[u8], label: &[u8]) {
     let p = rising(3, 7);
-    let d = kdf::hash(b"delivered", front(&p, 16));
+    let d = kdf::hash(label, front(&p, 16));
     let bytes = d.bytes;
-    say(b"hash ");
-    say_line(&bytes);
+    value_line(name, d.fits, &bytes);
 }
 
 fn commit_line(name: &[u8], nonce: [u8; 16]) {
@@ -269,10 +270,10 @@ fn commit_line(name: &[u8], nonce: [u8; 16]) {
 
 fn labels() {
     say(b"kdf.rs\n");
-    head_line();
+    head_line(b"before the label route ", b"route");
     keys();
     key_with_salt();
-    labelled_hash();
+    digest_line(b"hash ", b"delivered");
     commit_line(b"commit to zeros ", [0u8; 16]);
     commit_line(
         b"commit ",
@@ -352,7 +353,10 @@ fn kdfs() {
 fn with_label(label: &[u8]) {
     let key = rising(3, 7);
     say_number(label.len());
+    head_line(b"before the label ", label);
     key_line(b"mac ", kdf::mac(front(&key, 32), label, b""));
+    key_line(b"kdf ", kdf::kdf_16(front(&key, 32), b"", label, b""));
+    digest_line(b"hash ", label);
     tag_sized(b"tag ", label, &mut [BEFORE; 48]);
     tag_sized(b"tag of 49 ", label, &mut [BEFORE; 49]);
     kdf_sized(b"kdf of 100 ", label, &mut [BEFORE; 100]);

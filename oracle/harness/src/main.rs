@@ -52,8 +52,7 @@ fn print_log(arguments: &[String]) -> ExitCode {
     let (options, numbers): (Vec<&String>, Vec<&String>) = arguments.iter().partition(|word| *word == NO_13);
     let numbers: Option<Vec<u64>> = numbers.iter().map(|text| text.parse().ok()).collect();
     let Some([seed, records]) = numbers.as_deref() else {
-        eprintln!("{USAGE}");
-        return ExitCode::FAILURE;
+        return usage();
     };
     let made = generate::logs::log(*seed, *records as usize, options.is_empty());
     if let Some(why) = made.stopped {
@@ -85,8 +84,13 @@ fn run_corners() -> ExitCode {
     status(failed == 0)
 }
 
-fn usage() -> ExitCode {
-    eprintln!("{USAGE}");
+/// Says which words have no meaning here, and which do.
+pub fn usage() -> ExitCode {
+    let words: Vec<String> = std::env::args().skip(1).collect();
+    eprintln!(
+        "oracle: these words are none of the below, or a number in them is wrong: '{}'\n{USAGE}",
+        words.join(" ")
+    );
     ExitCode::FAILURE
 }
 

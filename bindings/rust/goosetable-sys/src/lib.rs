@@ -181,7 +181,7 @@ unsafe extern "C" {
         device: *mut [u8; DEVICE],
         contact: u64,
         msgno: u32,
-        key: *const [u8; 32],
+        route_key: *const [u8; 32],
         dir: u8,
         generation: u8,
         idx: u32,
@@ -338,13 +338,13 @@ unsafe extern "C" {
         answer_len: usize,
     ) -> Answer;
     pub fn goosetable_route_tag(
-        key: *const [u8; 32],
+        route_key: *const [u8; 32],
         dir: u8,
         generation: u8,
         idx: u32,
         tag: *mut [u8; 16],
     ) -> Answer;
-    pub fn goosetable_delivered(key: *const [u8; 32], s: *mut [u8; 16]);
+    pub fn goosetable_delivered(message_key: *const [u8; 32], s: *mut [u8; 16]);
     pub fn goosetable_commitment(s: *const [u8; 16], c: *mut [u8; 16]);
     pub fn goosetable_row_read(blob: *const u8, blob_len: usize) -> Row;
     pub fn goosetable_version_0_2() -> u32;

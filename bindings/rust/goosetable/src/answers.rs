@@ -8,6 +8,7 @@ use goosetable_sys::{ACTION_ROW, REPLY_ROW};
 
 /// What a call made of a peer's record.
 #[derive(Clone, Debug)]
+#[must_use = "a malformed record ends the session, and the host's store is to follow the actions"]
 pub enum Record<T> {
     /// It is no record that a peer may send now. Nothing was changed: the host drops the session and sends
     /// nothing more on it.
@@ -18,6 +19,7 @@ pub enum Record<T> {
 
 /// What became of an envelope.
 #[derive(Clone, Debug)]
+#[must_use = "the host's store is to follow the actions, and the peer waits for the code"]
 pub enum Received<'a> {
     /// It is in the window, and nothing was changed. The host opens it and reports what came of it, with
     /// [`Post::opened`] or [`Post::failed`].
@@ -47,6 +49,7 @@ pub enum Received<'a> {
 
 /// What follows the opening of an envelope.
 #[derive(Clone, Debug)]
+#[must_use = "the host's store is to follow the actions, and the peer waits for the tomb"]
 #[non_exhaustive]
 pub struct Opened<'a> {
     /// The tomb for the peer, in place of a code.

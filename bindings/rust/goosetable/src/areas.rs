@@ -22,8 +22,8 @@ pub(crate) trait Rows<T>: ExactSizeIterator<Item = T> + DoubleEndedIterator + Cl
 
 impl<T, I: ExactSizeIterator<Item = T> + DoubleEndedIterator + Clone> Rows<T> for I {}
 
-/// How much a post has room for. A later version may ask for more: `Sizes { own_cells: 0, ..Sizes::default() }`
-/// holds in it too.
+/// How much a post has room for; by default 256 cells of each kind, 1,024 tombstones, 64 bad tags. A later version
+/// may ask for more: `Sizes { own_cells: 0, ..Sizes::default() }` holds in it too.
 #[derive(Clone, Copy, Debug, PartialEq, Eq)]
 pub struct Sizes {
     /// Envelopes of others, 256 at most. The share of a contact is promised for 256 alone: with fewer, calls
@@ -31,7 +31,7 @@ pub struct Sizes {
     pub carried_cells: usize,
     /// Own envelopes, 256 at most; 0 for a post that only carries.
     pub own_cells: usize,
-    /// Tombstones: the scope's R. Stored ones are 1,024 at most; carried rows that turn come on top.
+    /// Tombstones: document 01's R. Stored ones are 1,024 at most; carried rows that turn come on top.
     pub tombstone_rows: usize,
     /// Tags of envelopes that could not be opened; 0 for a post that only carries.
     pub bad_tag_rows: usize,

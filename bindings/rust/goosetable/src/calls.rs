@@ -33,7 +33,7 @@ fn never_refused(said: Said) -> Answer {
     said.unwrap_or_else(|refusal| unreachable!("{refusal}"))
 }
 
-/// The library's version, major × 10,000 + minor × 100 + patch. One of another version than 0.2 does not link.
+/// The library's version, as [`library_version`](crate::library_version) answers it.
 pub(crate) fn version() -> u32 {
     unsafe { sys::goosetable_version_0_2() }
 }

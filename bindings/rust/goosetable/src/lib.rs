@@ -34,7 +34,8 @@ pub use values::{
 };
 pub use window::{Chain, KeyTwice, Window, WindowRow, window};
 
-/// The version of the library that was linked: 200 is 0.2.0. One of other first two numbers does not link.
+/// The version of the library that was linked, major × 10,000 + minor × 100 + patch. One of other first two numbers
+/// than this crate's does not link.
 pub fn library_version() -> u32 {
     calls::version()
 }

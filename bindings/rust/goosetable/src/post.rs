@@ -396,7 +396,8 @@ impl Post {
 /// Deliveries.
 impl Post {
     /// A tomb that a peer sends. If its secret is the one that the envelope's commitment is of, the carried row
-    /// becomes a tombstone or the own row ends; a wrong secret is malformed. An unknown tag changes nothing.
+    /// becomes a tombstone or the own row ends; a wrong secret is malformed. An unknown tag changes nothing. The
+    /// tombstone has the row's expiry. Where a host makes the call by itself, any contact does as the peer.
     ///
     /// # Errors
     ///
@@ -419,7 +420,8 @@ impl Post {
 
     /// The host opened an envelope that was ours: its tombstone is stored, and its tomb answers the peer. Before this
     /// call the host stores the message, the state of its keys and a note of these four values, and deletes the note
-    /// with the actions: a start that finds a note makes the call again. Then the window is made anew.
+    /// with the actions: a start that finds a note makes the call again. Then the window is made anew. The tombstone's
+    /// expiry is the lesser of the envelope's and the minute + the setting's lifetime.
     ///
     /// If [`carried_of`](Post::carried_of) has the tag, call [`tomb`](Post::tomb) with the secret first, and then this,
     /// whatever it answered: the carried row turns, and one tombstone stands for the tag. The other way round two do,
@@ -459,8 +461,9 @@ impl Post {
         Ok(())
     }
 
-    /// Stores a tombstone that the host knows of, unless the tag has one. At 1,024 or more one of least expiry is
-    /// deleted first.
+    /// Stores a tombstone that the host knows of, with the expiry that it is given, unless the tag has one: of a message
+    /// that came over the session itself, so that a courier's copy of it is turned away. At 1,024 or more one of least
+    /// expiry is deleted first.
     ///
     /// # Errors
     ///
@@ -484,7 +487,7 @@ impl Post {
     ///
     /// # Errors
     ///
-    /// None of the scope's numbers.
+    /// None that this version knows: its one number, 1, is of an area that a post has whole.
     pub fn maintenance(&mut self) -> Result<Actions<'_>, Refusal> {
         let answer = calls::maintenance(self)?;
         Ok(Actions::new(self, answer.actions))

@@ -3,7 +3,7 @@
 
 use core::{error, fmt};
 
-/// Why a call is refused, by the scope's number. A refused call has changed nothing.
+/// Why a call is refused, by document 01's number. A refused call has changed nothing.
 ///
 /// Later versions know more numbers. What is [`Other`](Refusal::Other) today may have a name then: to meet such
 /// a number in both, ask for [`number`](Refusal::number).
@@ -65,7 +65,7 @@ impl Refusal {
         Refusal::LogRecord,
     ];
 
-    /// The scope's number.
+    /// Document 01's number.
     pub const fn number(self) -> u8 {
         match self {
             Refusal::ShortArea => 1,
@@ -99,7 +99,7 @@ impl Refusal {
             .unwrap_or(Refusal::Other { number })
     }
 
-    /// The scope's words.
+    /// Document 01's words.
     const fn reason(self) -> &'static str {
         match self {
             Refusal::ShortArea => {

@@ -206,7 +206,8 @@ pub struct MessageKey {
     pub index: u32,
 }
 
-/// What a post does with envelopes of others, and how it sends its own.
+/// What a post does with envelopes of others, and how it sends its own; by default, as in a new post, enabled, 6 copies
+/// and 1,440 minutes.
 #[derive(Clone, Copy, Debug, PartialEq, Eq)]
 pub struct Setting {
     /// Are envelopes of others taken?

@@ -10,7 +10,7 @@ returns : tie.Need-returns
 unfolding hmac
 returns c =
     let a = c .before .before .before .before .before .before .before .before .before .before .before .before .args in
-    c .end .ensures _ (c .before .before .take-parts .ensures .0 _ (c .before .before .before .before .begin .ensures .0))
+    c .end .ensures _ (c .before .before .update-parts .ensures .0 _ (c .before .before .before .before .begin .ensures .0))
     ∙ ap (λ (k0 : List ℕ). keyed k0 (a .first .now ++ a .second .now ++ a .third .now)) (c .before .before .before .before .before .before .block-key .ensures)
 
 pub hmac-parts-spec : {M : Type 1} → statement M

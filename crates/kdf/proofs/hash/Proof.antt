@@ -1,4 +1,4 @@
-use mathlib.Core.Path.{_≡_, ap, _∙_}
+use mathlib.Core.Path.{ap, _∙_}
 use Prim.Native.Nat.{ℕ}
 use mathlib.Core.Bool.{true}
 use mathlib.Core.List.{List}
@@ -21,7 +21,7 @@ returns-2 : tie.Need-returns-2
 unfolding digestAs
 returns-2 c =
     let a = c .before .before .before .before .before .before .before .before .before .before .before .args in
-    ap made (hash-bytes (a .label .now) (a .x .now) _ (c .before .before .before .before .before .before .head-of .ensures) (c .finish .ensures _ (c .before .before .take-parts .ensures .0 _ (c .before .before .before .before .start .ensures))))
+    ap made (hash-bytes (a .label .now) (a .x .now) _ (c .before .before .before .before .before .before .head-of .ensures) (c .finish .ensures _ (c .before .before .update-parts .ensures .0 _ (c .before .before .before .before .start .ensures))))
     ∙ label-fits (a .label .now) _ _ (omega arith)
 
 pub hash-spec : {M : Type 1} → statement M

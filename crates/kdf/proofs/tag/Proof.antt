@@ -1,6 +1,6 @@
 use mathlib.Core.Path.{_∙_}
 use native.Mathlib.Omega.{arith}
-use Rattle.kdf.specs.Kdf.{tag, longestTag}
+use Rattle.kdf.specs.Kdf.{longestTag}
 use Rattle.kdf.proofs.KdfLaws.{done, label-refused, out-refused, tag-bytes}
 use borrow.Author.Needs.{needs}
 use Rattle.kdf.proofs.tag.Statement.{statement}

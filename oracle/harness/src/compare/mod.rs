@@ -159,8 +159,7 @@ pub fn run(options: &Options, tally: &mut Tally) -> Option<bool> {
 
 pub fn main(arguments: &[String]) -> ExitCode {
     let Some(options) = Options::read(arguments) else {
-        eprintln!("{}", crate::USAGE);
-        return ExitCode::FAILURE;
+        return crate::usage();
     };
     pair::quiet();
     let mut tally = Tally::default();

@@ -1,4 +1,4 @@
-//! Every call through the safe interface. What is expected was worked out from the scope's sentences; tags and commitments
+//! Every call through the safe interface. What is expected was worked out from document 01's sentences; tags and commitments
 //! were computed with another implementation of HMAC and SHA-384.
 #![forbid(unsafe_code)]
 

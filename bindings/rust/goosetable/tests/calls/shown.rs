@@ -30,7 +30,7 @@ fn tags_and_codes_are_words() {
 }
 
 #[test]
-fn refusals_have_the_scopes_words() {
+fn refusals_have_document_01s_words() {
     let said: Vec<_> = Refusal::ALL.iter().map(Refusal::to_string).collect();
     for (number, words) in [
         (1, "area is too short"),

@@ -147,3 +147,17 @@ fn a_route_is_pushed_with_its_tag() {
     assert_eq!(window.rows().next().unwrap().tag, own.tag);
     assert_eq!(window.row_of(own.tag).unwrap().key, key(7));
 }
+
+/// The source cannot have so many of one contact.
+#[test]
+fn five_hundred_and_one_rows_of_one_contact_are_taken() {
+    let last = window_row(VERIFIED, 500, tag(1));
+    let others = (0..500).map(|index| window_row(VERIFIED, index, tag(2)));
+    let window = Window::from_rows(others.chain([last])).unwrap();
+    let mut post = post();
+    let said = post.envelope(VERIFIED, envelope(1, 4), &window).unwrap();
+    assert!(
+        matches!(said, Received::Ours { index: 500, .. }),
+        "{said:?}"
+    );
+}
