@@ -91,6 +91,10 @@ extern "C" {
 #define GOOSETABLE_BODY_SIZE 37
 #define GOOSETABLE_CARRIED_HEAD 46
 
+/* A line of a screen page, its line end included; the most rows of a page, which stand below the line of its heading. */
+#define GOOSETABLE_PAGE_LINE 81
+#define GOOSETABLE_PAGE_ROWS 19
+
 /* The most rows of each table of fixed size, and the most cells of an area that count. */
 #define GOOSETABLE_MAX_ROWS 256
 /* The cell in the reply of a row whose cell does not count: the envelope has no ciphertext here. */
@@ -111,6 +115,7 @@ extern "C" {
 #define GOOSETABLE_OFFERS_SIZE 8704
 #define GOOSETABLE_KEYS_SIZE 3000
 #define GOOSETABLE_BLOB_SIZE 2110
+#define GOOSETABLE_PAGE_SIZE 1620
 #define GOOSETABLE_ACTIONS_SIZE(r) (13 * (512 + (size_t)(r)))
 #define GOOSETABLE_FILE_SIZE(carried_cells, r) (10 + 2122 * (size_t)(carried_cells) + 49 * (size_t)(r))
 
@@ -130,7 +135,7 @@ extern "C" {
  */
 enum goosetable_said {
     GOOSETABLE_DONE = 0,
-    GOOSETABLE_REFUSED_SHORT_AREA = 1,            /* the reply, exchange, action, answer, blob or file area is shorter than above */
+    GOOSETABLE_REFUSED_SHORT_AREA = 1,            /* the reply, exchange, action, answer, blob, file or page area is shorter than above */
     GOOSETABLE_REFUSED_UNKNOWN_CONTACT = 2,       /* the contact, or one in a window row, isn't known */
     GOOSETABLE_REFUSED_WRONG_EXCHANGE = 3,        /* the exchange was opened for another contact or for none */
     GOOSETABLE_REFUSED_NO_CELL = 4,               /* a row would be added and its cells are all used */
@@ -560,6 +565,31 @@ goosetable_answer goosetable_save(
     uint8_t *file,
     size_t file_len);
 
+/* ---- the screen page */
+
+/*
+ * A page for a technicians' screen, counted from 0, and in length its bytes: a line HELD, then a line for each of up to 19 held rows, carried rows
+ * and tombstones by rising slot, expired ones too; own rows are not in it. Each row stands on one page, 19 on every page but the last; a page past
+ * the last is the line HELD alone, whatever its number. A line has 80 bytes, blanks behind what it says, and a line end (0x0a), the last one too.
+ * Its columns, from 1: slot 1 to 20; C (carried) or T (tombstone) 22; the first 8 bytes of the tag in lower-case hex 24 to 39; the minutes to the
+ * expiry, or past where the minute has come to it, 41 to 50; copies 52 to 54; depositor 56 to 75. Numbers and past stand to the right; a tombstone
+ * has no copies and no depositor. In areas that no call left each row still stands once, in the order in which maintenance takes rows.
+ * The area needs 1,620 bytes for the shortest page too, and what is behind the page stays. goosetable_device_pages says how many pages have rows.
+ * Writes: area.
+ * Refused by: 1 (area).
+ * Stack: 296 bytes.
+ */
+goosetable_answer goosetable_page(
+    const uint8_t device[GOOSETABLE_DEVICE_SIZE],
+    uint64_t page,
+    const uint8_t carried[GOOSETABLE_CARRIED_SIZE],
+    const uint8_t *tombstones,
+    size_t tombstones_len,
+    uint8_t *area,
+    size_t area_len);
+
+/* ---- a saved file is loaded */
+
 /*
  * Replaces the held rows and the next slot by those of a saved file, nothing else. 8: mark (its kind too), length or place of HN wrong, blob
  * refused, slot twice or not below next slot, carried tag twice, unknown depositor, over 256 carried or 32 for one. A carried row with copies 0
@@ -645,10 +675,10 @@ goosetable_row goosetable_row_read(const uint8_t *blob, size_t blob_len);
 /* ---- the version */
 
 /* Of header and library alike. The first two numbers change whenever a struct, a size, what a number means or a function's parameters do. */
-#define GOOSETABLE_VERSION "0.2.0"
+#define GOOSETABLE_VERSION "0.2.1"
 #define GOOSETABLE_VERSION_MAJOR 0
 #define GOOSETABLE_VERSION_MINOR 2
-#define GOOSETABLE_VERSION_PATCH 0
+#define GOOSETABLE_VERSION_PATCH 1
 
 /*
  * The version of the library: major * 10,000 + minor * 100 + patch. Its name has the first two numbers.
@@ -735,6 +765,13 @@ static inline size_t goosetable_device_bad_tags(const uint8_t *device, size_t ba
     return goosetable_count(device + 44, bad_tags_len / GOOSETABLE_BAD_TAG_ROW);
 }
 static inline uint64_t goosetable_device_next_slot(const uint8_t *device) { return goosetable_number(device + 52, 8); }
+
+/* How many screen pages have rows: 0 where no row is held. */
+static inline uint64_t goosetable_device_pages(const uint8_t *device, size_t tombstones_len)
+{
+    uint64_t rows = (uint64_t)goosetable_device_carried(device) + goosetable_device_tombstones(device, tombstones_len);
+    return (rows + GOOSETABLE_PAGE_ROWS - 1) / GOOSETABLE_PAGE_ROWS;
+}
 
 /* An exchange: its peer counts if it was opened. */
 static inline int goosetable_exchange_opened(const uint8_t *exchange) { return exchange[0] != 0; }

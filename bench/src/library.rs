@@ -1,7 +1,7 @@
 //! The library as a host links it: the areas that it is lent, and each call.
 
 use goosetable_sys as sys;
-use post::{Action, Answer, Bytes, Call, Custody, Dir, Envelope, Held, NewOwn, OwnRow, Reply, array};
+use post::{Action, Answer, Bytes, Call, Custody, Dir, Envelope, Held, NewOwn, OwnRow, Reply, Screen, array};
 
 const CELL: usize = 2_064;
 const CELLS: usize = 256;
@@ -85,6 +85,13 @@ impl Library {
             panic!("a row was read by {:?}", call.kind());
         };
         assert!(answer.said == sys::DONE, "{:?} said {}", call.kind(), answer.said);
+    }
+
+    /// A screen page.
+    pub fn shown(&mut self, number: u64) -> &[u8] {
+        let answer = self.page(number);
+        assert!(answer.said == sys::DONE, "page said {}", answer.said);
+        &self.answer[..answer.length]
     }
 
     /// The saved file of the held rows.
@@ -393,6 +400,22 @@ impl Library {
         }
     }
 
+    pub fn page(&mut self, number: u64) -> sys::Answer {
+        let t = &*self.tables;
+        // SAFETY: above.
+        unsafe {
+            sys::goosetable_page(
+                &t.device,
+                number,
+                &t.carried,
+                t.tombstones.as_ptr(),
+                t.tombstones.len(),
+                self.answer.as_mut_ptr(),
+                self.answer.len(),
+            )
+        }
+    }
+
     fn load(&mut self, file: &[u8]) -> sys::Answer {
         let t = &mut *self.tables;
         // SAFETY: above.
@@ -449,6 +472,7 @@ impl Library {
             Call::RowRead { blob } => return Said::Row(unsafe { sys::goosetable_row_read(blob.as_ptr(), blob.len()) }),
             Call::Save { .. } => self.save(),
             Call::Load { file } => self.load(file),
+            Call::Page { number, .. } => self.page(*number),
         })
     }
 }
@@ -537,6 +561,7 @@ impl Library {
             Call::Window { .. } => Answer::Window(written(6).map(window_row).collect()),
             Call::RowBlob { .. } => Answer::Blob(Some(self.answer[..said.length].into())),
             Call::Save { .. } => Answer::Saved(self.answer[..said.length].into()),
+            Call::Page { .. } => Answer::Page(Screen(self.answer[..said.length].into())),
             Call::OwnEnvelope(_) => Answer::Own(own_row(self, &self.own_row)),
             _ => Answer::Done {
                 malformed: said.said == sys::MALFORMED,

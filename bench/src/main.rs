@@ -8,18 +8,21 @@ mod hashes;
 mod keys;
 mod library;
 mod measured;
+mod pages;
 mod pair;
+mod screen;
 mod tags;
 mod timing;
 
 use std::env::args;
 use std::process::exit;
 
-const PARTS: [(&str, fn()); 5] = [
+const PARTS: [(&str, fn()); 6] = [
     ("hashes", hashes::run),
     ("keys", keys::run),
     ("tags", tags::run),
     ("envelopes", envelopes::run),
+    ("pages", pages::run),
     ("calls", measured::run),
 ];
 
@@ -28,7 +31,7 @@ fn main() {
     let named: Vec<String> = args().skip(1).collect();
     let known = |name: &String| PARTS.iter().any(|(part, _)| part == name);
     if let Some(name) = named.iter().find(|name| !known(name)) {
-        eprintln!("bench: no part '{name}'; there are hashes, keys, tags, envelopes, calls");
+        eprintln!("bench: no part '{name}'; there are hashes, keys, tags, envelopes, pages, calls");
         exit(2);
     }
     for (part, run) in PARTS {

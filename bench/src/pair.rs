@@ -12,7 +12,7 @@ use source::timed::Timed;
 const LENGTHS: [usize; 7] = [2_064, 48, 80, 144, 272, 528, 1_040];
 /// Nothing has expired at the minute of the calls; half of everything has at that of maintenance.
 const MINUTE: u32 = 100;
-const EARLY: u32 = 120;
+pub const EARLY: u32 = 120;
 const LATE: u32 = 5_000;
 /// What an unverified depositor may have.
 const QUOTA: usize = 16;

@@ -167,3 +167,8 @@ goosetable_answer post_load(struct post *p, const uint8_t *file, size_t file_len
     return goosetable_load(p->device, p->contacts, p->carried, p->tombstones, GOOSETABLE_TOMBSTONES_SIZE(TOMBSTONES),
                            p->carried_cells, GOOSETABLE_CELLS_SIZE(CELLS), file, file_len);
 }
+
+goosetable_answer post_page(const struct post *p, uint64_t page, uint8_t *area)
+{
+    return goosetable_page(p->device, page, p->carried, p->tombstones, GOOSETABLE_TOMBSTONES_SIZE(TOMBSTONES), area, GOOSETABLE_PAGE_SIZE);
+}

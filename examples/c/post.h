@@ -72,5 +72,6 @@ goosetable_answer post_maintenance(struct post *p);
 goosetable_answer post_row_blob(const struct post *p, uint64_t slot, uint8_t *blob);
 goosetable_answer post_save(const struct post *p, uint8_t *file);
 goosetable_answer post_load(struct post *p, const uint8_t *file, size_t file_len);
+goosetable_answer post_page(const struct post *p, uint64_t page, uint8_t *area);
 
 #endif

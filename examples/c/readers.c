@@ -1,6 +1,6 @@
 /*
  * Tests of the header's readers on what calls left: each value beside the one that the calls were given, or that the call itself says; of tags,
- * secrets and commitments; and of how a window is made. It prints how many were compared, or the first that differs.
+ * secrets and commitments; of screen pages; and of how a window is made. It prints how many were compared, or the first that differs.
  */
 #include "post.h"
 
@@ -285,6 +285,39 @@ static void deliver(void)
     read_counts(2, 2, 2, 1, 1);
 }
 
+/* ---- the screen page */
+
+/* A page with so many rows: its bytes, where its lines end, and that what is behind it stays. */
+static void read_page(uint64_t page, size_t rows)
+{
+    uint8_t *screen = memset(area(GOOSETABLE_PAGE_SIZE), 255, GOOSETABLE_PAGE_SIZE);
+    uint8_t *before = memset(area(GOOSETABLE_PAGE_SIZE), 255, GOOSETABLE_PAGE_SIZE);
+    goosetable_answer a = post_page(&post, page, screen);
+    size_t line;
+    said("a page", a, GOOSETABLE_DONE);
+    is("its bytes", a.length, GOOSETABLE_PAGE_LINE * (1 + rows));
+    are("its heading", screen, (const uint8_t *)"HELD ", 5);
+    for (line = 0; line <= rows; line++)
+        is("the end of a line", screen[line * GOOSETABLE_PAGE_LINE + GOOSETABLE_PAGE_LINE - 1], '\n');
+    are("what is behind it", screen + a.length, before + a.length, GOOSETABLE_PAGE_SIZE - a.length);
+    said("a short area", goosetable_page(post.device, page, post.carried, post.tombstones, TOMBSTONES_LEN, before, GOOSETABLE_PAGE_SIZE - 1),
+         GOOSETABLE_REFUSED_SHORT_AREA);
+    is("it stays", before[0], 255);
+    free(before);
+    free(screen);
+}
+
+/* Pages of some held rows: all of them, and past the last. */
+static void read_pages(size_t rows)
+{
+    uint64_t page, pages = goosetable_device_pages(post.device, TOMBSTONES_LEN);
+    is("pages", pages, (rows + 18) / 19);
+    for (page = 0; page < pages; page++)
+        read_page(page, page + 1 < pages ? GOOSETABLE_PAGE_ROWS : rows - page * GOOSETABLE_PAGE_ROWS);
+    read_page(pages, 0);
+    read_page(UINT64_MAX, 0);
+}
+
 /* ---- a window */
 
 static int by_key(const void *a, const void *b)
@@ -372,6 +405,7 @@ static void spoil(void)
     memset(post.device, 255, GOOSETABLE_DEVICE_SIZE);
     memset(post.own, 255, GOOSETABLE_OWN_SIZE);
     memset(post.carried, 255, GOOSETABLE_CARRIED_SIZE);
+    memset(post.tombstones, 255, TOMBSTONES_LEN);
     memset(exchange.state, 255, GOOSETABLE_EXCHANGE_SIZE);
     read_counts(GOOSETABLE_MAX_ROWS, GOOSETABLE_MAX_ROWS, GOOSETABLE_MAX_ROWS, TOMBSTONES, BAD_TAGS);
     read_exchange(1, 1, UINT64_MAX, GOOSETABLE_MAX_LISTED, GOOSETABLE_MAX_LISTED);
@@ -410,10 +444,13 @@ int main(void)
     fetch(tags[1], GOOSETABLE_MAX_ROWS + 1, carried_ct, 144, 7);
     exchange_all();
     deliver();
+    read_pages(3);
     sort_window();
     replace_row();
     renew();
+    read_pages(0);
     spoil();
+    read_pages(GOOSETABLE_MAX_ROWS + TOMBSTONES);
     exchange_close(&exchange);
     post_close(&post);
     printf("examples/c/readers: %d values, each as expected\n", compared);

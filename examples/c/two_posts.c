@@ -10,7 +10,7 @@
 #include <stdlib.h>
 #include <string.h>
 
-/* What both phones have: the route key of the pair, and the key that seals and opens message 1. */
+/* What both phones have: the route key of the pair, and the key that seals and opens the messages here; a host has one for each message. */
 static const uint8_t route_key[GOOSETABLE_KEY_SIZE] = "the key of this pair of phones";
 static const uint8_t message_key[GOOSETABLE_KEY_SIZE] = "the key that seals this message";
 static const uint8_t ciphertext[48] = "sealed by the sender, opened by the recipient";
@@ -138,14 +138,14 @@ static void meet(struct post *answers, struct post *lists)
 
 /* ---- the phones */
 
-/* The sender queues message 1 for the recipient, under key 7 of the first chain. */
-static void write_message(void)
+/* The sender queues a message for the recipient, under a key of the first chain. */
+static void write_message(uint32_t message, uint32_t index)
 {
     uint8_t secret[GOOSETABLE_TAG_SIZE], commitment[GOOSETABLE_TAG_SIZE], *row = area(GOOSETABLE_OWN_ROW);
     goosetable_answer a;
     goosetable_delivered(message_key, secret);
-    a = goosetable_own_envelope(sender.device, recipient.id, 1, route_key, GOOSETABLE_DIRECTION_I, 0, 7, secret, ciphertext, sizeof ciphertext,
-                                sender.contacts, sender.own, sender.own_cells, GOOSETABLE_CELLS_SIZE(CELLS), row);
+    a = goosetable_own_envelope(sender.device, recipient.id, message, route_key, GOOSETABLE_DIRECTION_I, 0, index, secret,
+                                ciphertext, sizeof ciphertext, sender.contacts, sender.own, sender.own_cells, GOOSETABLE_CELLS_SIZE(CELLS), row);
     begin(&sender, "own envelope for %s", recipient.name);
     end(&sender, a);
     begin(&sender, "its row");
@@ -241,6 +241,33 @@ static void at_minute(struct post *p, uint64_t minute)
     end(p, post_maintenance(p));
 }
 
+/* What a technician sees at a post: every page that has rows, and page 0 if none has. */
+static void show(const struct post *p)
+{
+    uint8_t *screen = area(GOOSETABLE_PAGE_SIZE);
+    uint64_t page = 0, pages = goosetable_device_pages(p->device, GOOSETABLE_TOMBSTONES_SIZE(TOMBSTONES));
+    do {
+        goosetable_answer a = post_page(p, page, screen);
+        begin(p, "page %" PRIu64, page);
+        end_with(a, "bytes");
+        fwrite(screen, 1, a.length, stdout);
+    } while (++page < pages);
+    free(screen);
+}
+
+/* Post A holds a tombstone and a carried row that was left there at minute 500. At 1450 the tombstone is past, until maintenance takes it. */
+static void a_day_later(void)
+{
+    printf("\na day later\n");
+    at_minute(&post_a, 1449);
+    show(&post_a);
+    goosetable_clock(post_a.device, 1450 * 60);
+    show(&post_a);
+    at_minute(&post_a, 1450);
+    at_minute(&post_b, 1450);
+    at_minute(&sender, 1450);
+}
+
 int main(void)
 {
     set_up(&sender, "sender", 1);
@@ -256,7 +283,7 @@ int main(void)
     post_contact(&post_b, &post_a, GOOSETABLE_VERIFIED);
     post_contact(&post_b, &recipient, GOOSETABLE_UNVERIFIED);
 
-    write_message();
+    write_message(1, 7);
     expect_messages();
     meet(&sender, &post_a);
     meet(&post_a, &post_b);
@@ -266,11 +293,13 @@ int main(void)
     meet(&post_b, &post_a);
     meet(&post_a, &sender);
 
-    printf("\na day later\n");
-    at_minute(&post_a, 1449);
-    at_minute(&post_a, 1450);
-    at_minute(&post_b, 1450);
-    at_minute(&sender, 1450);
+    printf("\na second message\n");
+    at_minute(&sender, 500);
+    at_minute(&post_a, 500);
+    write_message(2, 8);
+    meet(&sender, &post_a);
+
+    a_day_later();
     post_close(&sender);
     post_close(&recipient);
     post_close(&post_a);

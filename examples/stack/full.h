@@ -29,6 +29,7 @@ struct areas {
     uint8_t actions[GOOSETABLE_ACTIONS_SIZE(R)];
     uint8_t file[GOOSETABLE_FILE_SIZE(GOOSETABLE_MAX_ROWS, R)];
     uint8_t blob[GOOSETABLE_BLOB_SIZE];
+    uint8_t page[GOOSETABLE_PAGE_SIZE];
     uint8_t skipped[GOOSETABLE_KEYS_SIZE];
     uint8_t chains[2 * GOOSETABLE_CHAIN_ROW];
     uint8_t keys[GOOSETABLE_KEYS_SIZE];

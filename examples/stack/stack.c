@@ -142,6 +142,17 @@ static void call_load(void)
     answer = CALL(load)(full.device, full.contacts, full.carried, LENT(tombstones), LENT(carried_cells), full.file, full.file_len);
 }
 
+/* The last page that is full, and the page with both kinds of rows: 256 carried rows are 13 pages and 9 rows more. */
+static void call_page(void)
+{
+    answer = CALL(page)(full.device, (GOOSETABLE_MAX_ROWS + TOMBSTONES) / GOOSETABLE_PAGE_ROWS - 1, full.carried, LENT(tombstones), LENT(page));
+}
+
+static void call_page_of_both(void)
+{
+    answer = CALL(page)(full.device, GOOSETABLE_MAX_ROWS / GOOSETABLE_PAGE_ROWS, full.carried, LENT(tombstones), LENT(page));
+}
+
 static void call_window(void)
 {
     answer = CALL(window)(full.skipped, GOOSETABLE_KEY_ROW * 100, LENT(chains), LENT(keys));
@@ -289,6 +300,9 @@ static const struct run runs[] = {
     {"row_blob", NULL, call_row_blob_tombstone, GOOSETABLE_DONE},
     {"save", NULL, call_save, GOOSETABLE_DONE},
     {"load", saved_file, call_load, GOOSETABLE_DONE},
+    {"page", NULL, call_page, GOOSETABLE_DONE},
+    {"page", NULL, call_page_of_both, GOOSETABLE_DONE},
+    {"page", all_expired, call_page_of_both, GOOSETABLE_DONE},
     {"window", NULL, call_window, GOOSETABLE_DONE},
     {"route_tag", NULL, call_route_tag, GOOSETABLE_DONE},
     {"delivered", NULL, call_delivered, GOOSETABLE_DONE},

@@ -12,7 +12,8 @@ use Rattle.model.specs.State.{State}
 use Rattle.model.specs.Calls as calls
 use Rattle.model.specs.Calls.{Answer}
 use Rattle.model.specs.Step.{step}
-use Rattle.text.specs.Text.{hexes, spaced}
+use Rattle.columns.specs.Columns.{hexes}
+use Rattle.text.specs.Text.{spaced}
 use Rattle.drill_lines.specs.declared.Last.{Last}
 use Rattle.drill_lines.specs.declared.Last.the-variants as last
 

@@ -55,6 +55,7 @@ use Rattle.model.proofs.HashLaws.{sha384-run}
 use Rattle.model.proofs.KeepRows.{offers-few}
 use Rattle.model.proofs.KeepCalls.{keeps}
 use Rattle.maintenance.proofs.MergeLaws.{length-expired}
+use Rattle.model.proofs.Laws.{all-merge}
 use Rattle.drill_run.specs.Drill.{callOf, recordStep, stateAfter}
 use Rattle.drill_run.proofs.RecordLaws.{ProperRecord}
 
@@ -86,17 +87,6 @@ module _ {A : Type 0} {P : A → Type 0} where
       go : (b : Bool) → Of P (find q xs) → Of P (cond b (option.some x) (find q xs))
       go true k = h
       go false k = k
-
-  all-merge : (key : A → ℕ) (xs ys : List A) → All P xs → All P ys → All P (merge key xs ys)
-  unfolding merge
-  all-merge key [] ys p q = q
-  all-merge key (x ∷ xs) [] p q = p
-  all-merge key (x ∷ xs) (y ∷ ys) (more h p) (more k q) =
-      go (leb (key x) (key y)) (all-merge key xs (y ∷ ys) p (more k q)) (all-merge key (x ∷ xs) ys (more h p) q)
-    where
-      go : (b : Bool) → All P (merge key xs (y ∷ ys)) → All P (merge key (x ∷ xs) ys) → All P (cond b (x ∷ merge key xs (y ∷ ys)) (y ∷ merge key (x ∷ xs) ys))
-      go true l r = more h l
-      go false l r = more k r
 
 -- at most one of each
 flat-each : {A B : Type 0} {P : B → Type 0} (f : A → List B) → ((a : A) → All P (f a) × (length (f a) ≤ 1)) → (xs : List A)

@@ -17,7 +17,7 @@ use Rattle.courier.specs.declared.Header.{Header}
 use Rattle.courier.specs.declared.Custody.{Custody}
 use Rattle.model.specs.Basics.{matchSome, find}
 use Rattle.model.specs.State.{State}
-use Rattle.model.specs.Calls.{Call, Result, contact, setting, clock, openExchange, envelope, inventoryReceived, fetch, custodyAnswer, tomb, opened, failed, storedTombstone, addOwn, maintenance, inventoryOfOurs, rowBlob, save, refused, only, missing}
+use Rattle.model.specs.Calls.{Call, Result, contact, setting, clock, openExchange, envelope, inventoryReceived, fetch, custodyAnswer, tomb, opened, failed, storedTombstone, addOwn, maintenance, inventoryOfOurs, rowBlob, save, page, refused, only, missing}
 use Rattle.model.specs.Contacts.{setContact, setConfig, setClock, openExchanged}
 use Rattle.model.specs.Window.{windowRows, prefixRows, lookup}
 use Rattle.model.specs.Custody.{oursAt, answerCustody, receiveEnvelope}
@@ -26,6 +26,7 @@ use Rattle.model.specs.Tombs.{Met, carriedAt, ownAt, wrong, unknown, meets, tur
 use Rattle.model.specs.Own.{noneMade, makeOwn, ownEnvelope}
 use Rattle.model.specs.Maintenance.{maintainCouriers}
 use Rattle.model.specs.Saved.{Slotted, heldRows, rowBlobOf, saveHeld}
+use Rattle.model.specs.Screen.{showPage}
 use Rattle.model.specs.Step.{tests, perform, step}
 use Rattle.model.proofs.RefusalLaws.{of-step, by-test, by-place, by-found}
 use Rattle.contacts.specs.Answers.{saidOf, openedOf}
@@ -39,10 +40,11 @@ use Rattle.tombs.specs.Tombs.{says as tombSays}
 use Rattle.maintenance.specs.Expiry.{maintainedOf}
 use Rattle.saved.specs.Blobs.{blobSays}
 use Rattle.saved.specs.Saving.{saveSays}
+use Rattle.screen.specs.Page.{pageSays}
 use Rattle.load.specs.Load.{loadHeldRows, loadStep}
 use Rattle.load.proofs.ExactLaws.{of-load}
 use Rattle.load.specs.Laying.{says as loadSays}
-use Rattle.host_answers.specs.HostAnswers.{answered, contactAnswer, openedAnswer, envelopeAnswer, fetchAnswer, fetchedAnswer, ownAnswer, listedAnswer, inventoryAnswer, codeAnswer, storedAnswer, tombAnswer, maintainedAnswer, blobAnswer, saveAnswer, loadAnswer}
+use Rattle.host_answers.specs.HostAnswers.{answered, contactAnswer, openedAnswer, envelopeAnswer, fetchAnswer, fetchedAnswer, ownAnswer, listedAnswer, inventoryAnswer, codeAnswer, storedAnswer, tombAnswer, maintainedAnswer, blobAnswer, saveAnswer, pageAnswer, loadAnswer}
 use Rattle.host_answers.specs.declared.Answer.{Answer}
 use Rattle.goosetable.specs.Hosts.{Counted}
 use Rattle.goosetable.proofs.StayLaws.{isOther, numbered}
@@ -87,6 +89,9 @@ hostLoad o = loadAnswer (loadSays o)
 
 abbrev hostSave : Result → Answer
 hostSave o = saveAnswer (saveSays o)
+
+abbrev hostPage : Result → Answer
+hostPage o = pageAnswer (pageSays o)
 
 -- ---- a call by its refusals and what it performs
 
@@ -176,6 +181,10 @@ blob-counted area slot = of-call hostBlob (rowBlob area slot) (λ why. counts re
 pub save-counted : (file : ℕ) → Counts hostSave (save file)
 unfolding perform saveHeld
 save-counted file = of-call hostSave (save file) (λ why. counts refl refl) (λ s. counts refl refl)
+
+pub page-counted : (area number : ℕ) → Counts hostPage (page area number)
+unfolding perform showPage
+page-counted area number = of-call hostPage (page area number) (λ why. counts refl refl) (λ s. counts refl refl)
 
 pub load-counted : (file : List ℕ) (s : State) → CountedBy hostLoad (loadStep s file)
 unfolding loadHeldRows

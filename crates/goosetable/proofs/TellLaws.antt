@@ -22,9 +22,11 @@ use Rattle.maintenance.specs.declared.Maintained.the-variants as maintaining
 use Rattle.saved.specs.Blobs.{blobOf, blobSays}
 use Rattle.saved.specs.Saving.{saveSays}
 use Rattle.saved.specs.declared.SaveAnswer.the-variants as saving
+use Rattle.screen.specs.Page.{pageSays}
+use Rattle.screen.specs.declared.PageAnswer.the-variants as paging
 use Rattle.load.specs.Laying.{says as loadSays}
 use Rattle.load.specs.declared.Said.the-variants as loadSaid
-use Rattle.host_answers.specs.HostAnswers.{contactAnswer, openedAnswer, envelopeAnswer, fetchedAnswer, ownAnswer, ownAnswers, listedAnswer, inventoryAnswer, codeAnswer, storedAnswer, tombAnswer, maintainedAnswer, blobAnswer, saveAnswer, loadAnswer}
+use Rattle.host_answers.specs.HostAnswers.{contactAnswer, openedAnswer, envelopeAnswer, fetchedAnswer, ownAnswer, ownAnswers, listedAnswer, inventoryAnswer, codeAnswer, storedAnswer, tombAnswer, maintainedAnswer, blobAnswer, saveAnswer, pageAnswer, loadAnswer}
 use Rattle.goosetable.specs.Hosts.{alone, besideRow}
 use Rattle.goosetable.proofs.StayLaws.{Tells, by-answers, by-refusal}
 
@@ -47,6 +49,9 @@ maintained-tells o = by-refusal maintainedAnswer maintaining.Refused (maintainin
 
 pub save-tells : Tells alone (λ o. saveAnswer (saveSays o))
 save-tells o = by-refusal saveAnswer saving.Refused (saving.Wrote (length (o .bytes))) refl (o .answer)
+
+pub page-tells : Tells alone (λ o. pageAnswer (pageSays o))
+page-tells o = by-refusal pageAnswer paging.Refused (paging.Wrote (length (o .bytes))) refl (o .answer)
 
 pub load-tells : Tells alone (λ o. loadAnswer (loadSays o))
 load-tells o = by-refusal loadAnswer loadSaid.Refused loadSaid.Done refl (o .answer)

@@ -9,7 +9,7 @@ ghost use Rattle.courier.specs.Tags.{routeTag, deliveredSecret, commitmentOf};
 ghost use Rattle.state.specs.Held.{heldDecode, heldRead};
 ghost use Rattle.wire.specs.Log.{enabledOf, verificationOf, codeRead};
 ghost use Rattle.boundary.specs.Boundary.{FreshArea, deviceKept, deviceRead, exchangeKept, bothKept};
-ghost use Rattle.model.specs.Calls.{contact as contactCall, setting as settingCall, clock as clockCall, openExchange, envelope as envelopeCall, fetch as fetchCall, addOwn, inventoryOfOurs, inventoryReceived, custodyAnswer, storedTombstone, tomb as tombCall, opened as openedCall, failed as failedCall, maintenance as maintenanceCall, rowBlob, save as saveCall};
+ghost use Rattle.model.specs.Calls.{contact as contactCall, setting as settingCall, clock as clockCall, openExchange, envelope as envelopeCall, fetch as fetchCall, addOwn, inventoryOfOurs, inventoryReceived, custodyAnswer, storedTombstone, tomb as tombCall, opened as openedCall, failed as failedCall, maintenance as maintenanceCall, rowBlob, save as saveCall, page as pageCall};
 ghost use Rattle.model.specs.Lent.{noAnswers, repliesLent, actionsLent, answersLent, bytesLent, deviceIn, contactsIn, exchangeIn};
 ghost use Rattle.contacts.specs.Answers.{saidOf, openedOf};
 ghost use Rattle.envelope.specs.Answers.{envelopeSays, envelopeIn};
@@ -23,9 +23,10 @@ ghost use Rattle.reports.specs.Reports.{openedLent, failedLent};
 ghost use Rattle.maintenance.specs.Expiry.{maintainedOf, lentTables};
 ghost use Rattle.saved.specs.Blobs.{blobSays, heldIn};
 ghost use Rattle.saved.specs.Saving.{saveSays};
+ghost use Rattle.screen.specs.Page.{pageSays, heldIn as pageLent};
 ghost use Rattle.load.specs.Load.{loadStep};
 ghost use Rattle.load.specs.Laying.{says as loadSays, loadLent};
-ghost use Rattle.host_answers.specs.HostAnswers.{contactAnswer, openedAnswer, envelopeAnswer, fetchedAnswer, ownAnswers, listedAnswer, inventoryAnswer, codeAnswer, storedAnswer, tombAnswer, maintainedAnswer, blobAnswer, saveAnswer, loadAnswer, windowAnswer, rowOf};
+ghost use Rattle.host_answers.specs.HostAnswers.{contactAnswer, openedAnswer, envelopeAnswer, fetchedAnswer, ownAnswers, listedAnswer, inventoryAnswer, codeAnswer, storedAnswer, tombAnswer, maintainedAnswer, blobAnswer, saveAnswer, pageAnswer, loadAnswer, windowAnswer, rowOf};
 ghost use Rattle.goosetable.specs.Hosts.{Hosts, HostsCall, HostsOwn, alone, OnRead, dirRead, Stays, Fills, contactId, headerFrom};
 ghost use Rattle.goosetable.specs.Version.{version};
 use boundary::VerificationRead;
@@ -58,14 +59,15 @@ use host_answers::maintained_answer;
 use host_answers::opened_answer;
 use host_answers::own_answer;
 use host_answers::own_row;
+use host_answers::page_answer;
 use host_answers::row_of;
 use host_answers::save_answer;
 use host_answers::stored_answer;
 use host_answers::tomb_answer;
 use host_answers::window_answer;
 
-// 0.2.0 as a number: major * 10,000 + minor * 100 + patch.
-const VERSION: u32 = 200;
+// 0.2.1 as a number: major * 10,000 + minor * 100 + patch.
+const VERSION: u32 = 201;
 
 // ---- what the host sets
 
@@ -568,6 +570,23 @@ pub extern "C" fn goosetable_save(
 {
     let d = device_of(device);
     save_answer(saved::save(d, carried, tombstones, carried_cells, file))
+}
+
+// A page of the post's screen, counted from 0; the length counts bytes.
+#[no_mangle]
+pub extern "C" fn goosetable_page(
+    device: &[u8; 60],
+    page: u64,
+    carried: &[u8; 14592],
+    tombstones: &[u8],
+    area: &mut [u8],
+) -> Answer
+    ensures { λ r. ⌜ HostsCall deviceRead (λ o. pageAnswer (pageSays o)) (pageCall (length (now (area .entry))) page) r (now (device .entry)) (now (device .entry))
+        (λ d. pageLent d (now (carried .entry)) (now (tombstones .entry))) (λ d. pageLent d (now (carried .entry)) (now (tombstones .entry)))
+        (bytesLent (now (area .entry))) (bytesLent (now (area .exit))) ⌝ }
+{
+    let d = device_of(device);
+    page_answer(screen::page(d, page, carried, tombstones, area))
 }
 
 // Replaces the held rows and the next slot by those of a saved file.

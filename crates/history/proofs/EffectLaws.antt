@@ -48,6 +48,7 @@ use Rattle.model.specs.Tombs.{tombstoned, remaining, storeTombstone, storeActio
 use Rattle.model.specs.Own.{noneMade, ownNamed, newOwn, makeOwn, ownTests, ownEnvelope}
 use Rattle.model.specs.Maintenance.{maintainCouriers}
 use Rattle.model.specs.Saved.{Slotted, heldRows, writes, rowBlobOf, saveHeld}
+use Rattle.model.specs.Screen.{showPage}
 use Rattle.model.specs.Step.{tests, perform, step}
 use Rattle.model.proofs.KeepLaws.{Passed}
 use Rattle.model.proofs.KeepRows.{and-false, or-false, valid-length}
@@ -415,7 +416,7 @@ module _ (s : State) where
   quietly c e u = by-tests c (subst Effects.Silent (sym e) tt) (λ p. quiet c (perform s c) e u)
 
   pub effect : (c : Call) → Effects.Effect s c (step s c)
-  unfolding step tests perform setConfig setClock openExchanged openedFor listInventory saveHeld stored reportOpened
+  unfolding step tests perform setConfig setClock openExchanged openedFor listInventory saveHeld showPage stored reportOpened
   effect (Calls.contact id v) = contact-effect id v
   effect (Calls.setting enabled copies lifetime) =
       quietly (Calls.setting enabled copies lifetime) refl (untouched (setConfig enabled copies lifetime .change) refl refl refl refl refl refl refl)
@@ -443,3 +444,4 @@ module _ (s : State) where
   effect (Calls.inventoryOfOurs prefixes peer) = quietly (Calls.inventoryOfOurs prefixes peer) refl idle
   effect (Calls.rowBlob blob slot) = quietly (Calls.rowBlob blob slot) refl (blob-idle slot .tables)
   effect (Calls.save file) = quietly (Calls.save file) refl idle
+  effect (Calls.page area number) = quietly (Calls.page area number) refl idle

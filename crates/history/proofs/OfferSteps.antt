@@ -38,6 +38,7 @@ use Rattle.model.specs.Tombs.{tombstoned, remaining, storeTombstone, stored, Me
 use Rattle.model.specs.Own.{noneMade, newOwn, makeOwn, ownEnvelope}
 use Rattle.model.specs.Maintenance.{maintainCouriers}
 use Rattle.model.specs.Saved.{saveHeld}
+use Rattle.model.specs.Screen.{showPage}
 use Rattle.model.specs.Step.{Post, Lent, tests, perform, step, stateFor, answerTo, after, run}
 use Rattle.model.specs.Good.{Good, GoodSession, ProperCall}
 use Rattle.model.proofs.KeepLaws.{Passed}
@@ -184,7 +185,7 @@ module _ (s : State) where
       aside c f e = by-tests c (λ p. still c (perform s c) e (λ tag. f tag (offeredCopies offered tag)))
 
       pub follows : (c : Call) → Follows c (step s c)
-      unfolding tests perform setContact setConfig setClock listInventory saveHeld stored reportOpened maintainCouriers receiveInventoryTests
+      unfolding tests perform setContact setConfig setClock listInventory saveHeld showPage stored reportOpened maintainCouriers receiveInventoryTests
       follows (Calls.contact id v) = aside (Calls.contact id v) (λ tag n. refl) refl
       follows (Calls.setting enabled copies lifetime) = aside (Calls.setting enabled copies lifetime) (λ tag n. refl) refl
       follows (Calls.clock seconds) = aside (Calls.clock seconds) (λ tag n. refl) refl
@@ -209,6 +210,7 @@ module _ (s : State) where
       follows (Calls.inventoryOfOurs prefixes peer) = aside (Calls.inventoryOfOurs prefixes peer) (λ t n. refl) refl
       follows (Calls.rowBlob blob slot) = aside (Calls.rowBlob blob slot) (λ t n. refl) (blob-idle s slot .offers)
       follows (Calls.save file) = aside (Calls.save file) (λ t n. refl) refl
+      follows (Calls.page area number) = aside (Calls.page area number) (λ t n. refl) refl
 
 -- ---- a list of calls
 

@@ -8,11 +8,15 @@ use Prim.Native.Nat.{ℕ, zero, suc, _+_, _≤_, _<_}
 use native.Mathlib.Numerals.{add-one}
 use native.Mathlib.Omega.{arith}
 use lib.ListN.{length, take, drop, getD, take-append-drop, drop-of-length-le}
+use lib.Dec.{leb}
+use borrow.Author.Tests.{leb-true, leb-false}
 use Rattle.table.specs.declared.Found.{Found}
 use Rattle.table.specs.declared.Found.the-variants.{At, Nothing}
 use Rattle.table.specs.Lists.{All, none, more, any, filter, countBy, position, isAt, unwrapOr, insertAt, removeAt, replaceAt}
 use Rattle.table.proofs.ListLaws.{drop-next, all-append, all-take, all-drop, all-imp}
 use Rattle.table.proofs.FindLaws.{position-any, position-first, any-none}
+use Rattle.model.specs.Basics.{merge}
+use Rattle.model.proofs.Laws.{all-merge}
 use Rattle.history.specs.Order.{Sorted, empty, next, _∈_, here, there}
 
 -- ---- elements
@@ -270,3 +274,35 @@ module _ {A : Type 0} {G : A → Type 0} {S : A → A → Type 0} where
       go (inl q) = inl (q .0, more (w, t, inr (all-in a m)) (q .1))
       go (inr q) = inr (q .0, there (q .1), q .2)
   became-gone (next a s) (goes g b) (there m) = became-gone s b m
+
+-- ---- two lists merged
+
+-- lists that rise, with no number in both, rise when they are merged
+pub rises-merge : {A : Type 0} (key : A → ℕ) (xs ys : List A) → Sorted (λ (a b : A). key a < key b) xs → Sorted (λ (a b : A). key a < key b) ys
+    → All (λ (x : A). All (λ (y : A). key x ≡ key y → ⊥) ys) xs → Sorted (λ (a b : A). key a < key b) (merge key xs ys)
+unfolding merge
+rises-merge key [] ys s t c = t
+rises-merge key (x ∷ xs) [] s t c = s
+rises-merge {A} key (x ∷ xs) (y ∷ ys) (next a s) (next b t) (more (more r d) c) =
+    go (leb (key x) (key y)) refl (rises-merge key xs (y ∷ ys) s (next b t) c) (rises-merge key (x ∷ xs) ys (next a s) t (more d (all-imp rest xs c)))
+  where
+    rest : (z : A) → All (λ (u : A). key z ≡ key u → ⊥) (y ∷ ys) → All (λ (u : A). key z ≡ key u → ⊥) ys
+    rest z (more p q) = q
+
+    less : key x ≤ key y → key x < key y
+    less h = by (leb (key y) (key x)) refl
+      where
+        by : (b : Bool) → leb (key y) (key x) ≡ b → key x < key y
+        by true e = absurd (r (omega (arith, h, leb-true (key y) (key x) e)))
+        by false e = leb-false (key y) (key x) e
+
+    go : (u : Bool) → leb (key x) (key y) ≡ u → Sorted (λ (a b : A). key a < key b) (merge key xs (y ∷ ys)) → Sorted (λ (a b : A). key a < key b) (merge key (x ∷ xs) ys)
+        → Sorted (λ (a b : A). key a < key b) (cond u (x ∷ merge key xs (y ∷ ys)) (y ∷ merge key (x ∷ xs) ys))
+    go true e p q =
+        let l : key x < key y = less (leb-true (key x) (key y) e) in
+        let m : All (λ (z : A). key x < key z) (y ∷ ys) = more l (all-imp (λ z k. omega (arith, l, k)) ys b) in
+        next (all-merge key xs (y ∷ ys) a m) p
+    go false e p q =
+        let l : key y < key x = leb-false (key x) (key y) e in
+        let m : All (λ (z : A). key y < key z) (x ∷ xs) = more l (all-imp (λ z k. omega (arith, l, k)) xs a) in
+        next (all-merge key (x ∷ xs) ys m b) q

@@ -54,6 +54,7 @@ role (Calls.maintenance actions) = other
 role (Calls.inventoryOfOurs prefixes peer) = other
 role (Calls.rowBlob blob slot) = other
 role (Calls.save file) = other
+role (Calls.page area number) = other
 
 -- ---- copies
 

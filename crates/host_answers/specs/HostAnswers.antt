@@ -42,6 +42,8 @@ use Rattle.saved.specs.declared.BlobAnswer.{BlobAnswer}
 use Rattle.saved.specs.declared.BlobAnswer.the-variants as blobbing
 use Rattle.saved.specs.declared.SaveAnswer.{SaveAnswer}
 use Rattle.saved.specs.declared.SaveAnswer.the-variants as saving
+use Rattle.screen.specs.declared.PageAnswer.{PageAnswer}
+use Rattle.screen.specs.declared.PageAnswer.the-variants as paging
 use Rattle.load.specs.declared.Said.{Said as LoadSaid}
 use Rattle.load.specs.declared.Said.the-variants as loadSaid
 use Rattle.host_answers.specs.declared.Answer.{Answer}
@@ -138,6 +140,10 @@ blobAnswer (blobbing.Refused why) = refusing why
 abbrev pub saveAnswer : SaveAnswer → Answer
 saveAnswer (saving.Wrote len) = answered 0 0 0 len
 saveAnswer (saving.Refused why) = refusing why
+
+abbrev pub pageAnswer : PageAnswer → Answer
+pageAnswer (paging.Wrote len) = answered 0 0 0 len
+pageAnswer (paging.Refused why) = refusing why
 
 abbrev pub loadAnswer : LoadSaid → Answer
 loadAnswer loadSaid.Done = answered 0 0 0 0

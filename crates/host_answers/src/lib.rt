@@ -1,7 +1,7 @@
 // What a call answers a host of another language: every enum of the calls as one struct of numbers, and a held row that was read.
 ghost use mathlib.Core.Path.{_≡_};
 ghost use Rattle.contacts.specs.Answers.{exchangeAfter};
-ghost use Rattle.host_answers.specs.HostAnswers.{answered, refusing, contactAnswer, openedAnswer, envelopeAnswer, fetchAnswer, ownAnswer, ownRowArea, listedAnswer, inventoryAnswer, codeAnswer, storedAnswer, tombAnswer, maintainedAnswer, blobAnswer, saveAnswer, loadAnswer, windowAnswer, carriedRow, tombstoneRow, rowOf};
+ghost use Rattle.host_answers.specs.HostAnswers.{answered, refusing, contactAnswer, openedAnswer, envelopeAnswer, fetchAnswer, ownAnswer, ownRowArea, listedAnswer, inventoryAnswer, codeAnswer, storedAnswer, tombAnswer, maintainedAnswer, blobAnswer, saveAnswer, loadAnswer, pageAnswer, windowAnswer, carriedRow, tombstoneRow, rowOf};
 use chain::Windowed;
 use contacts::Opened;
 use inventory::Listed;
@@ -11,6 +11,7 @@ use rows::Exchange;
 use rows::Own;
 use saved::BlobAnswer;
 use saved::SaveAnswer;
+use screen::PageAnswer;
 use state::Carried;
 use state::HeldKind;
 use state::HeldRead;
@@ -196,6 +197,15 @@ pub fn save_answer(saved: SaveAnswer) -> Answer
     match saved {
         SaveAnswer::Wrote(length) => answer_of(DONE, 0, 0, length),
         SaveAnswer::Refused(why) => refused(why),
+    }
+}
+
+pub fn page_answer(page: PageAnswer) -> Answer
+    ensures { λ r. ⌜ r ≡ pageAnswer page ⌝ }
+{
+    match page {
+        PageAnswer::Wrote(length) => answer_of(DONE, 0, 0, length),
+        PageAnswer::Refused(why) => refused(why),
     }
 }
 

@@ -30,10 +30,11 @@ use Rattle.model.specs.Basics.{matchSome, merge}
 use Rattle.model.specs.Saved.{Slotted, heldMark, savedRecord, savedFile}
 use Rattle.history.specs.Order.{Sorted, empty, next}
 use Rattle.history.proofs.EffectLaws.{and-true}
+use Rattle.model.proofs.Laws.{all-merge}
 use Rattle.load_tests.specs.Records.{records, slotIn, depositorIn, tagIn, isCarried, isTombstone, counted}
 use Rattle.load_tests.specs.Tests.{strangeMark, refusedBlob, otherKind, slotPast, slotTwice, tagTwice, unknownDepositor, manyOfOne, kindTests, fails, cutShort}
 use Rattle.load_tests.proofs.BlobLaws.{Decoded, decoded}
-use Rattle.load.proofs.SavedLaws.{carriedKind, ofCarried, ofTombstone, Back, Short, records-saved, all-merge, length-saved, slot-saved, blob-saved, mark-saved}
+use Rattle.load.proofs.SavedLaws.{carriedKind, ofCarried, ofTombstone, Back, Short, records-saved, length-saved, slot-saved, blob-saved, mark-saved}
 
 -- ---- at most one
 

@@ -26,13 +26,14 @@ use Rattle.model.specs.Cells.{ciphertext, cellCount}
 use Rattle.model.specs.Saved.{Slotted, carriedHeld, savedRecord, saveHeld}
 use Rattle.history.specs.Order.{_∈_, here, there}
 use Rattle.history.proofs.SortedLaws.{all-in}
+use Rattle.model.proofs.Laws.{all-merge}
 use Rattle.load_tests.specs.Records.{records}
 use Rattle.load_tests.specs.Tests.{kindTests, recordTests, fails, nextIn, wrongs, holds, loadTests}
 use Rattle.load_tests.proofs.BlobLaws.{kind-tested}
 use Rattle.load_tests.proofs.TestLaws.{fails-kind, file-wrong, tested-wrong}
 use Rattle.load.specs.Load.{loadHeldRows, loadStep}
 use Rattle.load.proofs.CallLaws.{after, step-tested}
-use Rattle.load.proofs.SavedLaws.{Short, carriedRows, tombstoneRows, rowsOf, fileOf, same-file, same-records, proper-held, carried-short, tombstone-short, all-merge, blob-saved}
+use Rattle.load.proofs.SavedLaws.{Short, carriedRows, tombstoneRows, rowsOf, fileOf, same-file, same-records, proper-held, carried-short, tombstone-short, blob-saved}
 use Rattle.load.proofs.FineLaws.{Begins, begins-saved}
 
 -- ---- a test that holds of one holds of some

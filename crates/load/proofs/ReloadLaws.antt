@@ -22,6 +22,7 @@ use Rattle.model.specs.Contacts.{known}
 use Rattle.model.specs.Custody.{deposited}
 use Rattle.model.specs.Saved.{Slotted, carriedHeld, tombstoneHeld, savedRecord, saveHeld}
 use Rattle.history.specs.Order.{Sorted}
+use Rattle.model.proofs.Laws.{all-merge}
 use Rattle.load_tests.specs.Records.{records, isCarried, isTombstone}
 use Rattle.load_tests.specs.declared.Tested.the-variants as tested
 use Rattle.load_tests.specs.Tests.{recordTests, rowTests, fails, nextIn, carriedCount, tombstoneCount, wrongs, holds, loadTests, testedAs}
@@ -29,7 +30,7 @@ use Rattle.load_tests.proofs.TestLaws.{fails-row, file-many, tested-fine}
 use Rattle.load.specs.Reload.{Savable, Takes, Reloaded}
 use Rattle.load.specs.Load.{loadHeldRows, loadStep}
 use Rattle.load.proofs.CallLaws.{after, step-tested}
-use Rattle.load.proofs.SavedLaws.{Back, Short, ofCarried, ofTombstone, carriedRows, tombstoneRows, rowsOf, fileOf, same-file, same-records, all-rows, next-saved, all-merge, sorted-map, saved-loaded}
+use Rattle.load.proofs.SavedLaws.{Back, Short, ofCarried, ofTombstone, carriedRows, tombstoneRows, rowsOf, fileOf, same-file, same-records, all-rows, next-saved, sorted-map, saved-loaded}
 use Rattle.load.proofs.FineLaws.{depositorOf, TagsApart, ofDepositor, sorted-merge, count-merge, count-none, count-all, counts-saved, marked-saved, marked-tomb, kind-saved, past-saved, once-saved, known-saved, tag-once-saved, few-of-one-saved, Begins, begins-saved}
 
 none-any : {A : Type 0} (p : A → Bool) (xs : List A) → All (λ (x : A). p x ≡ false) xs → any p xs ≡ false

@@ -31,6 +31,7 @@ use Rattle.rows.specs.declared.Tombstone.{Tombstone}
 use Rattle.model.specs.Basics.{matchSome, merge}
 use Rattle.model.specs.Cells.{ciphertext, cellCount}
 use Rattle.model.specs.Saved.{Slotted, carriedHeld, tombstoneHeld, heldMark, savedRecord, savedFile, savedRows, saveHeld, heldRows}
+use Rattle.model.proofs.Laws.{all-merge}
 use Rattle.load_tests.specs.Records.{recordSize, recordsIn, recordsAt, records, slotIn}
 use Rattle.model.specs.Calls.{Result, done}
 use Rattle.load.proofs.CallLaws.{load-cases, not-done}
@@ -347,17 +348,6 @@ module _ (p : Slotted → Bool) (key : Slotted → ℕ) where
 pub sorted-map : {A B : Type 0} {R : A → A → Type 0} {S : B → B → Type 0} (f : A → B) → ((x y : A) → R x y → S (f x) (f y)) → (xs : List A) → Sorted R xs → Sorted S (map f xs)
 sorted-map f k [] s = empty
 sorted-map f k (x ∷ xs) (next a s) = next (all-map f xs (all-imp (k x) xs a)) (sorted-map f k xs s)
-
-pub all-merge : {P : Slotted → Type 0} (key : Slotted → ℕ) (xs ys : List Slotted) → All P xs → All P ys → All P (merge key xs ys)
-unfolding merge
-all-merge key [] ys a b = b
-all-merge key (x ∷ xs) [] a b = a
-all-merge {P} key (x ∷ xs) (y ∷ ys) (lists.more p a) (lists.more q b) =
-    go (leb (key x) (key y)) (all-merge key xs (y ∷ ys) a (lists.more q b)) (all-merge key (x ∷ xs) ys (lists.more p a) b)
-  where
-    go : (t : Bool) → All P (merge key xs (y ∷ ys)) → All P (merge key (x ∷ xs) ys) → All P (cond t (x ∷ merge key xs (y ∷ ys)) (y ∷ merge key (x ∷ xs) ys))
-    go true u v = lists.more p u
-    go false u v = lists.more q v
 
 abbrev pub carriedRows : State → List Slotted
 carriedRows s = map (carriedHeld (s .carriedCells)) (s .carried)

@@ -17,46 +17,13 @@ use Rattle.rows.specs.Rows.{actionBytes}
 use Rattle.model.specs.Basics.{merge}
 use Rattle.model.specs.Calls.{deleteCourier}
 use Rattle.model.specs.Maintenance.{carriedExpired, tombstoneExpired, expiredSlots}
+use Rattle.model.proofs.Laws.{length-merge}
+use Rattle.by_slot.proofs.SlotLaws.{merge-left-end, merge-left, merge-right-end, merge-right}
 use Rattle.maintenance.specs.Expiry.{Listed, Merging}
 use Rattle.maintenance.proofs.ListedLaws.{listed-none, listed-push}
 
--- ---- merging
-
 abbrev same : ℕ → ℕ
 same n = n
-
-merge-nil : (xs : List ℕ) → merge same xs [] ≡ xs
-unfolding merge
-merge-nil [] = refl
-merge-nil (x ∷ xs) = refl
-
--- the first of the left list, where the right one is empty or its first is no lower; and the other way round
-merge-left-end : (x : ℕ) (xs : List ℕ) → merge same (x ∷ xs) [] ≡ x ∷ merge same xs []
-unfolding merge
-merge-left-end x xs = ap (λ (l : List ℕ). x ∷ l) (sym (merge-nil xs))
-
-merge-left : (x y : ℕ) (xs ys : List ℕ) → x ≤ y → merge same (x ∷ xs) (y ∷ ys) ≡ x ∷ merge same xs (y ∷ ys)
-unfolding merge
-merge-left x y xs ys h = rw (le-leb x y h)
-
-merge-right-end : (y : ℕ) (ys : List ℕ) → merge same [] (y ∷ ys) ≡ y ∷ merge same [] ys
-unfolding merge
-merge-right-end y ys = refl
-
-merge-right : (x y : ℕ) (xs ys : List ℕ) → y < x → merge same (x ∷ xs) (y ∷ ys) ≡ y ∷ merge same (x ∷ xs) ys
-unfolding merge
-merge-right x y xs ys h = rw (lt-leb x y h)
-
-length-merge : (xs ys : List ℕ) → length (merge same xs ys) ≡ length xs + length ys
-unfolding merge
-length-merge [] ys = omega arith
-length-merge (x ∷ xs) [] = omega arith
-length-merge (x ∷ xs) (y ∷ ys) = go (leb x y) (length-merge xs (y ∷ ys)) (length-merge (x ∷ xs) ys)
-  where
-    go : (b : Bool) → length (merge same xs (y ∷ ys)) ≡ length xs + suc (length ys) → length (merge same (x ∷ xs) ys) ≡ suc (length xs) + length ys
-        → length (cond b (x ∷ merge same xs (y ∷ ys)) (y ∷ merge same (x ∷ xs) ys)) ≡ suc (length xs) + suc (length ys)
-    go true l r = omega arith
-    go false l r = omega arith
 
 -- no more deletions than rows
 pub length-expired : (minute : ℕ) (cs : List Carried) (ts : List Tombstone) → length (expiredSlots minute cs ts) ≤ length cs + length ts
@@ -66,7 +33,7 @@ length-expired minute cs ts =
     let ys : List Tombstone = filter (tombstoneExpired minute) ts in
     omega (
       arith,
-      length-merge (map (λ (r : Carried). r .slot) xs) (map (λ (t : Tombstone). t .slot) ys),
+      length-merge same (map (λ (r : Carried). r .slot) xs) (map (λ (t : Tombstone). t .slot) ys),
       length-map xs (λ (r : Carried). r .slot),
       length-map ys (λ (t : Tombstone). t .slot),
       length-filter (carriedExpired minute) cs,
@@ -95,16 +62,16 @@ module _ (minute : ℕ) (cs : List Carried) (ts : List Tombstone) (p q : ℕ) {r
     first-carried h le = go (ltb q (length ts)) refl
       where
         go : (b : Bool) → ltb q (length ts) ≡ b → slotsOf p q ≡ r .slot ∷ slotsOf (p + 1) q
-        go true e = let k = ltb-true q (length ts) e in rw (ec h, xc h, et k, xt k) (merge-left (r .slot) (t .slot) _ _ (le k))
-        go false e = rw (ec h, xc h, drop-of-length-le ts {i = q} (ltb-false q (length ts) e)) (merge-left-end (r .slot) _)
+        go true e = let k = ltb-true q (length ts) e in rw (ec h, xc h, et k, xt k) (merge-left same (r .slot) (t .slot) _ _ (le k))
+        go false e = rw (ec h, xc h, drop-of-length-le ts {i = q} (ltb-false q (length ts) e)) (merge-left-end same (r .slot) _)
 
     pub first-tombstone : q < length ts → (p < length cs → t .slot < r .slot) → slotsOf p q ≡ t .slot ∷ slotsOf p (q + 1)
     unfolding expiredSlots filter
     first-tombstone h lt = go (ltb p (length cs)) refl
       where
         go : (b : Bool) → ltb p (length cs) ≡ b → slotsOf p q ≡ t .slot ∷ slotsOf p (q + 1)
-        go true e = let k = ltb-true p (length cs) e in rw (et h, xt h, ec k, xc k) (merge-right (r .slot) (t .slot) _ _ (lt k))
-        go false e = rw (et h, xt h, drop-of-length-le cs {i = p} (ltb-false p (length cs) e)) (merge-right-end (t .slot) _)
+        go true e = let k = ltb-true p (length cs) e in rw (et h, xt h, ec k, xc k) (merge-right same (r .slot) (t .slot) _ _ (lt k))
+        go false e = rw (et h, xt h, drop-of-length-le cs {i = p} (ltb-false p (length cs) e)) (merge-right-end same (t .slot) _)
 
 -- ---- the list so far
 

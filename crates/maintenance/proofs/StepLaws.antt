@@ -4,12 +4,10 @@ use mathlib.Core.Path.{_≡_, sym, ap, _∙_}
 use mathlib.Core.Bool.{Bool, true, false, _&&_}
 use mathlib.Core.List.{List, _∷_, map}
 use Prim.Native.Nat.{ℕ, _+_, _*_, _≤_, _<_}
-use native.Mathlib.Nat.{add-zero}
 use native.Mathlib.Omega.{arith}
 use lib.ListN.{length, drop}
 use lib.Dec.{leb, ltb}
 use Rattle.octets.specs.Bytes.{splice, part, num}
-use Rattle.octets.proofs.Parts.{part-part}
 use Rattle.table.specs.Rows.{held}
 use Rattle.table.specs.Codec.{Codec, tableOf}
 use Rattle.table.proofs.RowLaws.{held-all}
@@ -19,8 +17,10 @@ use Rattle.rows.specs.declared.Tombstone.{Tombstone}
 use Rattle.rows.specs.Rows.{carriedCodec, carriedOf, tombstoneCodec, tombstoneOf, actionBytes}
 use Rattle.model.specs.Calls.{deleteCourier}
 use Rattle.model.specs.Maintenance.{carriedExpired, tombstoneExpired, expiredSlots}
+use Rattle.by_slot.specs.BySlot.{TombstoneFirst}
+use Rattle.by_slot.proofs.SlotLaws.{slot-of}
 use Rattle.maintenance.specs.declared.Turn.{Turn}
-use Rattle.maintenance.specs.Expiry.{liveRow, Listed, TombstoneFirst, Moving, Merging, Moved}
+use Rattle.maintenance.specs.Expiry.{liveRow, Listed, Moving, Merging, Moved}
 use Rattle.maintenance.proofs.TestLaws.{lives-yes, lives-no}
 use Rattle.maintenance.proofs.MergeLaws.{pass-carried, pass-tombstone, first-carried, first-tombstone, merging-pass, merging-list, merging-end}
 
@@ -31,9 +31,6 @@ module _ {A : Type 0} (c : Codec A) (n : ℕ) (a : List ℕ) (wide : 0 < c .widt
 
   row-next : (i : ℕ) → i < length (tableOf c n a) → drop i (tableOf c n a) ≡ c .decode (part a (i * c .width) (c .width)) ∷ drop (i + 1) (tableOf c n a)
   row-next i h = table-next c n a i (omega (arith, length-table c n a))
-
-front : (a : List ℕ) (i w : ℕ) → 8 ≤ w → num (part (part a (i * w) w) 0 8) ≡ num (part a (i * w) 8)
-front a i w h = ap num (part-part a (i * w) w 0 8 (omega arith) ∙ ap (λ (k : ℕ). part a k 8) (add-zero (i * w)))
 
 module _ (minute n m : ℕ) (ca ta : List ℕ) (t : Turn) (len : ℕ)
     (M : Moving n m (t .carried) (t .tombstones) (t .listed) (length ca) (length ta) len) where
@@ -59,16 +56,16 @@ module _ (minute n m : ℕ) (ca ta : List ℕ) (t : Turn) (len : ℕ)
   turn i j k = record { carried = i; tombstones = j; listed = k }
 
   lc : length Cs ≡ n
-  lc = length-whole carriedCodec n ca (omega arith) (M .carriedRows)
+  lc = length-whole carriedCodec n ca (omega arith) (M .reached .rows)
 
   lt : length Ts ≡ m
-  lt = length-whole tombstoneCodec m ta (omega arith) (M .tombstoneRows)
+  lt = length-whole tombstoneCodec m ta (omega arith) (M .reached .tombs)
 
   ec : p < length Cs → drop p Cs ≡ row ∷ drop (p + 1) Cs
-  ec = row-next carriedCodec n ca (omega arith) (M .carriedRows) p
+  ec = row-next carriedCodec n ca (omega arith) (M .reached .rows) p
 
   et : q < length Ts → drop q Ts ≡ stone ∷ drop (q + 1) Ts
-  et = row-next tombstoneCodec m ta (omega arith) (M .tombstoneRows) q
+  et = row-next tombstoneCodec m ta (omega arith) (M .reached .tombs) q
 
   carried-is : {b : Bool} → leb (num (part (part ca (p * 57) 57) 48 4)) minute ≡ b → carriedExpired minute row ≡ b
   unfolding carriedOf
@@ -80,11 +77,11 @@ module _ (minute n m : ℕ) (ca ta : List ℕ) (t : Turn) (len : ℕ)
 
   slot-carried : row .slot ≡ num (part ca (p * 57) 8)
   unfolding carriedOf
-  slot-carried = front ca p 57 (omega arith)
+  slot-carried = slot-of ca (p * 57) 57 (omega arith)
 
   slot-tombstone : stone .slot ≡ num (part ta (q * 44) 8)
   unfolding tombstoneOf
-  slot-tombstone = front ta q 44 (omega arith)
+  slot-tombstone = slot-of ta (q * 44) 44 (omega arith)
 
   -- whether the rows live
   module _ {b : Bool} (lives : b ≡ (ltb p n && liveRow 48 minute (part ca (p * 57) 57))) where
@@ -117,7 +114,7 @@ module _ (minute n m : ℕ) (ca ta : List ℕ) (t : Turn) (len : ℕ)
         xt h = tombstone-is (lives-no q m _ minute stands gone (omega (arith, lt)))
 
         room : (ac : List ℕ) → length ac ≡ length x → (t .listed + 1) * 13 ≤ length ac
-        room ac l = omega (arith, l, lx, M .space, M .more)
+        room ac l = omega (arith, l, lx, M .space, M .reached .more)
 
         pub list-tombstone : f ≡ true → s ≡ num (part ta (q * 44) 8) → Moved minute n m ca ta x y t (turn p (q + 1) (t .listed + 1))
         list-tombstone e es =

@@ -2,7 +2,7 @@
 -- Assumes nothing.
 use Prim.Native.Nat.{ℕ, _+_, _*_, _≤_, _<_}
 use mathlib.Core.Path.{_≡_}
-use mathlib.Core.Bool.{Bool, true, false, not, _&&_}
+use mathlib.Core.Bool.{Bool, not, _&&_}
 use mathlib.Core.List.{List, [], _++_, map}
 use lib.ListN.{length, take, drop}
 use lib.Dec.{leb}
@@ -19,6 +19,7 @@ use Rattle.rows.specs.Rows.{carriedCodec, tombstoneCodec, actionBytes}
 use Rattle.model.specs.Calls.{Result, deleteCourier, putQueued}
 use Rattle.model.specs.Maintenance.{ownExpired, isRenewed, expiredSlots}
 use Rattle.model.specs.Areas.{Areas}
+use Rattle.by_slot.specs.BySlot.{Reached}
 use Rattle.model.specs.Lent.{refusedOr, deviceIn, ownIn, carriedIn, tombstonesIn}
 use Rattle.maintenance.specs.declared.Turn.{Turn}
 use Rattle.maintenance.specs.declared.Maintained.{Maintained}
@@ -39,18 +40,9 @@ pub record Listed (ac : List ℕ) (k : ℕ) (acts : List Action) (m : ℕ) (x : 
   pub count : m ≡ k + length acts
   pub area : x ≡ splice ac (k * 13) (join (map actionBytes acts))
 
--- is a tombstone the next of the rows from p and q on, by their slots
-pub record TombstoneFirst (n m p q sp sq : ℕ) (r : Bool) : Type 0 where
-  pub tombstone : r ≡ true → (q < m) × (p < n → sq < sp)
-  pub carried : r ≡ false → (p < n) × (q < m → sp ≤ sq)
-
 -- what a step of the deletions relies on: a row is left, and there is room for an action of each
 pub record Moving (n m p q k carried tombstones actions : ℕ) : Type 0 where
-  pub more : p + q < n + m
-  pub left : p ≤ n
-  pub right : q ≤ m
-  pub carriedRows : n * 57 ≤ carried
-  pub tombstoneRows : m * 44 ≤ tombstones
+  pub reached : Reached carried tombstones n m p q
   pub space : (k + (n + m)) * 13 ≤ actions + (p + q) * 13
 
 -- deletions of the rows before p and q are listed behind k rows of ac, and those of the rows from p and q on are left

@@ -2,10 +2,10 @@
 ghost use mathlib.Core.Path.{_≡_};
 ghost use mathlib.Core.Bool.{not, _&&_};
 ghost use mathlib.Core.List.{map};
-ghost use Prim.Native.Nat.{_+_, _*_, _≤_, _<_};
+ghost use Prim.Native.Nat.{_+_, _*_, _≤_};
 ghost use lib.ListN.{length};
 ghost use lib.Dec.{ltb};
-ghost use Rattle.octets.specs.Bytes.{part, num};
+ghost use Rattle.octets.specs.Bytes.{part};
 ghost use Rattle.table.specs.Lists.{filter};
 ghost use Rattle.table.specs.Rows.{held, rows, RowsNow};
 ghost use Rattle.table.specs.Codec.{tableOf, TableNow};
@@ -13,7 +13,7 @@ ghost use Rattle.rows.specs.Rows.{ownWidth, ownCodec, carriedWidth, carriedCode
 ghost use Rattle.model.specs.Calls.{maintenance, deleteCourier};
 ghost use Rattle.model.specs.Maintenance.{ownExpired, carriedExpired, tombstoneExpired, isRenewed, renewExpired, maintainOwn, ownPuts, expiredSlots};
 ghost use Rattle.model.specs.Lent.{Does, actionsLent};
-ghost use Rattle.maintenance.specs.Expiry.{liveRow, Listed, TombstoneFirst, Moving, Moved, Rewritten, maintainedDevice, maintainedOf, lentTables};
+ghost use Rattle.maintenance.specs.Expiry.{liveRow, Listed, Moving, Moved, Rewritten, maintainedDevice, maintainedOf, lentTables};
 use core::Refusal;
 use rows::Device;
 use rows::Own;
@@ -90,28 +90,6 @@ fn lives(area: &[u8], width: usize, n: usize, offset: usize, i: usize, minute: u
     false
 }
 
-// Is a tombstone next? Of equal slots the carried row's comes first.
-fn tombstone_first(
-    carried: &[u8],
-    n: usize,
-    p: usize,
-    tombstones: &[u8],
-    m: usize,
-    q: usize,
-) -> bool
-    requires { ⌜ (p + q < n + m) × ((p ≤ n) × ((q ≤ m) × ((n * 57 ≤ length (now carried)) × (m * 44 ≤ length (now tombstones))))) ⌝ }
-    ensures { λ r. ⌜ TombstoneFirst n m p q (num (part (now (carried .entry)) (p * 57) 8)) (num (part (now (tombstones .entry)) (q * 44) 8)) r ⌝ }
-{
-    if n <= p {
-        return true;
-    }
-    if m <= q {
-        return false;
-    }
-    octets::get_u64(tombstones, q * rows::TOMBSTONE_WIDTH)
-        < octets::get_u64(carried, p * rows::CARRIED_WIDTH)
-}
-
 // One row further: a row that lives is passed; else the lower slot is listed.
 fn list_one(
     carried: &[u8],
@@ -142,7 +120,7 @@ fn list_one(
             listed: k,
         };
     }
-    if tombstone_first(carried, n, p, tombstones, m, q) {
+    if by_slot::tombstone_first(carried, n, p, tombstones, m, q) {
         let slot = octets::get_u64(tombstones, q * rows::TOMBSTONE_WIDTH);
         answers::delete_courier(actions, k * 13, slot);
         return Turn {

@@ -1,6 +1,7 @@
 -- What holds of every call: the first test that holds refuses it and nothing changes, or none holds and it is performed.
 -- Assumes nothing.
-use mathlib.Core.Path.{_≡_, refl}
+use Prim.Native.Nat.{ℕ}
+use mathlib.Core.Path.{_≡_, refl, ap}
 use mathlib.Core.Bool.{Bool, true, false}
 use mathlib.Core.List.{List, [], _∷_}
 use Rattle.octets.specs.Bytes.{splice}
@@ -10,7 +11,8 @@ use Rattle.table.specs.Codec.{withTable}
 use Rattle.model.specs.State.{Change, nothing}
 use Rattle.model.specs.Calls.{Answer, Result, result, refused, only, stepOf}
 use Rattle.model.specs.Areas.{Areas, AnswerAreas, Written, store, storeDevice, storeSession, answerAreas}
-use Rattle.model.specs.Lent.{deviceIn, contactsIn, ownIn, carriedIn, tombstonesIn, badTagsIn, ownCellsIn, carriedCellsIn, exchangeIn}
+use Rattle.model.specs.Saved.{writes}
+use Rattle.model.specs.Lent.{bytesLent, deviceIn, contactsIn, ownIn, carriedIn, tombstonesIn, badTagsIn, ownCellsIn, carriedCellsIn, exchangeIn}
 
 module _ (why : Refusal) (ts : List (Bool × Refusal)) (p : Result) {t : Bool} where
   pub refused-here : t ≡ true → stepOf ((t, why) ∷ ts) p ≡ only (refused why)
@@ -41,6 +43,12 @@ module _ {A : Type 0} {says : Result → A} {r : A} {o : Result} {before after :
   pub refused-call : (why : Refusal) → o ≡ only (refused why) → r ≡ says (only (refused why)) → after ≡ before → Written says o r before after lent lent
   unfolding store storeDevice storeSession
   refused-call why e q s = quiet-call (refused why) nothing e q s
+
+-- a call that writes bytes to the area lent for them, and changes nothing
+pub bytes-call : {A : Type 0} {says : Result → A} {o : Result} {r : A} {before : Areas} {lent back : List ℕ} (b : List ℕ) → o ≡ writes b → r ≡ says (writes b)
+    → back ≡ splice lent 0 b → Written says o r before before (bytesLent lent) (bytesLent back)
+unfolding store storeDevice storeSession answerAreas withTable written join
+bytes-call b e q s = answering-call (writes b) e q refl (ap bytesLent s)
 
 -- Areas with their own parts set into them are themselves: a contract speaks of all areas whose lent parts are what the call is lent.
 pub own-parts : (a : Areas) → deviceIn (a .device) (contactsIn (a .contacts) (ownIn (a .own) (carriedIn (a .carried) (tombstonesIn (a .tombstones)

@@ -33,6 +33,7 @@ use Rattle.model.specs.Tombs.{meets, receiveTomb, reportFailed, tombTest
 use Rattle.model.specs.Own.{noneMade, newOwn, makeOwn, ownTests, ownEnvelope}
 use Rattle.model.specs.Maintenance.{maintainCouriers, maintenanceTests}
 use Rattle.model.specs.Saved.{Slotted, heldRows, writes, blobTests, rowBlobOf, saveTests, saveHeld}
+use Rattle.model.specs.Screen.{pageTests, showPage}
 use Rattle.model.specs.Step.{tests, perform, step}
 use Rattle.model.specs.Good.{Good, ProperHeader, ProperTomb, ProperCall}
 use Rattle.model.proofs.KeepLaws.{Fits, made, fits-nothing, Passed, keeps-step}
@@ -78,6 +79,10 @@ module _ (s : State) where
   save-fits : Fits s (saveHeld s .change)
   unfolding saveHeld
   save-fits = fits-nothing s
+
+  page-fits : (number : ℕ) → Fits s (showPage s number .change)
+  unfolding showPage
+  page-fits number = fits-nothing s
 
 module _ (s : State) (g : Good s) where
   contact-fits : (id : ContactId) (v : Verification) → id .0 < 2 ^ 64 → Passed (contactTests s id) → Fits s (setContact s id v .change)
@@ -173,3 +178,4 @@ keeps s (Calls.maintenance actions) g h = keeps-step s (maintenanceTests s actio
 keeps s (Calls.inventoryOfOurs prefixes peer) g h = keeps-step s (inventoryTests s prefixes peer) (listInventory s peer) g (λ p. list-fits s peer)
 keeps s (Calls.rowBlob blob slot) g h = keeps-step s (blobTests blob) (rowBlobOf s slot) g (λ p. blob-fits s slot)
 keeps s (Calls.save file) g h = keeps-step s (saveTests s file) (saveHeld s) g (λ p. save-fits s)
+keeps s (Calls.page area number) g h = keeps-step s (pageTests area) (showPage s number) g (λ p. page-fits s number)

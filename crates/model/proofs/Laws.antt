@@ -12,6 +12,8 @@ use native.Mathlib.Numerals.{add-one}
 use lib.Dec.{leb, ltb}
 use borrow.Author.Tests.{ltb-false, ltb-true, lt-ltb, le-ltb}
 use Rattle.octets.specs.Bytes.{part}
+use Rattle.table.specs.Lists.{All}
+use Rattle.table.specs.Lists as lists
 use Rattle.rows.specs.declared.Carried.{Carried}
 use Rattle.rows.specs.declared.Tombstone.{Tombstone}
 use Rattle.model.specs.Basics.{merge}
@@ -160,7 +162,7 @@ least-expiry t ts h =
     })))
     (λ b. absurd (omega (arith, ltb-false (t .«expiry_min») (2 ^ 32) b)))
 
--- ---- the saved file
+-- ---- two lists merged
 
 -- the merged list has the elements of both, each once
 module _ {A : Type 0} (key : A → ℕ) where
@@ -176,6 +178,31 @@ module _ {A : Type 0} (key : A → ℕ) where
       by-key (leb (key x) (key y)) x y (merge key xs (y ∷ ys)) (merge key (x ∷ xs) ys) ((x ∷ xs) ++ (y ∷ ys))
       (Perm·cons x (perm-merge xs (y ∷ ys)))
       (Perm·trans (Perm·cons y (perm-merge (x ∷ xs) ys)) (Perm·symm (perm-middle (x ∷ xs) ys)))
+
+pub length-merge : {A : Type 0} (key : A → ℕ) (xs ys : List A) → length (merge key xs ys) ≡ length xs + length ys
+unfolding merge
+length-merge key [] ys = omega arith
+length-merge key (x ∷ xs) [] = omega arith
+length-merge key (x ∷ xs) (y ∷ ys) = go (leb (key x) (key y)) (length-merge key xs (y ∷ ys)) (length-merge key (x ∷ xs) ys)
+  where
+    go : (b : Bool) → length (merge key xs (y ∷ ys)) ≡ length xs + suc (length ys) → length (merge key (x ∷ xs) ys) ≡ suc (length xs) + length ys
+        → length (cond b (x ∷ merge key xs (y ∷ ys)) (y ∷ merge key (x ∷ xs) ys)) ≡ suc (length xs) + suc (length ys)
+    go true l r = omega arith
+    go false l r = omega arith
+
+-- what holds of the elements of both holds of the merged ones
+pub all-merge : {A : Type 0} {P : A → Type 0} (key : A → ℕ) (xs ys : List A) → All P xs → All P ys → All P (merge key xs ys)
+unfolding merge
+all-merge key [] ys p q = q
+all-merge key (x ∷ xs) [] p q = p
+all-merge {A} {P} key (x ∷ xs) (y ∷ ys) (lists.more h p) (lists.more k q) =
+    go (leb (key x) (key y)) (all-merge key xs (y ∷ ys) p (lists.more k q)) (all-merge key (x ∷ xs) ys (lists.more h p) q)
+  where
+    go : (b : Bool) → All P (merge key xs (y ∷ ys)) → All P (merge key (x ∷ xs) ys) → All P (cond b (x ∷ merge key xs (y ∷ ys)) (y ∷ merge key (x ∷ xs) ys))
+    go true l r = lists.more h l
+    go false l r = lists.more k r
+
+-- ---- the saved file
 
 -- the file is what document 01 fixes
 pub saved : (s : State) → IsSaved s (saveHeld s .bytes)

@@ -13,3 +13,5 @@ pub mod RefusalLaws
 pub mod Corners
 pub mod Examples
 pub mod SearchLaws
+pub mod ScreenLaws
+pub mod ScreenCorners

@@ -27,6 +27,7 @@ use Rattle.model.specs.Tombs.{Met, carriedAt, ownAt, wrong, unknown, mee
 use Rattle.model.specs.Own.{noneMade, makeOwn, ownEnvelope}
 use Rattle.model.specs.Maintenance.{maintainCouriers}
 use Rattle.model.specs.Saved.{Slotted, heldRows, rowBlobOf, saveHeld}
+use Rattle.model.specs.Screen.{showPage}
 use Rattle.model.specs.Step.{tests, perform, step}
 use Rattle.model.specs.Areas.{Areas, AnswerAreas, Written, view, store, storeDevice, storeSession, answerAreas}
 use Rattle.model.specs.Lent.{Does, refusedOr}
@@ -115,7 +116,7 @@ by-meeting s tag secret wrong = says refl
 by-meeting s tag secret unknown = says refl
 
 performed : (s : State) (c : Call) → Performed (perform s c)
-unfolding perform setContact setConfig setClock openExchanged receiveEnvelope oursAt answerCustody receiveInventory answerInventory listMore receiveFetch fetched receiveCustody settle reportOpened reportFailed stored ownEnvelope makeOwn maintainCouriers listInventory rowBlobOf saveHeld
+unfolding perform setContact setConfig setClock openExchanged receiveEnvelope oursAt answerCustody receiveInventory answerInventory listMore receiveFetch fetched receiveCustody settle reportOpened reportFailed stored ownEnvelope makeOwn maintainCouriers listInventory rowBlobOf saveHeld showPage
 performed s (Calls.contact id v) = says refl
 performed s (Calls.setting enabled copies lifetime) = says refl
 performed s (Calls.clock seconds) = says refl
@@ -137,6 +138,7 @@ performed s (Calls.maintenance actions) = says refl
 performed s (Calls.inventoryOfOurs prefixes peer) = says refl
 performed s (Calls.rowBlob blob slot) = by-found Performed (find (λ (h : Slotted). eqb (h .slot) slot) (heldRows s)) (λ h. says refl) (says refl)
 performed s (Calls.save file) = says refl
+performed s (Calls.page area number) = says refl
 
 pub refused-exactly : (s : State) (c : Call) → RefusedExactly (tests s c) (step s c)
 unfolding step

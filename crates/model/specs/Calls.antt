@@ -19,8 +19,8 @@ use Rattle.rows.specs.declared.Action.{Action}
 use Rattle.model.specs.State.{State, Change, nothing}
 use Rattle.model.specs.Cells.{maxCells}
 
--- A call. Window rows and listed prefixes are the bytes of their areas; replies, actions, prefixes, blob and file are the lengths
--- of the areas that are lent for an answer.
+-- A call. Window rows and listed prefixes are the bytes of their areas; replies, actions, prefixes, blob, file and a page's area are the
+-- lengths of the areas that are lent for an answer.
 pub data Call : Type 0 where
   contact : (id : ContactId) → Verification → Call
   setting : (enabled : Bool) (copies lifetime : ℕ) → Call
@@ -39,6 +39,7 @@ pub data Call : Type 0 where
   inventoryOfOurs : (prefixes : ℕ) (peer : ContactId) → Call
   rowBlob : (blob slot : ℕ) → Call
   save : (file : ℕ) → Call
+  page : (area number : ℕ) → Call
 
 -- the cell area that a ciphertext is in
 pub data Cells : Type 0 where
@@ -53,10 +54,10 @@ pub data Answer : Type 0 where
   missing : Answer  -- fetch: nothing; row blob: no such row
   ownRow : Own → Answer  -- own envelope: the row
   noEnvelope : Answer  -- own envelope: none
-  wrote : (count : ℕ) → Answer  -- prefixes of an inventory, bytes of a blob or a file
+  wrote : (count : ℕ) → Answer  -- prefixes of an inventory, bytes of a blob, a file or a page
 
--- what a call answers, the rows that it writes to the reply and action areas, the bytes that it writes to the area of prefixes, blob
--- or file, and what it changes
+-- what a call answers, the rows that it writes to the reply and action areas, the bytes that it writes to the area of prefixes, blob,
+-- file or page, and what it changes
 pub record Result : Type 0 where
   pub answer : Answer
   pub replies : List Reply

@@ -73,3 +73,4 @@ ProperCall (Calls.maintenance actions) = Unit {0}
 ProperCall (Calls.inventoryOfOurs prefixes peer) = Unit {0}
 ProperCall (Calls.rowBlob blob slot) = Unit {0}
 ProperCall (Calls.save file) = Unit {0}
+ProperCall (Calls.page area number) = Unit {0}

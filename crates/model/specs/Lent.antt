@@ -13,7 +13,7 @@ use Rattle.model.specs.Areas.{Areas, SessionAreas, AnswerAreas, Written,
 abbrev pub noAnswers : AnswerAreas
 noAnswers = record { replies = []; actions = []; bytes = [] }
 
--- a call that is lent replies, actions or both; or prefixes, a blob or a file
+-- a call that is lent replies, actions or both; or prefixes, a blob, a file or a page
 abbrev pub repliesLent : List ℕ → AnswerAreas
 repliesLent area = record { replies = area; actions = []; bytes = [] }
 

@@ -11,7 +11,9 @@ pub mod Tombs
 pub mod Own
 pub mod Maintenance
 pub mod Saved
+pub mod Screen
 pub mod Step
+pub mod Pages
 pub mod Areas
 pub mod Lent
 pub mod Good

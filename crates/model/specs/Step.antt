@@ -17,6 +17,7 @@ use Rattle.model.specs.Tombs.{meets, tombTests, receiveTomb, openedTests
 use Rattle.model.specs.Own.{ownTests, ownEnvelope}
 use Rattle.model.specs.Maintenance.{maintenanceTests, maintainCouriers}
 use Rattle.model.specs.Saved.{blobTests, rowBlobOf, saveTests, saveHeld}
+use Rattle.model.specs.Screen.{pageTests, showPage}
 
 -- the refusals of each call, in document 01's order: 13, 1, 12, 2, 3, 7, 10, 11, 4, 5, 6, 9
 unfoldable pub tests : State → Call → List (Bool × Refusal)
@@ -37,6 +38,7 @@ tests s (Calls.maintenance actions) = maintenanceTests s actions
 tests s (Calls.inventoryOfOurs prefixes peer) = inventoryTests s prefixes peer
 tests s (Calls.rowBlob blob slot) = blobTests blob
 tests s (Calls.save file) = saveTests s file
+tests s (Calls.page area number) = pageTests area
 
 -- what a call does that is not refused
 unfoldable pub perform : State → Call → Result
@@ -57,6 +59,7 @@ perform s (Calls.maintenance actions) = maintainCouriers s
 perform s (Calls.inventoryOfOurs prefixes peer) = listInventory s peer
 perform s (Calls.rowBlob blob slot) = rowBlobOf s slot
 perform s (Calls.save file) = saveHeld s
+perform s (Calls.page area number) = showPage s number
 
 unfoldable pub step : State → Call → Result
 step s c = stepOf (tests s c) (perform s c)

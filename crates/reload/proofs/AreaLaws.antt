@@ -18,7 +18,7 @@ use Rattle.load.specs.Load.{loadStep}
 use Rattle.reload.specs.Doings.{Doing, call, load, ProperDoing, afterLoad, afterDoing, runDoings, afterLoadAreas, afterDoingAreas, runDoingsAreas}
 use Rattle.reload.specs.SavedHistory.{SavedOnAreas}
 use Rattle.reload.proofs.KeepLaws.{good-load}
-use Rattle.reload.proofs.DoingLaws.{saved-history}
+use Rattle.reload.proofs.DoingLaws.{saved-history, screen-history}
 
 -- ---- a load on areas
 
@@ -60,7 +60,10 @@ module _ (p : PostAreas) (fresh : Fresh p) (sized : Sized (p .areas)) (copies : 
   pub saved-history-areas : (ds : List Doing) → All ProperDoing ds → SavedOnAreas p ds
   saved-history-areas ds a =
       let seen : viewPost p ≡ freshPost p = fresh-view p fresh in
+      let empty : Empty (viewPost p) = subst Empty (sym seen) (fresh-empty p) in
+      let few : viewPost p .state .courier .copies < 2 ^ 8 = subst (λ (q : Post). q .state .courier .copies < 2 ^ 8) (sym seen) copies in
       record {
         seen = run-areas ds p (fresh-good p fresh sized copies) a;
-        history = saved-history (viewPost p) (subst Empty (sym seen) (fresh-empty p)) (subst (λ (q : Post). q .state .courier .copies < 2 ^ 8) (sym seen) copies) ds a;
+        history = saved-history (viewPost p) empty few ds a;
+        screen = screen-history (viewPost p) empty few ds a;
       }

@@ -1,4 +1,4 @@
--- The theorem about saving and loading: of every list of calls and loads from empty holdings.
+-- The theorems about saving and loading and about the screen page: of every list of calls and loads from empty holdings.
 -- Assumes nothing.
 use mathlib.Core.Path.{_≡_, refl, sym, ap, _∙_}
 use mathlib.Core.Bool.{Bool, true, false, not}
@@ -13,18 +13,20 @@ use Rattle.table.specs.Lists as lists
 use Rattle.table.proofs.ListLaws.{all-imp, all-map, all-filter, filter-holds}
 use Rattle.rows.specs.declared.Carried.{Carried}
 use Rattle.rows.specs.declared.Tombstone.{Tombstone}
-use Rattle.model.specs.State.{State, apply}
+use Rattle.model.specs.State.{State, apply, noSession, withSession}
 use Rattle.model.specs.Contacts.{known}
 use Rattle.model.specs.Cells.{cellCount}
 use Rattle.model.specs.Calls
 use Rattle.model.specs.Calls.{Result}
 use Rattle.model.specs.Saved.{savedRows, saveTests, saveHeld}
+use Rattle.model.specs.Screen.{HeldRow, carriedRow, tombstoneRow, slotOf, shown, pageRows, pageBytes, showPage}
+use Rattle.model.proofs.ScreenLaws.{screen-pages, tags-good}
 use Rattle.model.specs.Step.{Post, Lent, tests, perform, step, stateFor, answerTo, after, run}
 use Rattle.history.specs.Order.{Sorted, HeldOrder}
 use Rattle.history.specs.Life.{isRefused}
 use Rattle.history.specs.History.{Empty}
 use Rattle.history.proofs.Effects
-use Rattle.history.proofs.SortedLaws.{all-both, became-filter, became-sorted}
+use Rattle.history.proofs.SortedLaws.{all-both, became-filter, became-sorted, rises-merge}
 use Rattle.history.proofs.CellLaws.{length-split}
 use Rattle.history.proofs.LimitLaws.{known-kept}
 use Rattle.history.proofs.KeptLaws.{effect-at}
@@ -36,6 +38,7 @@ use Rattle.load.proofs.FineLaws.{at-most-one}
 use Rattle.load.proofs.ReloadLaws.{reloaded}
 use Rattle.load.proofs.RefusedLaws.{unread-refused}
 use Rattle.reload.specs.Doings.{Doing, call, load, ProperDoing, afterDoing, runDoings}
+use Rattle.reload.specs.ScreenHistory.{ScreenHistory}
 use Rattle.reload.specs.SavedHistory.{Above0, SavedHistory}
 use Rattle.reload.proofs.LengthLaws.{Lengths, performed}
 use Rattle.reload.proofs.KeepLaws.{Keeps, Grows, keeps-empty, keeps-call, keeps-load}
@@ -154,4 +157,30 @@ saved-history p start copies ds proper =
           let g = keeps-run (runDoings p ds) rest a k .1 in
           loads-at (runDoings p ds) k (runDoings (runDoings p ds) rest .state) (omega (arith, ap cellCount (g .cells))) (omega (arith, g .rows))
           (all-imp (λ r i. g .contacts (r .depositor) i) (runDoings p ds .state .carried) (k .kept .limits .depositorsKnown)) h;
+    }
+
+-- ---- the screen page
+
+-- the held rows of tables in order, by slot, rise
+rows-rise : (s : State) → HeldOrder (s .carried) (s .tombstones) (s .nextSlot) (s .carriedCells) → Sorted (λ (a b : HeldRow). slotOf a < slotOf b) (shown s)
+unfolding shown
+rows-rise s o =
+    rises-merge slotOf (map carriedRow (s .carried)) (map tombstoneRow (s .tombstones)) (sorted-map carriedRow (λ a b h. h) (s .carried) (o .carriedRise))
+    (sorted-map tombstoneRow (λ a b h. h) (s .tombstones) (o .tombstonesRise))
+    (all-map carriedRow (s .carried) (all-imp (λ r h. all-map tombstoneRow (s .tombstones) h) (s .carried) (o .apart)))
+
+page-asked : (p : Post) (session area number : ℕ) → answerTo p (record { session = session; call = Calls.page area number }) ≡ step (p .state) (Calls.page area number)
+unfolding answerTo stateFor step tests perform showPage pageBytes pageRows shown
+page-asked p session area number = refl
+
+-- Of every list of calls and loads from empty holdings, refused ones among them: each held row stands on one page, by rising slot.
+pub screen-history : (p : Post) → Empty p → p .state .courier .copies < 2 ^ 8 → (ds : List Doing) → All ProperDoing ds → ScreenHistory p ds
+screen-history p start copies ds proper =
+    let k : Keeps (runDoings p ds) = keeps-run p ds proper (keeps-empty p start copies) .0 in
+    let s : State = runDoings p ds .state in
+    record {
+      order = shown s;
+      rises = rows-rise s (k .kept .held);
+      pages = screen-pages s (tags-good (withSession s noSession) (k .sound .good));
+      answers = page-asked (runDoings p ds);
     }

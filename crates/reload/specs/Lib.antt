@@ -1,2 +1,3 @@
 pub mod Doings
+pub mod ScreenHistory
 pub mod SavedHistory

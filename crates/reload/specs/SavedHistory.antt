@@ -22,6 +22,7 @@ use Rattle.history.specs.Life.{isRefused}
 use Rattle.load.specs.Load.{loadStep}
 use Rattle.load.specs.Reload.{Reloaded}
 use Rattle.reload.specs.Doings.{Doing, ProperDoing, runDoings, runDoingsAreas}
+use Rattle.reload.specs.ScreenHistory.{ScreenHistory}
 
 -- "Reading back equals what was written only where copies and expiry are above 0"
 pub record Above0 (r : Carried) : Type 0 where
@@ -56,3 +57,4 @@ pub record SavedHistory (p : Post) (ds : List Doing) : Type 0 where
 pub record SavedOnAreas (p : PostAreas) (ds : List Doing) : Type 0 where
   pub seen : viewPost (runDoingsAreas p ds) ≡ runDoings (viewPost p) ds
   pub history : SavedHistory (viewPost p) ds
+  pub screen : ScreenHistory (viewPost p) ds

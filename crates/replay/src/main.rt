@@ -41,14 +41,13 @@ fn kind_name(fd: i32, kind: u8) {
         16 => text(fd, b"row blob"),
         17 => text(fd, b"row read"),
         18 => text(fd, b"save"),
-        _ => text(fd, b"load"),
+        19 => text(fd, b"load"),
+        _ => text(fd, b"page"),
     }
 }
 
-// ---- what was reached, counted: calls by kind from 0 on, what they said from 20 on, replies by kind from 40 on, custody codes from
-// 45 on, actions by kind from 50 on
-
-const SAID: usize = 20;
+// ---- what was reached, counted: calls by kind from 0 on, replies by kind, custody codes and actions by kind from here on, and what
+// the calls said, any byte, behind them
 
 const REPLIES: usize = 40;
 
@@ -56,14 +55,16 @@ const CODES: usize = 45;
 
 const ACTIONS: usize = 50;
 
-fn bump(tally: &mut [u64; 64], i: usize) {
-    let at = i % 64;
+const SAID: usize = 64;
+
+fn bump(tally: &mut [u64; 320], i: usize) {
+    let at = i % 320;
     if tally[at] < 1_000_000_000 {
         tally[at] += 1;
     }
 }
 
-fn count_replies(r: &[u8], tally: &mut [u64; 64]) {
+fn count_replies(r: &[u8], tally: &mut [u64; 320]) {
     let n = replay_log::half(r, replay_log::REPLIES);
     let mut i: u16 = 0;
     while i < n {
@@ -81,7 +82,7 @@ fn count_replies(r: &[u8], tally: &mut [u64; 64]) {
     }
 }
 
-fn count_actions(r: &[u8], tally: &mut [u64; 64]) {
+fn count_actions(r: &[u8], tally: &mut [u64; 320]) {
     let n = replay_log::half(r, replay_log::ACTIONS);
     let mut i: u16 = 0;
     while i < n {
@@ -91,7 +92,7 @@ fn count_actions(r: &[u8], tally: &mut [u64; 64]) {
     }
 }
 
-fn count(r: &[u8], tally: &mut [u64; 64]) {
+fn count(r: &[u8], tally: &mut [u64; 320]) {
     bump(tally, replay_log::byte(r, replay_log::KIND) as usize);
     bump(tally, SAID + replay_log::byte(r, replay_log::SAID) as usize);
     count_replies(r, tally);
@@ -356,7 +357,7 @@ fn step(
     offers: &mut [u8; 26700],
     replies: &mut [u8; 600000],
     actions: &mut [u8; 22000],
-    tally: &mut [u64; 64],
+    tally: &mut [u64; 320],
 ) -> State {
     let rest = cut(sample, s.at, sample.len());
     let mark = replay_log::byte(rest, 0);
@@ -387,9 +388,9 @@ fn step(
 
 // ---- the totals
 
-fn reached(tally: &[u64; 64], at: usize) {
+fn reached(tally: &[u64; 320], at: usize) {
     text(STDOUT_FILENO, b" ");
-    number(STDOUT_FILENO, tally[at % 64]);
+    number(STDOUT_FILENO, tally[at % 320]);
 }
 
 // A comma, or the end of the line.
@@ -401,45 +402,49 @@ fn between(last: bool) {
     }
 }
 
-fn kinds_line(tally: &[u64; 64]) {
+fn kinds_line(tally: &[u64; 320]) {
     text(STDOUT_FILENO, b"calls:");
     let mut kind: u8 = 0;
-    while kind < 20 {
+    while kind <= replay_log::LAST_KIND {
         text(STDOUT_FILENO, b" ");
         kind_name(STDOUT_FILENO, kind);
         reached(tally, kind as usize);
-        between(kind == 19);
+        between(kind == replay_log::LAST_KIND);
         kind += 1;
     }
 }
 
-fn refused_line(tally: &[u64; 64]) {
+fn refused_line(tally: &[u64; 320]) {
     text(STDOUT_FILENO, b"refused:");
     let mut n: u8 = 1;
-    while n < 14 {
+    while n <= replay_log::LAST_REFUSAL {
         text(STDOUT_FILENO, b" number ");
         number(STDOUT_FILENO, n as u64);
         reached(tally, SAID + n as usize);
-        between(n == 13);
+        between(n == replay_log::LAST_REFUSAL);
         n += 1;
     }
 }
 
-fn item(name: &[u8], tally: &[u64; 64], at: usize) {
+fn item(name: &[u8], tally: &[u64; 320], at: usize) {
     text(STDOUT_FILENO, name);
     reached(tally, at);
 }
 
-fn said_line(tally: &[u64; 64]) {
-    item(b"said: done", tally, SAID);
-    item(b", malformed", tally, SAID + 14);
-    item(b", ours", tally, SAID + 15);
-    item(b", no such row", tally, SAID + 16);
-    item(b", no envelope", tally, SAID + 17);
+fn said_line(tally: &[u64; 320]) {
+    item(b"said: done", tally, SAID + replay_log::DONE as usize);
+    item(b", malformed", tally, SAID + replay_log::MALFORMED as usize);
+    item(b", ours", tally, SAID + replay_log::OURS as usize);
+    item(b", missing", tally, SAID + replay_log::MISSING as usize);
+    item(
+        b", no envelope",
+        tally,
+        SAID + replay_log::NO_ENVELOPE as usize,
+    );
     text(STDOUT_FILENO, b"\n");
 }
 
-fn rows_lines(tally: &[u64; 64]) {
+fn rows_lines(tally: &[u64; 320]) {
     item(b"replies: fetch", tally, REPLIES);
     item(b", envelope", tally, REPLIES + 1);
     item(b", custody", tally, REPLIES + 2);
@@ -455,7 +460,7 @@ fn rows_lines(tally: &[u64; 64]) {
     text(STDOUT_FILENO, b"\n");
 }
 
-fn totals(lists: usize, calls: usize, differ: usize, tally: &[u64; 64]) {
+fn totals(lists: usize, calls: usize, differ: usize, tally: &[u64; 320]) {
     kinds_line(tally);
     refused_line(tally);
     said_line(tally);
@@ -471,7 +476,7 @@ fn totals(lists: usize, calls: usize, differ: usize, tally: &[u64; 64]) {
 // ---- the program
 
 // Makes all calls of a sample of right shape, and says how many differ.
-fn replay(sample: &[u8], tally: &mut [u64; 64]) -> usize {
+fn replay(sample: &[u8], tally: &mut [u64; 320]) -> usize {
     let mut contacts = [0u8; 2304];
     let mut own = [0u8; 13824];
     let mut carried = [0u8; 14592];
@@ -516,7 +521,7 @@ fn run(sample: &[u8]) {
         text(STDERR_FILENO, b"\n");
         return;
     }
-    let mut tally = [0u64; 64];
+    let mut tally = [0u64; 320];
     let differ = replay(sample, &mut tally);
     totals(w.lists, w.calls, differ, &tally);
 }

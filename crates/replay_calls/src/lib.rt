@@ -14,6 +14,12 @@ use courier::CustodyRead;
 use courier::Header;
 use inventory::Listed;
 use own_envelope::Made;
+use replay_log::DONE;
+use replay_log::MALFORMED;
+use replay_log::MISSING;
+use replay_log::NEVER_SAID;
+use replay_log::NO_ENVELOPE;
+use replay_log::OURS;
 use replay_log::cap;
 use rows::Device;
 use rows::Exchange;
@@ -88,7 +94,7 @@ fn answered(a: Answered, e: Exchange) -> Outcome {
     let device = a.device;
     let said = a.said;
     match said {
-        Said::Done => outcome_of(device, e, answer_of(0, 0, 0, 0)),
+        Said::Done => outcome_of(device, e, answer_of(DONE, 0, 0, 0)),
         Said::Refused(why) => outcome_of(device, e, refused(why)),
     }
 }
@@ -160,7 +166,7 @@ fn call_fresh_exchange(
         replay_log::size(r, replay_log::OFFERS_AREA),
     );
     match contacts::fresh_exchange(d, peer(r), contacts, p, o) {
-        Opened::As(exchange) => outcome_of(d, exchange, answer_of(0, 0, 0, 0)),
+        Opened::As(exchange) => outcome_of(d, exchange, answer_of(DONE, 0, 0, 0)),
         Opened::Refused(why) => outcome_of(d, e, refused(why)),
     }
 }
@@ -181,7 +187,7 @@ fn header(r: &[u8]) -> Header {
 fn enveloped(a: envelope::Answer) -> Answer {
     match a {
         envelope::Answer::Ours(id, generation, index) => Answer {
-            said: 15,
+            said: OURS,
             generation,
             index,
             contact: id.0,
@@ -189,7 +195,7 @@ fn enveloped(a: envelope::Answer) -> Answer {
             actions: 0,
             length: 0,
         },
-        envelope::Answer::Done(replies, actions) => answer_of(0, replies, actions, 0),
+        envelope::Answer::Done(replies, actions) => answer_of(DONE, replies, actions, 0),
         envelope::Answer::Refused(why) => refused(why),
     }
 }
@@ -230,13 +236,13 @@ fn call_envelope(
     outcome_of(device, e, enveloped(a))
 }
 
-// 0 where the ciphertext that a fetch hands out is that of the record's one reply, else 18, which no record says.
+// Done where the ciphertext that a fetch hands out is that of the record's one reply, else what no record says.
 fn found(r: &[u8], ct: &[u8]) -> u8 {
     let n = replay_log::half(r, replay_log::past(replay_log::replies_at(r), 1)) as usize;
     if replay_log::same(ct, replay_log::cut(r, replay_log::bytes_at(r), n)) {
-        return 0;
+        return DONE;
     }
-    18
+    NEVER_SAID
 }
 
 fn call_fetch(
@@ -267,7 +273,7 @@ fn call_fetch(
     );
     match said {
         0 => outcome_of(d, e, answer_of(found(r, ct), 1, 0, 0)),
-        255 => outcome_of(d, e, answer_of(0, 0, 0, 0)),
+        255 => outcome_of(d, e, answer_of(MISSING, 0, 0, 0)),
         _ => outcome_of(d, e, answer_of(said, 0, 0, 0)),
     }
 }
@@ -315,8 +321,8 @@ fn put_own(row: Own, cells: &[u8], replies: &mut [u8]) -> usize {
 
 fn owned(made: Made, row: Own, cells: &[u8], replies: &mut [u8]) -> Answer {
     match made {
-        Made::Row => answer_of(0, 0, 0, put_own(row, cells, replies)),
-        Made::NoEnvelope => answer_of(17, 0, 0, 0),
+        Made::Row => answer_of(DONE, 0, 0, put_own(row, cells, replies)),
+        Made::NoEnvelope => answer_of(NO_ENVELOPE, 0, 0, 0),
         Made::Refused(why) => refused(why),
     }
 }
@@ -356,8 +362,8 @@ fn call_own_envelope(
 
 fn received(said: inventory::Said) -> Answer {
     match said {
-        inventory::Said::Done(n) => answer_of(0, n, 0, 0),
-        inventory::Said::Malformed => answer_of(14, 0, 0, 0),
+        inventory::Said::Done(n) => answer_of(DONE, n, 0, 0),
+        inventory::Said::Malformed => answer_of(MALFORMED, 0, 0, 0),
         inventory::Said::Refused(why) => refused(why),
     }
 }
@@ -405,7 +411,7 @@ fn custody(r: &[u8]) -> Custody {
 
 fn handed(said: handover::Said) -> Answer {
     match said {
-        handover::Said::Done(n) => answer_of(0, 0, n, 0),
+        handover::Said::Done(n) => answer_of(DONE, 0, n, 0),
         handover::Said::Refused(why) => refused(why),
     }
 }
@@ -457,7 +463,7 @@ fn call_inventory_of_ours(
 ) -> Outcome {
     let n = cap(replay_log::size(r, replay_log::ANSWER_AREA), area.len());
     match inventory::inventory(d, peer(r), contacts, own, carried, &mut area[0..n]) {
-        Listed::Wrote(count) => outcome_of(d, e, answer_of(0, 0, 0, cap(count, 512) * 8)),
+        Listed::Wrote(count) => outcome_of(d, e, answer_of(DONE, 0, 0, cap(count, 512) * 8)),
         Listed::Refused(why) => outcome_of(d, e, refused(why)),
     }
 }

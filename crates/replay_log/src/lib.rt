@@ -1,6 +1,6 @@
 // The records of a sample: the calls of lists, each with what it is made with and what it must answer. Numbers are big-endian.
 //
-//   sample   "SAMPLE 1", the lists, then `E`, how many lists (2 bytes) and how many calls (4)
+//   sample   "SAMPLE 2", the lists, then `E`, how many lists (2 bytes) and how many calls (4)
 //   list     `L`, carried cells (2), own cells (2), tombstone rows (2), bad-tag rows (2), calls (2); then the calls
 //   call     a head of 110 bytes at the places below, and five runs of bytes:
 //            the front (window rows, skipped rows, or a route key), the rest (ciphertext, prefixes, chain rows, blob, or file),
@@ -14,7 +14,7 @@ use state::U64Read;
 
 // ---- places in the head of a call
 
-// From 0 to 19, in the order of document 01's calls as `kind_name` of the program has them.
+// Up to LAST_KIND, as `kind_name` of the program has them.
 pub const KIND: usize = 1;
 
 // Which of the three exchanges.
@@ -29,7 +29,7 @@ pub const GENERATION: usize = 5;
 
 pub const LIFETIME: usize = 6;
 
-// A contact, a peer, seconds, or a slot.
+// A contact, a peer, seconds, a slot, or a page.
 pub const NUMBER: usize = 8;
 
 pub const EXPIRY: usize = 16;
@@ -59,7 +59,7 @@ pub const FRONT: usize = 80;
 
 pub const REST: usize = 84;
 
-// What must be answered: 0 done, 1 to 13 refused, 14 malformed, 15 ours, 16 no such row, 17 no envelope.
+// What must be answered: a number of those below, or of a refusal.
 pub const SAID: usize = 88;
 
 pub const SAID_GENERATION: usize = 89;
@@ -76,6 +76,30 @@ pub const BYTES: usize = 106;
 
 pub const HEAD: usize = 110;
 
+// ---- kinds of calls, and what they say, in the library's numbers (crates/host_answers)
+
+pub const LAST_KIND: u8 = 20;
+
+// The last number of a refusal; 1 is the first.
+pub const LAST_REFUSAL: u8 = 13;
+
+pub const DONE: u8 = 0;
+
+// What the peer sent is malformed.
+pub const MALFORMED: u8 = 128;
+
+// The envelope is in the window.
+pub const OURS: u8 = 129;
+
+// No such envelope, no such row.
+pub const MISSING: u8 = 130;
+
+// The message gets no own envelope.
+pub const NO_ENVELOPE: u8 = 131;
+
+// What no record says.
+pub const NEVER_SAID: u8 = 255;
+
 // ---- parts of bytes: what is not there is cut off, and reads as 0
 
 pub fn cap(n: usize, most: usize) -> usize
@@ -85,7 +109,9 @@ pub fn cap(n: usize, most: usize) -> usize
 }
 
 // The sum of two places; both are below 2^40 in a sample.
-pub fn past(at: usize, n: usize) -> usize {
+pub fn past(at: usize, n: usize) -> usize
+    ensures { λ r. ⌜ r ≤ 2199023255552 ⌝ }
+{
     if at < 0x100_0000_0000 {
         if n < 0x100_0000_0000 {
             return at + n;
@@ -214,7 +240,7 @@ fn is_call(r: &[u8]) -> bool {
         return false;
     }
     let kind = byte(r, KIND);
-    if 19 < kind {
+    if LAST_KIND < kind {
         return false;
     }
     if 2 < byte(r, EXCHANGE) {
@@ -332,7 +358,7 @@ pub fn walked(s: &[u8]) -> Walk {
         left: 0,
         said: 0,
     };
-    if !same(cut(s, 0, 8), b"SAMPLE 1") {
+    if !same(cut(s, 0, 8), b"SAMPLE 2") {
         return wrong(w);
     }
     let mut turns = s.len();

@@ -9,11 +9,15 @@ use replay_calls::peer;
 use replay_calls::put;
 use replay_calls::put_16;
 use replay_calls::refused;
+use replay_log::DONE;
+use replay_log::MALFORMED;
+use replay_log::MISSING;
 use replay_log::cap;
 use rows::Device;
 use rows::Exchange;
 use saved::BlobAnswer;
 use saved::SaveAnswer;
+use screen::PageAnswer;
 use state::HeldKind;
 use state::HeldRead;
 use tombstones::Stored;
@@ -24,8 +28,8 @@ fn tombed(o: tombs::Outcome, e: Exchange, replies: usize) -> Outcome {
     let device = o.device;
     let said = o.said;
     match said {
-        tombs::Said::Done(n) => outcome_of(device, e, answer_of(0, replies, n, 0)),
-        tombs::Said::Malformed => outcome_of(device, e, answer_of(14, 0, 0, 0)),
+        tombs::Said::Done(n) => outcome_of(device, e, answer_of(DONE, replies, n, 0)),
+        tombs::Said::Malformed => outcome_of(device, e, answer_of(MALFORMED, 0, 0, 0)),
         tombs::Said::Refused(why) => outcome_of(device, e, refused(why)),
     }
 }
@@ -129,7 +133,7 @@ fn call_stored_tombstone(
     let device = o.device;
     let said = o.answer;
     match said {
-        Stored::Done(n) => outcome_of(device, e, answer_of(0, 0, n, 0)),
+        Stored::Done(n) => outcome_of(device, e, answer_of(DONE, 0, n, 0)),
         Stored::Refused(why) => outcome_of(device, e, refused(why)),
     }
 }
@@ -152,7 +156,7 @@ fn call_maintenance(
     let device = o.device;
     let said = o.answer;
     match said {
-        Maintained::Done(n) => outcome_of(device, e, answer_of(0, 0, n, 0)),
+        Maintained::Done(n) => outcome_of(device, e, answer_of(DONE, 0, n, 0)),
         Maintained::Refused(why) => outcome_of(device, e, refused(why)),
     }
 }
@@ -162,7 +166,7 @@ fn call_maintenance(
 fn call_window(d: Device, e: Exchange, r: &[u8], area: &mut [u8]) -> Outcome {
     let n = cap(replay_log::size(r, replay_log::ANSWER_AREA), area.len());
     match chain::window(replay_log::front(r), replay_log::rest(r), &mut area[0..n]) {
-        Windowed::Listed(count) => outcome_of(d, e, answer_of(0, 0, 0, cap(count, 500) * 6)),
+        Windowed::Listed(count) => outcome_of(d, e, answer_of(DONE, 0, 0, cap(count, 500) * 6)),
         Windowed::Refused(why) => outcome_of(d, e, refused(why)),
     }
 }
@@ -186,8 +190,8 @@ fn call_row_blob(
         replay_log::cut(cells, replay_calls::CARRIED_CELLS, z.cells),
         &mut area[0..n],
     ) {
-        BlobAnswer::Wrote(length) => outcome_of(d, e, answer_of(0, 0, 0, length)),
-        BlobAnswer::Missing => outcome_of(d, e, answer_of(16, 0, 0, 0)),
+        BlobAnswer::Wrote(length) => outcome_of(d, e, answer_of(DONE, 0, 0, length)),
+        BlobAnswer::Missing => outcome_of(d, e, answer_of(MISSING, 0, 0, 0)),
         BlobAnswer::Refused(why) => outcome_of(d, e, refused(why)),
     }
 }
@@ -228,9 +232,9 @@ fn call_row_read(d: Device, e: Exchange, r: &[u8], area: &mut [u8]) -> Outcome {
     let read = state::decode(blob);
     let kind = read.kind;
     match kind {
-        HeldKind::Carried => outcome_of(d, e, answer_of(0, 0, 0, put_carried(read, blob, area))),
-        HeldKind::Tombstone => outcome_of(d, e, answer_of(0, 0, 0, put_tombstone(read, area))),
-        HeldKind::None => outcome_of(d, e, answer_of(16, 0, 0, 0)),
+        HeldKind::Carried => outcome_of(d, e, answer_of(DONE, 0, 0, put_carried(read, blob, area))),
+        HeldKind::Tombstone => outcome_of(d, e, answer_of(DONE, 0, 0, put_tombstone(read, area))),
+        HeldKind::None => outcome_of(d, e, answer_of(MISSING, 0, 0, 0)),
     }
 }
 
@@ -252,7 +256,7 @@ fn call_save(
         replay_log::cut(cells, replay_calls::CARRIED_CELLS, z.cells),
         &mut area[0..n],
     ) {
-        SaveAnswer::Wrote(length) => outcome_of(d, e, answer_of(0, 0, 0, length)),
+        SaveAnswer::Wrote(length) => outcome_of(d, e, answer_of(DONE, 0, 0, length)),
         SaveAnswer::Refused(why) => outcome_of(d, e, refused(why)),
     }
 }
@@ -281,8 +285,30 @@ fn call_load(
     let device = o.device;
     let said = o.said;
     match said {
-        load::Said::Done => outcome_of(device, e, answer_of(0, 0, 0, 0)),
+        load::Said::Done => outcome_of(device, e, answer_of(DONE, 0, 0, 0)),
         load::Said::Refused(why) => outcome_of(device, e, refused(why)),
+    }
+}
+
+fn call_page(
+    d: Device,
+    e: Exchange,
+    z: Sizes,
+    r: &[u8],
+    carried: &[u8; 14592],
+    marks: &[u8],
+    area: &mut [u8],
+) -> Outcome {
+    let n = cap(replay_log::size(r, replay_log::ANSWER_AREA), area.len());
+    match screen::page(
+        d,
+        replay_log::long(r, replay_log::NUMBER),
+        carried,
+        replay_log::cut(marks, 0, z.tombstones),
+        &mut area[0..n],
+    ) {
+        PageAnswer::Wrote(length) => outcome_of(d, e, answer_of(DONE, 0, 0, length)),
+        PageAnswer::Refused(why) => outcome_of(d, e, refused(why)),
     }
 }
 
@@ -310,7 +336,7 @@ fn end(
     }
 }
 
-// Window, row blob, row read, save, load.
+// Window, row blob, row read, save, load, page.
 fn read(
     d: Device,
     e: Exchange,
@@ -327,7 +353,8 @@ fn read(
         16 => call_row_blob(d, e, z, r, carried, marks, cells, area),
         17 => call_row_read(d, e, r, area),
         18 => call_save(d, e, z, r, carried, marks, cells, area),
-        _ => call_load(d, e, z, r, contacts, carried, marks, cells),
+        19 => call_load(d, e, z, r, contacts, carried, marks, cells),
+        _ => call_page(d, e, z, r, carried, marks, area),
     }
 }
 

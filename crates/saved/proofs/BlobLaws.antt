@@ -4,7 +4,6 @@ use mathlib.Core.Path.{_≡_, refl, sym, ap, ap₂, _∙_, subst}
 use mathlib.Core.Bool.{Bool, cond}
 use mathlib.Core.List.{List}
 use Prim.Native.Nat.{ℕ, _+_, _*_, _≤_, _<_}
-use native.Mathlib.Nat.{add-zero}
 use native.Mathlib.Omega.{arith}
 use lib.ListN.{length, drop, length-append, length-take}
 use lib.Dec.{eqb}
@@ -28,12 +27,9 @@ use Rattle.rows.specs.declared.Tombstone.{Tombstone}
 use Rattle.rows.specs.Rows.{carriedOf, tombstoneOf}
 use Rattle.model.specs.Cells.{ciphertext}
 use Rattle.model.specs.Saved.{Slotted, carriedHeld, tombstoneHeld}
+use Rattle.by_slot.proofs.SlotLaws.{slot-of}
 use Rattle.saved.specs.Blobs.{hasSlot, heldCarried, heldTombstone, countOf, Blobbed}
 use borrow.Author.Tests.{le-ltb}
-
--- the slot of a row
-pub slot-of : (a : List ℕ) (at w : ℕ) → 8 ≤ w → num (part (part a at w) 0 8) ≡ num (part a at 8)
-slot-of a at w wide = ap num (part-part a at w 0 8 (omega arith) ∙ ap (λ (k : ℕ). part a k 8) (add-zero at))
 
 -- ---- what the slot of row i says of the rows from i on
 

@@ -15,7 +15,7 @@ use Rattle.rows.specs.Rows.{carriedOf, tombstoneOf}
 use Rattle.model.specs.Saved.{Slotted, carriedHeld, tombstoneHeld, heldMark, savedRecord, savedFile}
 use Rattle.saved.specs.Blobs.{Blobbed}
 use Rattle.saved.specs.Saving.{recordBytes, RecordPut, Recorded, Records, Filled}
-use Rattle.saved.proofs.BlobLaws.{slot-of}
+use Rattle.by_slot.proofs.SlotLaws.{slot-of}
 
 abbrev pub mark : ℕ → ℕ → List ℕ
 mark letter number = (72 ∷ letter ∷ []) ++ be 8 number

@@ -9,12 +9,12 @@ use native.Mathlib.Omega.{arith}
 use lib.ListN.{length, getD}
 use lib.Dec.{eqb}
 use borrow.Author.Tests.{lt-ltb, le-ltb}
-use Rattle.octets.specs.Bytes.{part, splice}
+use Rattle.octets.specs.Bytes.{part}
 use Rattle.core.specs.declared.Refusal.the-variants as refusal
 use Rattle.table.specs.declared.Found.the-variants.{At, Nothing}
 use Rattle.table.specs.Lists.{position, filter}
-use Rattle.table.specs.Rows.{held, join, written}
-use Rattle.table.specs.Codec.{Codec, tableOf, withTable}
+use Rattle.table.specs.Rows.{held}
+use Rattle.table.specs.Codec.{Codec, tableOf}
 use Rattle.table.proofs.RowLaws.{row-in, held-inside}
 use Rattle.table.proofs.TableLaws.{length-table, getD-table}
 use Rattle.table.proofs.FindLaws.{position-first}
@@ -30,19 +30,13 @@ use Rattle.model.specs.Saved.{Slotted, carriedHeld, tombstoneHeld, heldRows, wr
 use Rattle.model.specs.Exchange.{noCarried}
 use Rattle.model.specs.Tombs.{noTombstone}
 use Rattle.model.specs.Step.{tests, perform, step}
-use Rattle.model.specs.Areas.{Areas, Written, view, store, storeDevice, storeSession, answerAreas}
-use Rattle.model.proofs.CallLaws.{refused-here, not-here, no-test, quiet-call, answering-call, refused-call}
+use Rattle.model.specs.Areas.{Areas, Written, view, store, storeDevice, storeSession}
+use Rattle.model.proofs.CallLaws.{refused-here, not-here, no-test, quiet-call, refused-call, bytes-call}
 use Rattle.model.proofs.SearchLaws.{find-at, find-past, filter-all}
 use Rattle.model.specs.Lent.{bytesLent}
 use Rattle.saved.specs.Blobs.{carriedInSlot, tombstoneInSlot, Blobbed, blobSays, heldIn}
 use Rattle.saved.specs.declared.BlobAnswer.{BlobAnswer}
 use Rattle.saved.specs.declared.BlobAnswer.the-variants as blobAnswer
-
--- a call that writes bytes to the area lent for them, and changes nothing
-pub bytes-call : {A : Type 0} {says : Result → A} {o : Result} {r : A} {before : Areas} {lent back : List ℕ} (b : List ℕ) → o ≡ writes b → r ≡ says (writes b)
-    → back ≡ splice lent 0 b → Written says o r before before (bytesLent lent) (bytesLent back)
-unfolding store storeDevice storeSession answerAreas withTable written join
-bytes-call b e q s = answering-call (writes b) e q refl (ap bytesLent s)
 
 -- ---- a search
 

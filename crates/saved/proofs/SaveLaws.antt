@@ -25,13 +25,13 @@ use Rattle.model.specs.Saved.{Slotted, carriedHeld, tombstoneHeld, savedFile, s
 use Rattle.model.specs.Step.{tests, perform, step}
 use Rattle.model.specs.Areas.{Areas, AnswerAreas, Written, view, answerAreas}
 use Rattle.model.proofs.Laws.{saved}
-use Rattle.model.proofs.CallLaws.{refused-here, not-here, no-test, refused-call}
+use Rattle.model.proofs.CallLaws.{refused-here, not-here, no-test, refused-call, bytes-call}
 use Rattle.model.specs.Lent.{bytesLent}
+use Rattle.by_slot.specs.BySlot.{rowsLeft}
 use Rattle.saved.specs.Blobs.{heldIn}
 use Rattle.saved.specs.Saving.{left, Rooms, Filled, saveSays}
 use Rattle.saved.specs.declared.SaveAnswer.{SaveAnswer}
 use Rattle.saved.specs.declared.SaveAnswer.the-variants as saveAnswer
-use Rattle.saved.proofs.RowBlobLaws.{bytes-call}
 
 -- no more rows of a table than a cap
 rows-capped : (w n cap : ℕ) (a : List ℕ) → take cap (rows w n a) ≡ rows w (min n cap) a
@@ -85,7 +85,7 @@ module _ (d : Device) (carried tombs cells lent : List ℕ) (a : Areas) (count :
   module _ (fits : ltb (length lent) size ≡ false) (len n m : ℕ) (el : length carried ≡ len) (en : n ≡ held len 57 (min (d .carried) count))
       (em : m ≡ held (length tombs) 44 (d .tombstones)) where
     same-rows : left cells carried tombs n m 0 0 ≡ savedRows (view B)
-    unfolding left savedRows view tableOf
+    unfolding left rowsLeft savedRows view tableOf
     same-rows =
         ap₂ (merge (λ (h : Slotted). h .slot))
         (sym (map-map (carriedHeld cells) carriedOf (rows 57 n carried))

@@ -1,72 +1,22 @@
 -- Laws of the records by slot: which row is next, what is left, and the file so far.
 -- Assumes nothing.
-use mathlib.Core.Path.{_≡_, refl, sym, ap, ap₂, _∙_, subst}
-use mathlib.Core.Bool.{Bool, true, false, cond}
+use mathlib.Core.Path.{_≡_, refl, sym, ap, _∙_}
+use mathlib.Core.Bool.{Bool, true, false}
 use mathlib.Core.List.{List, [], _∷_, _++_, map, map-append, append-assoc, append-nil}
 use Prim.Native.Nat.{ℕ, _+_, _-_, _*_, _/_, _≤_, _<_}
 use native.Mathlib.Omega.{arith}
-use lib.ListN.{length, drop, length-append, length-map, drop-of-length-le}
+use lib.ListN.{length, length-append}
 use lib.Dec.{ltb}
-use borrow.Author.Tests.{lt-leb, le-leb, lt-ltb, le-ltb, ltb-true, ltb-false}
+use borrow.Author.Tests.{lt-ltb, le-ltb, ltb-true, ltb-false}
 use Rattle.octets.specs.Bytes.{part, splice, num}
 use Rattle.octets.proofs.Parts.{splice-nil, splice-then, length-splice}
-use Rattle.table.specs.Rows.{rows, join}
-use Rattle.table.proofs.ListLaws.{map-drop}
-use Rattle.table.proofs.RowLaws.{length-rows, rows-next, join-snoc}
+use Rattle.table.specs.Rows.{join}
+use Rattle.table.proofs.RowLaws.{join-snoc}
 use Rattle.rows.specs.Rows.{carriedOf, tombstoneOf}
-use Rattle.model.specs.Basics.{merge}
 use Rattle.model.specs.Saved.{Slotted, carriedHeld, tombstoneHeld, savedRecord}
+use Rattle.by_slot.proofs.SlotLaws.{next-carried, next-tombstone, none-left}
 use Rattle.saved.specs.declared.Turn.{Turn}
 use Rattle.saved.specs.Saving.{Recorded, left, More, Saving, Records}
-use Rattle.saved.proofs.BlobLaws.{slot-of}
-
--- ---- the first of two lists, or of the other
-
-module _ {A : Type 0} (key : A → ℕ) where
-  merge-nil : (xs : List A) → merge key xs [] ≡ xs
-  unfolding merge
-  merge-nil [] = refl
-  merge-nil (x ∷ xs) = refl
-
-  merge-left : (x : A) (xs ys : List A) → ((y : A) (r : List A) → ys ≡ y ∷ r → key x ≤ key y) → merge key (x ∷ xs) ys ≡ x ∷ merge key xs ys
-  unfolding merge
-  merge-left x xs [] h = ap (λ (l : List A). x ∷ l) (sym (merge-nil xs))
-  merge-left x xs (y ∷ ys) h =
-      ap (λ (b : Bool). cond b (x ∷ merge key xs (y ∷ ys)) (y ∷ merge key (x ∷ xs) ys)) (le-leb (key x) (key y) (h y ys refl))
-
-  merge-right : (xs : List A) (y : A) (ys : List A) → ((x : A) (r : List A) → xs ≡ x ∷ r → key y < key x) → merge key xs (y ∷ ys) ≡ y ∷ merge key xs ys
-  unfolding merge
-  merge-right [] y ys h = refl
-  merge-right (x ∷ xs) y ys h =
-      ap (λ (b : Bool). cond b (x ∷ merge key xs (y ∷ ys)) (y ∷ merge key (x ∷ xs) ys)) (lt-leb (key x) (key y) (h x xs refl))
-
--- ---- the rows of a table from i on, each made into something else
-
-module _ {A : Type 0} (f : List ℕ → A) (w n : ℕ) (a : List ℕ) (i : ℕ) where
-  abbrev R : List A
-  R = map f (rows w n a)
-
-  row-next : i < n → drop i R ≡ f (part a (i * w) w) ∷ drop (i + 1) R
-  row-next h =
-      sym (map-drop f i (rows w n a)) ∙ ap (map f) (rows-next w i n a h)
-      ∙ ap (λ (l : List A). f (part a (i * w) w) ∷ l) (map-drop f (i + 1) (rows w n a))
-
-  no-row : n ≤ i → drop i R ≡ []
-  no-row h = drop-of-length-le R {i = i} (omega (arith, length-map (rows w n a) f, length-rows w n a))
-
-  -- what the first of them has
-  row-first : (P : A → Type 0) → (i < n → P (f (part a (i * w) w))) → (y : A) (r : List A) → drop i R ≡ y ∷ r → P y
-  row-first P k y r e = go (ltb i n) refl
-    where
-      go : (b : Bool) → ltb i n ≡ b → P y
-      go true t =
-          let h : i < n = ltb-true i n t in
-          let q : f (part a (i * w) w) ∷ drop (i + 1) R ≡ y ∷ r = sym (row-next h) ∙ e in
-          let z : f (part a (i * w) w) ≡ y = cc in
-          subst P z (k h)
-      go false t =
-          let q : [] ≡ y ∷ r = sym (no-row (omega (arith, ltb-false i n t))) ∙ e in
-          let z : _≡_ {A = ℕ} 0 1 = cc in absurd (omega arith)
 
 -- ---- one row more
 
@@ -83,22 +33,19 @@ module _ (cells ca to : List ℕ) (n m : ℕ) (t : Turn) (file after : List ℕ)
   abbrev slotT : ℕ
   slotT = num (part to (t .q * 44) 8)
 
-  same-carried : C (part ca (t .p * 57) 57) .slot ≡ slotC
-  unfolding carriedHeld carriedOf
-  same-carried = slot-of ca (t .p * 57) 57 (omega arith)
+  nextC : t .p < n → (t .q < m → slotC ≤ slotT) → left cells ca to n m (t .p) (t .q) ≡ C (part ca (t .p * 57) 57) ∷ left cells ca to n m (t .p + 1) (t .q)
+  unfolding left carriedHeld carriedOf tombstoneHeld tombstoneOf
+  nextC h g = next-carried (λ (x : Slotted). x .slot) C T ca to n m (λ b. refl) (λ b. refl) (t .p) (t .q) h g
 
-  same-tombstone : T (part to (t .q * 44) 44) .slot ≡ slotT
-  unfolding tombstoneHeld tombstoneOf
-  same-tombstone = slot-of to (t .q * 44) 44 (omega arith)
+  nextT : t .q < m → (t .p < n → slotT < slotC) → left cells ca to n m (t .p) (t .q) ≡ T (part to (t .q * 44) 44) ∷ left cells ca to n m (t .p) (t .q + 1)
+  unfolding left carriedHeld carriedOf tombstoneHeld tombstoneOf
+  nextT h g = next-tombstone (λ (x : Slotted). x .slot) C T ca to n m (λ b. refl) (λ b. refl) (t .p) (t .q) h g
 
   pub more-carried : t .q ≤ m → t .p < n → (t .q < m → slotC ≤ slotT) → Recorded 2122 (C (part ca (t .p * 57) 57)) (t .at) file at after
       → More cells ca to n m t file (record { p = t .p + 1; q = t .q; at = at }) after
-  unfolding left
   more-carried b h g D = record {
     row = C (part ca (t .p * 57) 57);
-    next = ap (λ (l : List Slotted). merge (λ (x : Slotted). x .slot) l (drop (t .q) (map T (rows 44 m to)))) (row-next C 57 n ca (t .p) h)
-        ∙ merge-left (λ (x : Slotted). x .slot) _ _ (drop (t .q) (map T (rows 44 m to)))
-        (row-first T 44 m to (t .q) (λ (y : Slotted). C (part ca (t .p * 57) 57) .slot ≤ y .slot) (λ k. omega (arith, g k, same-carried, same-tombstone)));
+    next = nextC h g;
     area = D .area;
     end = D .end;
     on = omega arith;
@@ -109,12 +56,9 @@ module _ (cells ca to : List ℕ) (n m : ℕ) (t : Turn) (file after : List ℕ)
 
   pub more-tombstone : t .p ≤ n → t .q < m → (t .p < n → slotT < slotC) → Recorded 49 (T (part to (t .q * 44) 44)) (t .at) file at after
       → More cells ca to n m t file (record { p = t .p; q = t .q + 1; at = at }) after
-  unfolding left
   more-tombstone b h g D = record {
     row = T (part to (t .q * 44) 44);
-    next = ap (merge (λ (x : Slotted). x .slot) (drop (t .p) (map C (rows 57 n ca)))) (row-next T 44 m to (t .q) h)
-        ∙ merge-right (λ (x : Slotted). x .slot) (drop (t .p) (map C (rows 57 n ca))) _ _
-        (row-first C 57 n ca (t .p) (λ (y : Slotted). T (part to (t .q * 44) 44) .slot < y .slot) (λ k. omega (arith, g k, same-carried, same-tombstone)));
+    next = nextT h g;
     area = D .area;
     end = D .end;
     on = omega arith;
@@ -165,13 +109,13 @@ module _ (cells ca to : List ℕ) (n m : ℕ) (lent : List ℕ) where
         }
 
     pub saving-end : n + m ≤ t .p + t .q → Records (left cells ca to n m 0 0) lent (t .at) x
-    unfolding left merge
+    unfolding left
     saving-end h =
         let w = S .within in
         let b = S .below in
         let z : left cells ca to n m (t .p) (t .q) ≡ [] =
-        ap₂ (merge (λ (k : Slotted). k .slot)) (no-row (λ (d : List ℕ). carriedHeld cells (carriedOf d)) 57 n ca (t .p) (omega arith))
-        (no-row (λ (d : List ℕ). tombstoneHeld (tombstoneOf d)) 44 m to (t .q) (omega arith)) in
+        none-left (λ (k : Slotted). k .slot) (λ (d : List ℕ). carriedHeld cells (carriedOf d)) (λ (d : List ℕ). tombstoneHeld (tombstoneOf d)) ca to n m (t .p) (t .q)
+        (omega arith) (omega arith) in
         let e : S .done ≡ left cells ca to n m 0 0 = sym (append-nil (S .done)) ∙ ap (λ (k : List Slotted). S .done ++ k) (sym z) ∙ S .all in
         record {
           end = S .end ∙ ap (λ (k : List Slotted). 10 + length (join (map savedRecord k))) e;

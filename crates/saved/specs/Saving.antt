@@ -1,17 +1,16 @@
 -- The saved file, record by record, and what the save call says.
 -- Assumes nothing.
-use Prim.Native.Nat.{ℕ, _+_, _*_, _≤_, _<_}
+use Prim.Native.Nat.{ℕ, _+_, _*_, _≤_}
 use mathlib.Core.Path.{_≡_}
-use mathlib.Core.Bool.{Bool, true, false}
 use mathlib.Core.List.{List, [], _∷_, _++_, map}
-use lib.ListN.{length, drop}
+use lib.ListN.{length}
 use Rattle.octets.specs.Bytes.{splice, be}
-use Rattle.table.specs.Rows.{rows, join}
+use Rattle.table.specs.Rows.{join}
 use Rattle.rows.specs.Rows.{carriedOf, tombstoneOf}
-use Rattle.model.specs.Basics.{merge}
 use Rattle.model.specs.Calls.{Result}
 use Rattle.model.specs.Lent.{refusedOr}
 use Rattle.model.specs.Saved.{Slotted, carriedHeld, tombstoneHeld, savedRecord}
+use Rattle.by_slot.specs.BySlot.{rowsLeft}
 use Rattle.saved.specs.declared.Turn.{Turn}
 use Rattle.saved.specs.declared.SaveAnswer.{SaveAnswer}
 use Rattle.saved.specs.declared.SaveAnswer.the-variants as saveAnswer
@@ -35,29 +34,15 @@ pub record Recorded (most : ℕ) (h : Slotted) (at : ℕ) (before : List ℕ) (r
 
 -- ---- the records, by slot
 
--- of n carried rows and m tombstones, whose areas have so many bytes, p and q are done and one is left
-pub record Reached (carried tombstones n m p q : ℕ) : Type 0 where
-  pub rows : n * 57 ≤ carried
-  pub tombs : m * 44 ≤ tombstones
-  pub within : p ≤ n
-  pub below : q ≤ m
-  pub more : p + q < n + m
-
 -- the file, of so many bytes, has room for the records of the n and m rows, and the next record goes to t's place
 pub record RoomFor (n m : ℕ) (t : Turn) (file : ℕ) : Type 0 where
   pub size : 10 + (2122 * n + 49 * m) ≤ file
   pub place : t .at ≤ 10 + (2122 * t .p + 49 * t .q)
 
--- does a tombstone of slot b come before a carried row of slot a, where there are both
-pub record Turns (n m p q a b : ℕ) (r : Bool) : Type 0 where
-  pub tombstone : r ≡ true → (q < m) × (p < n → b < a)
-  pub carried : r ≡ false → (p < n) × (q < m → a ≤ b)
-
 -- what is left to save: from carried row p and tombstone q on
 unfoldable pub left : (cells carried tombstones : List ℕ) (n m p q : ℕ) → List Slotted
 left cells carried tombstones n m p q =
-    merge (λ (h : Slotted). h .slot) (drop p (map (λ (b : List ℕ). carriedHeld cells (carriedOf b)) (rows 57 n carried)))
-    (drop q (map (λ (b : List ℕ). tombstoneHeld (tombstoneOf b)) (rows 44 m tombstones)))
+    rowsLeft (λ (h : Slotted). h .slot) (λ (b : List ℕ). carriedHeld cells (carriedOf b)) (λ (b : List ℕ). tombstoneHeld (tombstoneOf b)) carried tombstones n m p q
 
 -- one row more is saved
 pub record More (cells carried tombstones : List ℕ) (n m : ℕ) (t : Turn) (before : List ℕ) (r : Turn) (after : List ℕ) : Type 0 where

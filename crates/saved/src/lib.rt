@@ -4,7 +4,7 @@ ghost use mathlib.Core.List.{[], _∷_, _++_};
 ghost use Prim.Native.Nat.{_+_, _*_, _≤_, _<_};
 ghost use lib.ListN.{length};
 ghost use lib.Dec.{ltb};
-ghost use Rattle.octets.specs.Bytes.{part, num, be};
+ghost use Rattle.octets.specs.Bytes.{part, be};
 ghost use Rattle.table.specs.Lists.{position};
 ghost use Rattle.table.specs.Rows.{rows};
 ghost use Rattle.table.specs.Codec.{tableOf};
@@ -14,7 +14,8 @@ ghost use Rattle.model.specs.Cells.{cellCount};
 ghost use Rattle.model.specs.Lent.{Does, bytesLent};
 ghost use Rattle.model.specs.Saved.{carriedHeld, tombstoneHeld, savedFile};
 ghost use Rattle.saved.specs.Blobs.{hasSlot, carriedInSlot, tombstoneInSlot, heldCarried, heldTombstone, countOf, Blobbed, blobSays, heldIn};
-ghost use Rattle.saved.specs.Saving.{RecordPut, Recorded, Turns, Reached, RoomFor, More, left, Rooms, Records, Filled, saveSays};
+ghost use Rattle.by_slot.specs.BySlot.{Reached};
+ghost use Rattle.saved.specs.Saving.{RecordPut, Recorded, RoomFor, More, left, Rooms, Records, Filled, saveSays};
 use core::Refusal;
 use octets::least;
 use rows::Carried;
@@ -200,22 +201,6 @@ fn save_tombstone(tombstones: &[u8], i: usize, file: &mut [u8], at: usize) -> us
 
 // ---- the records, by slot
 
-// Is tombstone q saved before carried row p? There is one of the two.
-fn tombstone_next(carried: &[u8], n: usize, p: usize, tombstones: &[u8], m: usize, q: usize) -> bool
-    requires { ⌜ Reached (length (now carried)) (length (now tombstones)) n m p q ⌝ }
-    ensures { λ r. ⌜ Turns n m p q (num (part (now (carried .entry)) (p * 57) 8)) (num (part (now (tombstones .entry)) (q * 44) 8)) r ⌝ }
-{
-    if n <= p {
-        return true;
-    }
-    if m <= q {
-        return false;
-    }
-    let a = octets::get_u64(carried, p * rows::CARRIED_WIDTH);
-    let b = octets::get_u64(tombstones, q * rows::TOMBSTONE_WIDTH);
-    b < a
-}
-
 // Writes the record of the next row.
 fn save_next(
     carried: &[u8],
@@ -232,7 +217,7 @@ fn save_next(
     let p = t.p;
     let q = t.q;
     let at = t.at;
-    if tombstone_next(carried, n, p, tombstones, m, q) {
+    if by_slot::tombstone_first(carried, n, p, tombstones, m, q) {
         let next = save_tombstone(tombstones, q, file, at);
         return Turn {
             p,

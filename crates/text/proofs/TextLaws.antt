@@ -1,17 +1,17 @@
 -- Laws of digits. Assumes nothing.
-use mathlib.Core.Path.{_≡_, refl, sym, ap, _∙_, subst}
-use mathlib.Core.Bool.{Bool, true, false}
-use mathlib.Core.List.{List, [], _∷_, _++_}
+use mathlib.Core.Path.{_≡_, refl, sym, ap, ap₂, _∙_, subst}
+use mathlib.Core.Bool.{Bool, true, false, cond}
+use mathlib.Core.List.{List, [], _∷_, _++_, append-assoc}
 use Prim.Native.Nat.{ℕ, zero, suc, _+_, _-_, _*_, _/_, _%_, _^_, _≤_, _<_}
 use native.Mathlib.Nat.{mod-eq-of-lt, pow-suc, pow-le-pow-right}
 use native.Mathlib.Omega.{arith}
-use borrow.Author.Tests.{lt-ltb, le-ltb, leb-true, leb-false}
-use lib.Dec.{leb}
-use lib.ListN.{length, take, getD, set, length-append, length-set}
-use lib.Seq.{take-suc, take-suc-set, append-snoc, take-all}
+use borrow.Author.Tests.{lt-ltb, le-ltb, leb-true, leb-false, ltb-true, ltb-false}
+use lib.Dec.{leb, ltb}
+use lib.ListN.{length, length-append}
 use Rattle.octets.proofs.Parts.{splice-then, splice-nil}
 use Rattle.io.specs.Digits.{glyph, digits, Fewest}
-use Rattle.text.specs.Text.{decimals, decimal, hexes, Puts}
+use Rattle.columns.specs.Columns.{blanks, column}
+use Rattle.text.specs.Text.{decimals, decimal, Puts}
 
 -- the digits of the fewest places are the decimals
 pub digits-decimals : (f k n : ℕ) → Fewest 10 1 n k → k ≤ f → digits 10 k n ≡ decimals f n
@@ -58,39 +58,80 @@ pub length-digits : (b k n : ℕ) → length (digits b k n) ≡ k
 length-digits b zero n = refl
 length-digits b (suc k) n = length-append (digits b k (n / b)) (glyph (n % b) ∷ []) ∙ omega (arith, length-digits b k (n / b))
 
-pub hexes-append : (x y : List ℕ) → hexes (x ++ y) ≡ hexes x ++ hexes y
-unfolding hexes
-hexes-append [] y = refl
-hexes-append (b ∷ x) y = ap (λ (l : List ℕ). glyph (b / 16) ∷ glyph (b % 16) ∷ l) (hexes-append x y)
+-- ---- a number in a column
 
-pub length-hexes : (x : List ℕ) → length (hexes x) ≡ 2 * length x
-unfolding hexes
-length-hexes [] = refl
-length-hexes (b ∷ x) = omega (arith, length-hexes x)
+-- a number from 10 on has more than one digit
+two-digits : (w n : ℕ) → n < 10 ^ suc w → 10 ≤ n → 0 < w
+two-digits zero n b h = absurd (omega arith)
+two-digits (suc w) n b h = omega arith
 
--- all of it
-pub hexes-all : (t g : List ℕ) (i : ℕ) → length t ≡ 16 → length g ≡ 32 → i ≡ 16 → take (2 * i) g ≡ hexes (take i t) → g ≡ hexes t
-hexes-all t g i lt lg ei e =
-    sym (take-all (2 * i) g (omega arith)) ∙ e ∙ ap hexes (take-all i t (omega arith))
+-- the digits are the same, however many suffice
+decimals-enough : (w v n : ℕ) → 0 < w → w ≤ v → n < 10 ^ w → decimals w n ≡ decimals v n
+unfolding decimals
+decimals-enough zero v n o h b = absurd (omega arith)
+decimals-enough (suc w) zero n o h b = absurd (omega arith)
+decimals-enough (suc w) (suc v) n o h b = go (ltb n 10) refl (λ k. decimals-enough w v (n / 10) k (omega arith) (omega (arith, pow-suc 10 w)))
+  where
+    go : (t : Bool) → ltb n 10 ≡ t → (0 < w → decimals w (n / 10) ≡ decimals v (n / 10))
+        → cond t (glyph n ∷ []) (decimals w (n / 10) ++ (glyph (n % 10) ∷ [])) ≡ cond t (glyph n ∷ []) (decimals v (n / 10) ++ (glyph (n % 10) ∷ []))
+    go true e I = refl
+    go false e I = ap (λ (l : List ℕ). l ++ (glyph (n % 10) ∷ [])) (I (two-digits w n b (ltb-false n 10 e)))
 
--- one more byte's two digits
-pub hexes-step : (t g : List ℕ) (i x y : ℕ) → i < length t → 2 * i + 1 < length g → x ≡ glyph (getD t i 0 / 16) → y ≡ glyph (getD t i 0 % 16)
-    → take (2 * i) g ≡ hexes (take i t)
-    → take (2 * (i + 1)) (set (set g (2 * i) x) (2 * i + 1) y) ≡ hexes (take (i + 1) t)
-unfolding hexes
-hexes-step t g i x y ht hg ex ey e =
-    let two : 2 * (i + 1) ≡ suc (suc (2 * i)) = omega arith in
-    let one : 2 * i + 1 ≡ suc (2 * i) = omega arith in
-    let next : i + 1 ≡ suc i = omega arith in
-    ap (λ (m : ℕ). take m (set (set g (2 * i) x) (2 * i + 1) y)) two
-    ∙ ap (λ (m : ℕ). take (suc (suc (2 * i))) (set (set g (2 * i) x) m y)) one
-    ∙ take-suc-set (set g (2 * i) x) (suc (2 * i)) y (omega (arith, length-set g (2 * i) x))
-    ∙ ap (λ (l : List ℕ). l ++ (y ∷ [])) (take-suc-set g (2 * i) x (omega arith))
-    ∙ append-snoc (take (2 * i) g) x (y ∷ [])
-    ∙ ap (λ (l : List ℕ). l ++ (x ∷ y ∷ [])) e
-    ∙ ap (λ (l : List ℕ). hexes (take i t) ++ l) (λ j. ex j ∷ ey j ∷ [])
-    ∙ sym (hexes-append (take i t) (getD t i 0 ∷ []))
-    ∙ ap hexes (sym (take-suc t i 0 ht) ∙ ap (λ (m : ℕ). take m t) (sym next))
+-- a digit below 10
+glyph-ten : (d : ℕ) → d < 10 → 48 + d ≡ glyph d
+glyph-ten d h = rw (lt-ltb d 10 h)
+
+-- in a column of w bytes: the digits to the right, blanks before them
+pub record InColumn (w n : ℕ) : Type 0 where
+  pub bytes : column w n ≡ blanks (w - length (decimals w n)) ++ decimals w n
+  pub fits : length (decimals w n) ≤ w
+
+in-column : (w n : ℕ) → n < 10 ^ w → InColumn w n
+unfolding column decimals
+in-column zero n b = record { bytes = refl; fits = omega arith }
+in-column (suc w) n b = go (ltb n 10) refl (in-column w (n / 10) (omega (arith, pow-suc 10 w)))
+  where
+    go : (t : Bool) → ltb n 10 ≡ t → InColumn w (n / 10) → InColumn (suc w) n
+    go true e I =
+        let h : n < 10 = ltb-true n 10 e in
+        let m : n % 10 ≡ n = mod-eq-of-lt h in
+        let g : 48 + n % 10 ≡ 48 + n = ap (λ (d : ℕ). 48 + d) m in
+        let k : w ≡ suc w - 1 = omega arith in
+        record { bytes = rw e (ap₂ (λ (i d : ℕ). blanks i ++ (d ∷ [])) k g); fits = rw e (omega arith) }
+    go false e I =
+        let D : List ℕ = decimals w (n / 10) in
+        let l : length (D ++ (glyph (n % 10) ∷ [])) ≡ length D + 1 = length-append D (glyph (n % 10) ∷ []) in
+        let k : w - length D ≡ suc w - length (D ++ (glyph (n % 10) ∷ [])) = omega (arith, l, I .fits) in
+        record {
+          bytes = rw e
+              (ap₂ (λ (x : List ℕ) (d : ℕ). x ++ (d ∷ [])) (I .bytes) (glyph-ten (n % 10) (omega arith)) ∙ append-assoc (blanks (w - length D)) D (glyph (n % 10) ∷ [])
+              ∙ ap (λ (i : ℕ). blanks i ++ (D ++ (glyph (n % 10) ∷ []))) k);
+          fits = rw e (omega (arith, l, I .fits));
+        }
+
+-- a number's decimal digits stand to the right of a column of w bytes, blanks before them, and nothing is cut
+abbrev pub Stands : (w n : ℕ) → Type 0
+Stands w n = (column w n ≡ blanks (w - length (decimal n)) ++ decimal n) × (length (decimal n) ≤ w)
+
+stands : (w n : ℕ) → 0 < w → w ≤ 20 → n < 10 ^ w → Stands w n
+unfolding decimal
+stands w n o h b =
+    let I : InColumn w n = in-column w n b in
+    let e : decimals w n ≡ decimals 20 n = decimals-enough w 20 n o h b in
+    (I .bytes ∙ ap (λ (d : List ℕ). blanks (w - length d) ++ d) e, omega (arith, I .fits, ap length e))
+
+-- so every number of the screen page does, whatever its value: slots and depositors in 20 bytes, minutes in 10, copies in 3
+pub record NumbersStand : Type 0 where
+  pub slots : (n : ℕ) → n < 2 ^ 64 → Stands 20 n
+  pub minutes : (n : ℕ) → n < 2 ^ 32 → Stands 10 n
+  pub copies : (n : ℕ) → n < 2 ^ 8 → Stands 3 n
+
+pub numbers-stand : NumbersStand
+numbers-stand = record {
+  slots = λ n b. stands 20 n (omega arith) (omega arith) (omega arith);
+  minutes = λ n b. stands 10 n (omega arith) (omega arith) (omega arith);
+  copies = λ n b. stands 3 n (omega arith) (omega arith) (omega arith);
+}
 
 -- ---- a text, and one behind it
 

@@ -1,4 +1,4 @@
--- Numbers in decimal, tags in hexadecimal, and a text put into an area.
+-- Numbers in decimal, and a text put into an area.
 -- Assumes nothing.
 use Prim.Native.Nat.{ℕ, zero, suc, _+_, _/_, _%_, _≤_}
 use mathlib.Core.Path.{_≡_}
@@ -21,11 +21,6 @@ decimal n = decimals 20 n
 -- a space and a number
 unfoldable pub spaced : ℕ → List ℕ
 spaced n = (32 ∷ []) ++ decimal n
-
--- two digits for each byte
-unfoldable pub hexes : List ℕ → List ℕ
-hexes [] = []
-hexes (b ∷ bs) = glyph (b / 16) ∷ glyph (b % 16) ∷ hexes bs
 
 -- The text w, of so many bytes at most, stands at a place of an area that was o and is now x; the place behind it is r.
 pub record Puts (most : ℕ) (o : List ℕ) (at : ℕ) (w : List ℕ) (r : ℕ) (x : List ℕ) : Type 0 where

@@ -1,5 +1,5 @@
 //! Two wall posts and a phone. An envelope goes from its sender over post A and post B to the phone, and the news of its delivery
-//! goes back the same way.
+//! goes back the same way. A second envelope gets as far as post A, whose screen is shown at the end.
 #![forbid(unsafe_code)]
 
 mod meeting;
@@ -21,6 +21,11 @@ const FIRST_KEY: MessageKey = MessageKey {
     direction: Direction::Initiator,
     generation: 0,
     index: 0,
+};
+
+const SECOND_KEY: MessageKey = MessageKey {
+    index: 1,
+    ..FIRST_KEY
 };
 
 /// The phone awaits one skipped message and those of the sender's first chain. Skipped keys are listed first; the window
@@ -49,13 +54,13 @@ fn awaited() -> Result<Window, Problem> {
 }
 
 /// The sender queues a message for the phone, and makes its envelope.
-fn send(sender: &mut Party, text: &str) -> Result<(), Problem> {
-    let key = message_key(FIRST_KEY);
+fn send(sender: &mut Party, message: u32, place: MessageKey, text: &str) -> Result<(), Problem> {
+    let key = message_key(place);
     let message = OwnMessage {
         contact: PHONE,
-        message: 1,
+        message,
         route_key: &ROUTE_KEY,
-        key: FIRST_KEY,
+        key: place,
         secret: delivered(&key),
         ciphertext: &seal(&key, text),
     };
@@ -73,7 +78,7 @@ fn tell() -> Result<(), Problem> {
     let mut b = Party::new("post B", POST_B, &[POST_A, PHONE], Window::EMPTY)?;
     let mut phone = Party::new("phone", PHONE, &[SENDER, POST_B], awaited()?)?;
 
-    send(&mut sender, "pump 3 is dry")?;
+    send(&mut sender, 1, FIRST_KEY, "pump 3 is dry")?;
     meet(&mut sender, &mut a)?;
     sender.restart()?;
     meet(&mut a, &mut b)?;
@@ -81,6 +86,13 @@ fn tell() -> Result<(), Problem> {
     meet(&mut b, &mut phone)?;
     meet(&mut a, &mut b)?;
     meet(&mut sender, &mut a)?;
+    for party in [&mut sender, &mut a] {
+        party.maintain(500)?;
+    }
+    send(&mut sender, 2, SECOND_KEY, "pump 3 runs again")?;
+    meet(&mut sender, &mut a)?;
+    a.show(1449);
+    a.show(1450);
     for party in [&mut a, &mut b, &mut phone, &mut sender] {
         party.maintain(1450)?;
     }

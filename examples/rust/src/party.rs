@@ -3,8 +3,8 @@
 use crate::sealing::{message_key, open};
 use goosetable::{
     Action, Actions, BLOB, ContactId, Custody, Envelope, Exchange, HeldRow, OwnMessage, OwnRow,
-    Post, Received, Record, SavedFile, Secret, Sizes, Slot, Tag, Verification, Window, delivered,
-    stored_row,
+    PAGE, Post, Received, Record, SavedFile, Secret, Sizes, Slot, Tag, Verification, Window,
+    delivered, stored_row,
 };
 use std::{collections::BTreeMap, error::Error};
 
@@ -83,6 +83,16 @@ impl Party {
         println!("{}: maintenance in minute {minute}", self.name);
         self.post.set_clock(minute * 60);
         self.store.follow(self.name, self.post.maintenance()?)
+    }
+
+    /// What a technician sees on its screen in a minute: every page that has rows, and page 0 if none has.
+    pub fn show(&mut self, minute: u64) {
+        self.post.set_clock(minute * 60);
+        let mut area = [0; PAGE];
+        for page in 0..self.post.pages().max(1) {
+            println!("{}: page {page} in minute {minute}", self.name);
+            print!("{}", self.post.page(page, &mut area));
+        }
     }
 
     /// An envelope that a peer offers: the code that answers it.

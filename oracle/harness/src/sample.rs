@@ -3,7 +3,7 @@
 use crate::compare::maker;
 use crate::compare::pair::{self, Pair, Seen};
 use crate::generate::{Generator, Profile};
-use post::{Action, Answer, Areas, Call, Envelope, Held, Kind, NewOwn, Reply, Sizes, State, Verification};
+use post::{Action, Answer, Areas, Call, Envelope, Held, Kind, NewOwn, Reply, Sizes, State, Verification, said};
 use std::collections::BTreeSet;
 use std::io::Write;
 use std::process::ExitCode;
@@ -24,7 +24,7 @@ struct Inputs {
     copies: u8,
     generation: u8,
     lifetime: u16,
-    /// Contact, peer, seconds or slot.
+    /// Contact, peer, seconds, slot or page.
     number: u64,
     expiry: u32,
     index: u32,
@@ -91,7 +91,7 @@ fn plain_inputs(call: &Call) -> Inputs {
         | Call::StoredTombstone {
             tag, secret, expiry, ..
         } => (inputs.tag, inputs.second, inputs.expiry) = (*tag, *secret, *expiry),
-        Call::RowBlob { slot, .. } => inputs.number = *slot,
+        Call::RowBlob { slot: number, .. } | Call::Page { number, .. } => inputs.number = *number,
         _ => {}
     }
     inputs
@@ -141,7 +141,7 @@ fn inputs(call: &Call) -> Inputs {
 /// What the call must answer; zeros where it says no such thing.
 #[derive(Default)]
 struct Expected {
-    /// 0 done, 1 to 13 refused, 14 malformed, 15 ours, 16 no such row, 17 no envelope.
+    /// As the library says it.
     said: u8,
     generation: u8,
     index: u32,
@@ -277,6 +277,17 @@ fn read_row(held: &Held) -> Vec<u8> {
     bytes
 }
 
+/// Malformed; missing where a fetch finds nothing; else done.
+fn done(seen: &Seen, malformed: bool, replies: &[Reply]) -> u8 {
+    if malformed {
+        said::MALFORMED
+    } else if seen.call.kind() == Kind::Fetch && replies.is_empty() {
+        said::MISSING
+    } else {
+        said::DONE
+    }
+}
+
 fn expected(seen: &Seen) -> Expected {
     match seen.answer {
         Answer::Refused(number) => only(*number),
@@ -285,7 +296,7 @@ fn expected(seen: &Seen) -> Expected {
             replies,
             actions,
         } => Expected {
-            said: if *malformed { 14 } else { 0 },
+            said: done(seen, *malformed, replies),
             ..listed(seen, replies, actions)
         },
         Answer::Ours {
@@ -296,9 +307,9 @@ fn expected(seen: &Seen) -> Expected {
             contact: *contact,
             generation: *generation,
             index: *index,
-            ..only(15)
+            ..only(said::OURS)
         },
-        Answer::NoEnvelope => only(17),
+        Answer::NoEnvelope => only(said::NO_ENVELOPE),
         Answer::Own(row) => wrote(own_row(row)),
         Answer::Listed(prefixes) => wrote(prefixes.concat()),
         Answer::Window(keys) => wrote(
@@ -309,9 +320,10 @@ fn expected(seen: &Seen) -> Expected {
                 })
                 .collect(),
         ),
-        Answer::Blob(None) | Answer::Row(None) => only(16),
+        Answer::Blob(None) | Answer::Row(None) => only(said::MISSING),
         Answer::Blob(Some(bytes)) | Answer::Saved(bytes) => wrote(bytes.to_vec()),
         Answer::Row(Some(held)) => wrote(read_row(held)),
+        Answer::Page(page) => wrote(page.0.clone()),
     }
 }
 
@@ -369,6 +381,23 @@ fn write_list(sizes: &Sizes, calls: usize, out: &mut Vec<u8>) {
     }
 }
 
+/// Pages by how much they have.
+const PAGES: [&str; 4] = [
+    "page refused",
+    "page of a heading",
+    "page of some rows",
+    "page of 19 rows",
+];
+
+fn page_of(expected: &Expected) -> &'static str {
+    match expected.bytes.len() / 81 {
+        0 => PAGES[0],
+        1 => PAGES[1],
+        20 => PAGES[3],
+        _ => PAGES[2],
+    }
+}
+
 /// What the sample must have: every call, number, answer, custody code, reply and action.
 fn reached(seen: &Seen, found: &mut BTreeSet<String>) {
     found.insert(format!("{:?}", seen.call.kind()));
@@ -386,6 +415,9 @@ fn reached(seen: &Seen, found: &mut BTreeSet<String>) {
     for row in &expected.actions {
         found.insert(format!("action {}", row[0]));
     }
+    if seen.call.kind() == Kind::Page {
+        found.insert(page_of(&expected).into());
+    }
 }
 
 fn wanted() -> impl Iterator<Item = String> {
@@ -393,8 +425,22 @@ fn wanted() -> impl Iterator<Item = String> {
     let codes = (0..5).flat_map(|code| ["received", "answered"].map(|way| format!("code {code} {way}")));
     let replies = (0..4).map(|kind| format!("reply {kind}"));
     let actions = (0..3).map(|kind| format!("action {kind}"));
-    let said = (0..18).map(|number| format!("said {number}"));
-    kinds.chain(codes).chain(replies).chain(actions).chain(said)
+    let numbers = [
+        said::DONE,
+        said::MALFORMED,
+        said::OURS,
+        said::MISSING,
+        said::NO_ENVELOPE,
+    ];
+    let numbers = (1..=said::LAST_REFUSAL).chain(numbers);
+    let said = numbers.map(|number| format!("said {number}"));
+    let pages = PAGES.map(String::from).into_iter();
+    kinds
+        .chain(codes)
+        .chain(replies)
+        .chain(actions)
+        .chain(said)
+        .chain(pages)
 }
 
 /// The generator's next call. Where the list has its long calls already, it is drawn again until it is short.
@@ -442,7 +488,7 @@ fn list(seed: u64, calls: usize, found: &mut BTreeSet<String>) -> Result<Vec<u8>
 
 fn sample(seeds: &[u64], calls: usize) -> Result<Vec<u8>, String> {
     let mut found = BTreeSet::new();
-    let mut out = b"SAMPLE 1".to_vec();
+    let mut out = b"SAMPLE 2".to_vec();
     for seed in seeds {
         out.extend(list(*seed, calls, &mut found)?);
     }

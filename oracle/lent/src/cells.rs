@@ -1,4 +1,5 @@
-//! The cells of ciphertexts: which of them count, what lies in one, and how a reply names one.
+//! How areas that no call left are read. The cells of ciphertexts: which of them count, what lies in one, and how a reply names one. And
+//! held rows of one slot: which comes first on a page.
 
 pub const CELL: usize = 2_064;
 
@@ -13,12 +14,14 @@ pub fn cell_count(cells: &[u8]) -> usize {
     (cells.len() / CELL).min(COUNTED.into())
 }
 
-/// Which cells are read as cells that count: the first so many, for each thing that is read of them.
+/// Which cells are read as cells that count: the first so many, for each thing that is read of them; and whether a tombstone comes before
+/// a carried row of its slot.
 #[derive(Debug, Clone, Copy, PartialEq, Eq)]
 pub struct Reading {
     ciphertexts: u16,
     own_replies: u16,
     carried_replies: u16,
+    pub(crate) tombstones_first: bool,
 }
 
 fn replied(count: u16, first: u16, cell: u16) -> u16 {
@@ -37,6 +40,7 @@ impl Reading {
             ciphertexts: count,
             own_replies: count,
             carried_replies: count,
+            tombstones_first: false,
         }
     }
 
@@ -58,7 +62,7 @@ impl Reading {
     }
 }
 
-/// The ways in which cells can be read wrongly.
+/// The ways in which such areas can be read wrongly.
 #[derive(Debug, Clone, Copy, PartialEq, Eq)]
 pub enum Wrong {
     Counts255Cells,
@@ -66,15 +70,17 @@ pub enum Wrong {
     AnyCellHasACiphertext,
     OwnReplyNamesAnyCell,
     CarriedReplyWraps,
+    TombstoneFirst,
 }
 
 impl Wrong {
-    pub const ALL: [Self; 5] = [
+    pub const ALL: [Self; 6] = [
         Self::Counts255Cells,
         Self::Counts257Cells,
         Self::AnyCellHasACiphertext,
         Self::OwnReplyNamesAnyCell,
         Self::CarriedReplyWraps,
+        Self::TombstoneFirst,
     ];
 
     pub fn says(self) -> &'static str {
@@ -84,6 +90,7 @@ impl Wrong {
             Self::AnyCellHasACiphertext => "a cell of 256 or more has a ciphertext",
             Self::OwnReplyNamesAnyCell => "the reply of an own row has a cell of 256 or more",
             Self::CarriedReplyWraps => "the reply of a carried row has 256 and its cell, modulo 2^16",
+            Self::TombstoneFirst => "on a page a tombstone comes before a carried row of its slot",
         }
     }
 
@@ -102,6 +109,10 @@ impl Wrong {
             },
             Self::CarriedReplyWraps => Reading {
                 carried_replies: any,
+                ..right
+            },
+            Self::TombstoneFirst => Reading {
+                tombstones_first: true,
                 ..right
             },
         }

@@ -7,6 +7,7 @@ mod custody;
 mod exchange;
 mod fields;
 mod own;
+mod page;
 mod party;
 mod rows;
 mod saved;

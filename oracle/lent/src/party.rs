@@ -5,7 +5,7 @@ use crate::state::{Outcome, Said, performed};
 use crate::{Areas, Device, Reading};
 use post::{
     Action, Answer, Bytes, Call, Contact, Custody, Dir, Envelope, Exchange, Held, HeldRow, Kind, OwnRow, Post, Reply,
-    Sizes, SkippedRow, State, Verification, array,
+    Screen, Sizes, SkippedRow, State, Verification, array,
 };
 use std::borrow::Cow;
 
@@ -18,6 +18,19 @@ impl Model {
         Self {
             areas: Areas::fresh(&sizes),
         }
+    }
+
+    /// A post with the clock and the held rows of a state, in areas with so many tombstone rows; it has no ciphertexts and nothing else.
+    pub fn holding(tombstone_rows: usize, state: &State) -> Self {
+        let mut model = Self::new(Sizes {
+            carried_cells: 0,
+            own_cells: 0,
+            tombstone_rows,
+            bad_rows: 0,
+            exchanges: 0,
+        });
+        model.areas.hold(state);
+        model
     }
 }
 
@@ -202,6 +215,7 @@ impl Outcome {
             Kind::InventoryOfOurs => Answer::Listed(self.bytes.as_chunks().0.to_vec()),
             Kind::Window => Answer::Window(self.bytes.chunks_exact(SkippedRow::WIDTH).map(key).collect()),
             Kind::RowBlob => Answer::Blob(Some(self.bytes.clone().into())),
+            Kind::Page => Answer::Page(Screen(self.bytes.clone())),
             _ => Answer::Saved(self.bytes.clone().into()),
         }
     }

@@ -135,7 +135,7 @@ impl Session {
 }
 
 impl<'a> State<'a> {
-    /// With the exchange of this place, and the cells read in this way.
+    /// With the exchange of this place, and the areas read in this way.
     pub fn view(areas: &'a Areas, session: usize, reading: Reading) -> Self {
         let device = Device::read(&areas.device);
         let (exchange, listed, offered) = match areas.sessions.get(session) {
@@ -236,6 +236,7 @@ impl<'a> State<'a> {
             Call::RowRead { blob } => said(Said::Row(crate::saved::read(blob))),
             Call::Save { areas } => self.save(areas),
             Call::Load { file } => self.load(file),
+            Call::Page { areas, number } => self.page(areas, *number),
         }
     }
 }
@@ -293,7 +294,7 @@ pub fn performed(areas: &mut Areas, call: &Call) -> Outcome {
     performed_with(Reading::RIGHT, areas, call)
 }
 
-/// With cells that are read in this way.
+/// With areas that are read in this way.
 pub fn performed_with(reading: Reading, areas: &mut Areas, call: &Call) -> Outcome {
     let session = session_of(call);
     let (outcome, change) = State::view(areas, session, reading).step(call);

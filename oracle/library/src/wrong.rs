@@ -19,6 +19,9 @@ pub enum Spoiled {
     FlagRewritten,
     /// The bytes of a peer for whom the exchange is not open.
     ClosedPeer,
+    /// A byte of what a call wrote to its answer area, and one behind it.
+    AnswerByte,
+    ByteBehindTheAnswer,
     /// A byte read past the end of an area: it ends the program.
     ReadsOutside,
 }
@@ -30,7 +33,7 @@ impl Spoiled {
     }
 
     /// Those that leave or say something wrong.
-    pub const ALL: [Self; 12] = [
+    pub const ALL: [Self; 14] = [
         Self::RefusalNumber,
         Self::ReplyByte,
         Self::ActionByte,
@@ -43,6 +46,8 @@ impl Spoiled {
         Self::NextSlot,
         Self::FlagRewritten,
         Self::ClosedPeer,
+        Self::AnswerByte,
+        Self::ByteBehindTheAnswer,
     ];
 }
 
@@ -83,6 +88,8 @@ impl Library {
             Spoiled::NextSlot if device.tombstones > 0 => turn(self.device.bytes_mut().last_mut()),
             Spoiled::FlagRewritten if device.setting.enabled => self.device.bytes_mut()[Device::ENABLED] = 1,
             Spoiled::ClosedPeer => self.turn_closed_peers(),
+            Spoiled::AnswerByte if !outcome.bytes.is_empty() => turn(self.answer.bytes_mut().first_mut()),
+            Spoiled::ByteBehindTheAnswer => turn(self.answer.bytes_mut().get_mut(outcome.bytes.len())),
             Spoiled::ReadsOutside if device.contacts > 2 => self.contacts.read_outside(),
             _ => {}
         }

@@ -1,4 +1,4 @@
-use crate::{Bytes, Custody, Dir, Envelope, Held, OwnRow, Prefix, Tag, canonical};
+use crate::{Bytes, Custody, Dir, Envelope, Held, OwnRow, Prefix, Screen, Tag, canonical};
 
 #[derive(Debug, Clone, PartialEq, Eq)]
 pub enum Reply {
@@ -36,6 +36,7 @@ pub enum Answer {
     Blob(Option<Bytes>),
     Row(Option<Held>),
     Saved(Bytes),
+    Page(Screen),
 }
 
 impl Answer {

@@ -17,6 +17,16 @@ impl fmt::Debug for Bytes {
     }
 }
 
+/// The lines of a page, which print as text.
+#[derive(Clone, PartialEq, Eq)]
+pub struct Screen(pub Vec<u8>);
+
+impl fmt::Debug for Screen {
+    fn fmt(&self, out: &mut fmt::Formatter<'_>) -> fmt::Result {
+        write!(out, "\"{}\"", self.0.escape_ascii())
+    }
+}
+
 impl Deref for Bytes {
     type Target = Vec<u8>;
     fn deref(&self) -> &Vec<u8> {

@@ -7,7 +7,7 @@ pub struct Areas {
     pub prefixes: usize,
     pub offers: usize,
     pub actions: usize,
-    /// Of inventory, window, row blob and save.
+    /// Of inventory, window, row blob, save and page.
     pub answer: usize,
 }
 
@@ -130,6 +130,10 @@ pub enum Call {
     Load {
         file: Bytes,
     },
+    Page {
+        areas: Areas,
+        number: u64,
+    },
 }
 
 /// A call without its inputs.
@@ -155,10 +159,11 @@ pub enum Kind {
     RowRead,
     Save,
     Load,
+    Page,
 }
 
 impl Kind {
-    pub const ALL: [Self; 20] = [
+    pub const ALL: [Self; 21] = [
         Self::Contact,
         Self::Setting,
         Self::Clock,
@@ -179,7 +184,13 @@ impl Kind {
         Self::RowRead,
         Self::Save,
         Self::Load,
+        Self::Page,
     ];
+
+    /// False of a page: the Rust source has nothing of it, and it is judged without the source.
+    pub fn is_in_source(self) -> bool {
+        self != Self::Page
+    }
 
     /// The numbers that can refuse the call, in their order.
     pub fn numbers(self) -> &'static [u8] {
@@ -195,7 +206,7 @@ impl Kind {
             Self::Failed => &[2, 9],
             Self::StoredTombstone => &[1, 5, 6],
             Self::OwnEnvelope => &[2, 10, 11, 4],
-            Self::Maintenance | Self::RowBlob | Self::Save => &[1],
+            Self::Maintenance | Self::RowBlob | Self::Save | Self::Page => &[1],
             Self::Window => &[1, 12],
             Self::Load => &[8, 4, 5],
         }
@@ -225,6 +236,7 @@ impl Call {
             Self::RowRead { .. } => Kind::RowRead,
             Self::Save { .. } => Kind::Save,
             Self::Load { .. } => Kind::Load,
+            Self::Page { .. } => Kind::Page,
         }
     }
 
@@ -243,7 +255,8 @@ impl Call {
             | Self::InventoryOfOurs { areas, .. }
             | Self::Window { areas, .. }
             | Self::RowBlob { areas, .. }
-            | Self::Save { areas } => Some(areas),
+            | Self::Save { areas }
+            | Self::Page { areas, .. } => Some(areas),
             _ => None,
         }
     }

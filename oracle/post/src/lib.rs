@@ -5,10 +5,11 @@ mod bytes;
 mod call;
 mod file;
 mod rows;
+pub mod said;
 mod state;
 
 pub use answer::{Action, Answer, Reply};
-pub use bytes::{Bytes, array};
+pub use bytes::{Bytes, Screen, array};
 pub use call::{Areas, Call, Kind, NewOwn};
 pub use file::{FileRecord, canonical, encode_file, records};
 pub use rows::{ChainRow, SkippedRow, WindowRow, encode_chains, encode_skipped, encode_window};

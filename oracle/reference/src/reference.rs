@@ -131,7 +131,7 @@ impl Reference {
             Call::RowBlob { slot, .. } => Answer::Blob(self.source.blob(*slot).map(Into::into)),
             Call::RowRead { blob } => Answer::Row(raw::read_row(blob)),
             Call::Save { .. } => Answer::Saved(self.save()),
-            _ => unreachable!("a call that changes nothing"),
+            _ => unreachable!("a call of the source that changes nothing"),
         }
     }
 

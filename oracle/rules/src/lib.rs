@@ -4,6 +4,7 @@
 mod custody;
 mod exchange;
 mod file;
+mod page;
 mod refusals;
 mod tags;
 mod tombs;
@@ -52,6 +53,14 @@ impl Rules {
             sizes,
             wrong: None,
             opened: 0,
+        }
+    }
+
+    /// A post that has come to this state.
+    pub fn holding(sizes: Sizes, state: State) -> Self {
+        Self {
+            state,
+            ..Self::new(sizes)
         }
     }
 
@@ -187,6 +196,7 @@ impl Rules {
             Call::RowRead { blob } => Answer::Row(self.read_row(blob)),
             Call::Save { .. } => self.save(),
             Call::Load { file } => self.load(file),
+            Call::Page { number, .. } => self.page(*number),
             _ => unreachable!("no other call"),
         }
     }

@@ -1,6 +1,7 @@
 //! Document 01's table of refusals: a condition for each number, over all calls, and their order.
 
 use crate::custody::rows_of;
+use crate::page;
 use crate::tombs::Met;
 use crate::{LAST_SLOT, Rules, Wrong};
 use post::{Call, ChainRow, Kind, SkippedRow, WindowRow};
@@ -65,6 +66,7 @@ impl Rules {
             Kind::Window => answer(500 * 6),
             Kind::RowBlob => answer(2110),
             Kind::Save => answer(file),
+            Kind::Page => answer(self.unless(Wrong::AreaOf1619, page::BYTES, page::BYTES - 1)),
             _ => false,
         }
     }

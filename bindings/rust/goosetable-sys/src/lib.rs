@@ -60,6 +60,12 @@ pub const OFFERS: usize = MAX_LISTED * OFFER_ROW;
 pub const KEYS: usize = 3000;
 /// Bytes that the area for a row's blob needs at least.
 pub const BLOB: usize = 2110;
+/// Bytes that the area for a screen page needs at least.
+pub const PAGE: usize = PAGE_LINE * (1 + PAGE_ROWS);
+/// Bytes of a page's line, its line end included.
+pub const PAGE_LINE: usize = 81;
+/// The most rows of a page, which stand below the line of its heading.
+pub const PAGE_ROWS: usize = 19;
 /// Bytes of a carried row's blob before its ciphertext.
 pub const CARRIED_HEAD: usize = 46;
 
@@ -317,6 +323,15 @@ unsafe extern "C" {
         carried_cells_len: usize,
         file: *mut u8,
         file_len: usize,
+    ) -> Answer;
+    pub fn goosetable_page(
+        device: *const [u8; DEVICE],
+        page: u64,
+        carried: *const [u8; CARRIED],
+        tombstones: *const u8,
+        tombstones_len: usize,
+        area: *mut u8,
+        area_len: usize,
     ) -> Answer;
     pub fn goosetable_load(
         device: *mut [u8; DEVICE],

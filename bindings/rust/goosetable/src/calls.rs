@@ -8,7 +8,7 @@
 
 use crate::{
     BLOB, Commitment, ContactId, Custody, Envelope, Exchange, MAX_LISTED, MessageKey, OwnMessage,
-    Post, Prefix, Refusal, Secret, Setting, Slot, Tag, Verification, Window,
+    PAGE, Post, Prefix, Refusal, Secret, Setting, Slot, Tag, Verification, Window,
 };
 use goosetable_sys::{self as sys, Answer};
 
@@ -378,6 +378,23 @@ pub(crate) fn save(post: &Post, file: &mut [u8]) -> Said {
             file.len(),
         )
     })
+}
+
+/// The bytes of a screen page, in front of its area.
+pub(crate) fn page(post: &Post, page: u64, area: &mut [u8; PAGE]) -> usize {
+    let areas = &post.areas;
+    let answer = unsafe {
+        sys::goosetable_page(
+            &areas.device,
+            page,
+            &*areas.carried,
+            areas.tombstones.as_ptr(),
+            areas.tombstones.len(),
+            area.as_mut_ptr(),
+            area.len(),
+        )
+    };
+    never_refused(said(answer)).length
 }
 
 pub(crate) fn load(post: &mut Post, file: &[u8]) -> Said {

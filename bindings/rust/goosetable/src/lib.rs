@@ -22,7 +22,8 @@ pub use areas::{Areas, SizeError, Sizes};
 pub use exchange::Exchange;
 pub use file::{NoRow, SavedFile};
 pub use goosetable_sys::{
-    BAD_TAG_ROW, BLOB, CARRIED, CELL, CONTACTS, DEVICE, MAX_LISTED, MAX_ROWS, OWN, TOMBSTONE_ROW,
+    BAD_TAG_ROW, BLOB, CARRIED, CELL, CONTACTS, DEVICE, MAX_LISTED, MAX_ROWS, OWN, PAGE, PAGE_ROWS,
+    TOMBSTONE_ROW,
 };
 pub use keys::{commitment, delivered, route_tag};
 pub use post::{Counts, OwnMessage, Post};

@@ -3,8 +3,8 @@
 
 use crate::{
     Actions, Areas, BLOB, BadTag, CarriedRow, Contact, ContactId, Custody, Envelope, Exchange,
-    MAX_LISTED, MessageKey, Opened, OwnRow, Prefix, Received, Record, Refusal, Replies, Reply,
-    Secret, Setting, SizeError, Sizes, Slot, Tag, Tombstone, Verification, Window,
+    MAX_LISTED, MessageKey, Opened, OwnRow, PAGE, PAGE_ROWS, Prefix, Received, Record, Refusal,
+    Replies, Reply, Secret, Setting, SizeError, Sizes, Slot, Tag, Tombstone, Verification, Window,
     answers::fetched, areas::zeros, calls, values::Bytes,
 };
 use alloc::boxed::Box;
@@ -547,6 +547,42 @@ impl Post {
     /// - 4 [`NoCell`](Refusal::NoCell): all own cells are used.
     pub fn restore_own_row(&mut self, row: OwnRow, ciphertext: &[u8]) -> Result<(), Refusal> {
         self.areas.restore_own_row(row, ciphertext)
+    }
+}
+
+/// The held rows on a technicians' screen.
+impl Post {
+    /// A page, counted from 0, as text at the front of an area: a line `HELD`, then a line for each of up to 19 held
+    /// rows, carried ones and tombstones by slot, expired ones too until maintenance takes them. A page past the last
+    /// is the line `HELD` alone. Each line has 80 characters and ends in `\n`, so that [`str::lines`] has them.
+    ///
+    /// Of a row there are its slot, `C` (carried) or `T` (tombstone), the [prefix](Tag::prefix) of its tag in hex, the
+    /// minutes that are left or `past`, and of a carried row its copies and depositor:
+    ///
+    /// ```
+    /// use goosetable::{PAGE, Post, Secret, Sizes, Tag};
+    ///
+    /// # fn main() -> Result<(), Box<dyn std::error::Error>> {
+    /// let mut post = Post::new(Sizes::default())?;
+    /// let _ = post.stored_tombstone(Tag([0xa7; 16]), Secret([0; 16]), 90)?;
+    /// let mut area = [0; PAGE];
+    /// for page in 0..post.pages() {
+    ///     for row in post.page(page, &mut area).lines().skip(1) {
+    ///         assert_eq!(row.trim(), "0 T a7a7a7a7a7a7a7a7         90");
+    ///     }
+    /// }
+    /// # Ok(())
+    /// # }
+    /// ```
+    pub fn page<'a>(&self, page: u64, area: &'a mut [u8; PAGE]) -> &'a str {
+        let length = calls::page(self, page, area);
+        str::from_utf8(&area[..length]).expect("a page has digits, letters and blanks")
+    }
+
+    /// How many pages have rows, 19 on each but the last: none if no row is held, and then page 0 is its heading.
+    pub fn pages(&self) -> u64 {
+        let counts = self.counts();
+        (counts.carried + counts.tombstones).div_ceil(PAGE_ROWS) as u64
     }
 }
 

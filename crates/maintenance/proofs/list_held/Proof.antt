@@ -49,11 +49,13 @@ list-one-requires c κs =
     let i = at-loop .loop .inv in
     let w = within _ _ _ _ _ _ _ _ _ _ _ (at-fit .fit .ensures .inside) (at-fit2 .fit2 .ensures .inside) (at-loop .loop .inv .0) in
     record {
-      more = at-if1 .if1 .taken;
-      left = w .0;
-      right = w .1;
-      carriedRows = at-fit .fit .ensures .inside;
-      tombstoneRows = at-fit2 .fit2 .ensures .inside;
+      reached = record {
+        rows = at-fit .fit .ensures .inside;
+        tombs = at-fit2 .fit2 .ensures .inside;
+        within = w .0;
+        below = w .1;
+        more = at-if1 .if1 .taken;
+      };
       space = omega (arith, i .0 .below, i .1, at-fit .fit .ensures .is, at-fit2 .fit2 .ensures .is, start .pre);
     }
 

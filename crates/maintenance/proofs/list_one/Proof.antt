@@ -21,7 +21,7 @@ get-u64-requires : tie.Need-get-u64-requires
 get-u64-requires c κs =
     let at-tombstone-first = c .before in
     let start = at-tombstone-first .before .before .before .before .before .before .before .before in
-    omega (arith, at-tombstone-first .tombstone-first .ensures .tombstone (c .if3 .taken) .0, start .pre .tombstoneRows)
+    omega (arith, at-tombstone-first .tombstone-first .ensures .tombstone (c .if3 .taken) .0, start .pre .reached .tombs)
 
 returns-3 : tie.Need-returns-3
 returns-3 c =
@@ -41,7 +41,7 @@ get-u64-requires-2 : tie.Need-get-u64-requires-2
 get-u64-requires-2 c κs =
     let at-tombstone-first = c .before in
     let start = at-tombstone-first .before .before .before .before .before .before .before .before in
-    omega (arith, at-tombstone-first .tombstone-first .ensures .carried (c .if3 .left) .0, start .pre .carriedRows)
+    omega (arith, at-tombstone-first .tombstone-first .ensures .carried (c .if3 .left) .0, start .pre .reached .rows)
 
 returns-4 : tie.Need-returns-4
 returns-4 c =

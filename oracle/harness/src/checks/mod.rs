@@ -1,4 +1,5 @@
-//! Document 01's corners put to the source one by one, each under a name.
+//! Document 01's corners put to the source one by one, each under a name; those of document 02's pages, which the source has not, to the
+//! second and the third statement.
 
 mod bench;
 mod custody;
@@ -7,6 +8,7 @@ mod drills;
 mod exchange;
 mod exhaustive;
 mod files;
+mod pages;
 mod plain;
 mod refusals;
 mod restored;
@@ -38,12 +40,13 @@ pub fn stops<T>(what: impl FnOnce() -> T) -> Outcome {
     }
 }
 
-const GROUPS: [(&str, &[Check]); 10] = [
+const GROUPS: [(&str, &[Check]); 11] = [
     ("chain, courier, state, kdf, data", plain::CHECKS),
     ("custody", custody::CHECKS),
     ("exchange", exchange::CHECKS),
     ("tombs and maintenance", tombs::CHECKS),
     ("rows and files", files::CHECKS),
+    ("screen pages", pages::CHECKS),
     ("refusals", refusals::CHECKS),
     ("drill", drills::CHECKS),
     ("source and document differ", differences::CHECKS),

@@ -68,6 +68,7 @@ fn calls(areas: Areas) -> Vec<Call> {
         },
         Call::RowBlob { areas, slot: 0 },
         Call::Save { areas },
+        Call::Page { areas, number: 0 },
     ]);
     calls
 }
@@ -86,6 +87,7 @@ fn asks(kind: Kind) -> ([bool; 4], usize) {
         Kind::Window => ([false; 4], 3_000),
         Kind::RowBlob => ([false; 4], 2_110),
         Kind::Save => ([false; 4], file),
+        Kind::Page => ([false; 4], 1_620),
         _ => ([false; 4], 0),
     }
 }

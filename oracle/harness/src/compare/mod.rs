@@ -177,6 +177,10 @@ pub fn main(arguments: &[String]) -> ExitCode {
     for what in &missed {
         println!("never reached: {what}");
     }
+    println!(
+        "{} of the calls are not the source's: the second and the third statement agreed on them",
+        tally.not_in_source()
+    );
     println!("{} calls, 0 differences", options.calls);
     crate::status(missed.is_empty())
 }

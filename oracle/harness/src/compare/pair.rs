@@ -1,7 +1,9 @@
 //! The reference beside other posts, one call at a time.
 
+use lent::Model;
 use post::{Answer, Call, Kind, Post, Sizes, State};
 use reference::Reference;
+use rules::Rules;
 use std::cell::Cell;
 use std::panic::{AssertUnwindSafe, catch_unwind, set_hook, take_hook};
 
@@ -69,10 +71,11 @@ fn state_difference(one: &State, two: &State) -> String {
         .unwrap_or_default()
 }
 
-/// A refused call changes nothing, and a malformed one only where "failed" adds its bad tag.
+/// A refused call and a page change nothing, and a malformed one only where "failed" adds its bad tag.
 fn must_change_nothing(call: &Call, answer: &Answer) -> bool {
     let failed = call.kind() == Kind::Failed;
-    matches!(answer, Answer::Refused(_)) || (matches!(answer, Answer::Done { malformed: true, .. }) && !failed)
+    matches!(answer, Answer::Refused(_) | Answer::Page(_))
+        || (matches!(answer, Answer::Done { malformed: true, .. }) && !failed)
 }
 
 /// The reference, and the state that its last call left.
@@ -95,9 +98,33 @@ impl Judge {
         &self.state
     }
 
+    /// A call that is none of the source's: what the second and the third statement both say of the source's state. They are made anew, and
+    /// the source is not asked.
+    fn stated(&self, call: &Call) -> Result<Answer, String> {
+        let second = caught("second statement", || {
+            Rules::holding(self.sizes, self.state.clone()).perform(call)
+        })?;
+        let third = caught("third statement", || {
+            Model::holding(self.sizes.tombstone_rows, &self.state).perform(call)
+        })?;
+        if second == third {
+            Ok(second)
+        } else {
+            Err(format!("second statement {second:?}, third {third:?}"))
+        }
+    }
+
+    fn answer(&mut self, call: &Call) -> Result<Answer, String> {
+        if call.kind().is_in_source() {
+            caught("reference", || self.reference.perform(call))
+        } else {
+            self.stated(call)
+        }
+    }
+
     /// The reference takes the call; what was seen of it goes to `seen`.
     pub fn take<T>(&mut self, call: &Call, seen: impl FnOnce(&Seen) -> T) -> Result<T, String> {
-        let answer = caught("reference", || self.reference.perform(call))?;
+        let answer = self.answer(call)?;
         let after = self.reference.state().into_owned();
         if must_change_nothing(call, &answer) && after != self.state {
             return Err(format!("{answer:?} changed the reference's state"));

@@ -1,9 +1,8 @@
-//! Rows whose cell does not count: calls that are after them, and how often a run met them.
+//! Rows whose cell does not count: calls that are after them, and which of them a call met.
 
 use crate::generate::Rng;
 use lent::{Areas, CELL, COUNTED, Carried, ContactRow, Device, NO_CELL, Outcome, Own, Said, cell_count, table};
 use post::{Call, Custody, Sizes, Tag, array};
-use std::collections::BTreeMap;
 
 /// The first carried cell to which 256 cannot be added in two bytes.
 const WRAPS: u16 = NO_CELL - COUNTED + 1;
@@ -77,6 +76,18 @@ const FULL: &str = "envelope tested for Full";
 const ROW_BLOB: &str = "row blob";
 const SAVE: &str = "save";
 
+#[cfg(feature = "library")]
+pub const ALL: [&str; 8] = [
+    FETCH_OWN,
+    FETCH_CARRIED,
+    OFFER_OWN,
+    OFFER_CARRIED,
+    REPLY_WRAPS,
+    FULL,
+    ROW_BLOB,
+    SAVE,
+];
+
 impl Rows<'_> {
     fn met_by_fetch(&self, peer: u64, tag: &Tag) -> Vec<(&'static str, bool)> {
         let (own, carried) = self.fetched(peer, tag);
@@ -125,41 +136,10 @@ impl Rows<'_> {
     }
 }
 
-/// How often a run met such rows.
-#[derive(Default)]
-pub struct Reach(BTreeMap<&'static str, u64>);
-
-impl Reach {
-    /// A call; the areas are those after it.
-    pub fn count(&mut self, areas: &Areas, call: &Call, outcome: &Outcome) {
-        if matches!(outcome.said, Said::Refused(_)) {
-            return;
-        }
-        for (name, met) in Rows::of(areas).met(call, outcome) {
-            *self.0.entry(name).or_default() += u64::from(met);
-        }
+/// Such rows that a call met; the areas are those after it.
+pub fn met(areas: &Areas, call: &Call, outcome: &Outcome) -> Vec<(&'static str, bool)> {
+    if matches!(outcome.said, Said::Refused(_)) {
+        return Vec::new();
     }
-}
-
-#[cfg(feature = "library")]
-impl Reach {
-    pub fn missed(&self) -> impl Iterator<Item = &'static str> {
-        let all = [
-            FETCH_OWN,
-            FETCH_CARRIED,
-            OFFER_OWN,
-            OFFER_CARRIED,
-            REPLY_WRAPS,
-            FULL,
-            ROW_BLOB,
-            SAVE,
-        ];
-        all.into_iter()
-            .filter(|name| self.0.get(name).is_none_or(|count| *count == 0))
-    }
-
-    pub fn line(&self) -> String {
-        let parts: Vec<String> = self.0.iter().map(|(name, count)| format!("{name} {count}")).collect();
-        format!("reached, rows whose cell does not count: {}", parts.join(", "))
-    }
+    Rows::of(areas).met(call, outcome)
 }

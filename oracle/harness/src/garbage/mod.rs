@@ -1,12 +1,14 @@
 //! The library, or a wrong statement, on areas that no call left. The third statement says what must come out.
 
 mod cells;
+mod pages;
+mod reach;
 mod spoil;
 
 use crate::generate::{Generator, Profile, Rng};
-use cells::Reach;
 use lent::{Areas, Device, Outcome, Reading, Wrong, decoded, performed, performed_with};
 use post::{Call, Kind};
+use reach::Reach;
 
 /// What makes the calls beside the third statement.
 pub trait Party {
@@ -22,7 +24,7 @@ pub trait Party {
 /// Makes a party on these areas; where it has a choice, they stand against the first or the last of their pages.
 type Maker<'a> = dyn Fn(Areas, bool) -> Box<dyn Party> + 'a;
 
-/// The third statement itself with cells that are read in some way.
+/// The third statement itself with areas that are read in some way.
 struct Reader {
     reading: Reading,
     expected: Areas,
@@ -112,7 +114,7 @@ fn run_list(seed: u64, count: usize, make: &Maker, reach: &mut Reach) -> Result<
     Ok(())
 }
 
-/// The seed and the call at which a wrong reading of cells is told apart.
+/// The seed and the call at which a wrong reading is told apart.
 pub fn told(wrong: Wrong, lists: u64) -> Option<(u64, usize)> {
     let make = |areas: Areas, _| -> Box<dyn Party> {
         Box::new(Reader {
@@ -148,10 +150,12 @@ pub fn main(arguments: &[String]) -> Option<std::process::ExitCode> {
             return Some(crate::status(false));
         }
     }
-    println!("{}", reach.line());
-    let missed: Vec<&str> = reach.missed().filter(|_| must_reach).collect();
+    for line in reach.lines() {
+        println!("{line}");
+    }
+    let missed = if must_reach { reach.missed() } else { Vec::new() };
     for what in &missed {
-        println!("never reached, a row whose cell does not count: {what}");
+        println!("never reached, {what}");
     }
     println!("{calls} calls on garbage areas, 0 differences");
     Some(crate::status(missed.is_empty()))

@@ -144,10 +144,21 @@ fn spoil_own(areas: &mut Areas, rng: &mut Rng) {
     });
 }
 
+/// Mostly that of a carried row, so that slots meet.
+fn slot(areas: &Areas, rng: &mut Rng) -> u64 {
+    let rows: Vec<Carried> = lent::table(&areas.carried, Device::read(&areas.device).carried);
+    let slots: Vec<u64> = rows.iter().take(6).map(|row| row.slot).collect();
+    if rng.percent(70) {
+        rng.pick_or(&slots, 0)
+    } else {
+        rng.pick(&SLOTS)
+    }
+}
+
 fn spoil_rest(areas: &mut Areas, rng: &mut Rng) {
-    let (tag, peer) = (tag(areas, rng), contact(areas, rng));
+    let (tag, peer, slot) = (tag(areas, rng), contact(areas, rng), slot(areas, rng));
     match rng.below(5) {
-        0 => alter::<Tombstone>(&mut areas.tombstones, rng, |row, rng| row.slot = rng.pick(&SLOTS)),
+        0 => alter::<Tombstone>(&mut areas.tombstones, rng, |row, _| row.slot = slot),
         1 => alter::<Tombstone>(&mut areas.tombstones, rng, |row, _| row.tag = tag),
         2 => alter::<Tombstone>(&mut areas.tombstones, rng, |row, rng| row.expiry = rng.pick(&EXPIRIES)),
         3 => alter::<BadTag>(&mut areas.bad_tags, rng, |row, _| *row = BadTag { peer, tag }),

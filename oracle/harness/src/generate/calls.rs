@@ -2,7 +2,10 @@
 
 use super::pool::secret_of;
 use super::{Generator, VERIFICATIONS};
-use post::{Bytes, Call, Custody, Kind, NewOwn, Prefix, State, Tag};
+use post::{Areas, Bytes, Call, Custody, Kind, NewOwn, Prefix, State, Tag};
+
+const PAGE_ROWS: usize = 19;
+const PAGE_BYTES: usize = 1_620;
 
 fn is_own(state: &State, tag: &Tag) -> bool {
     state.own.iter().any(|row| row.tag == *tag)
@@ -242,6 +245,29 @@ impl Generator {
         }
     }
 
+    /// Pages there are, the first that is not, and numbers that mean another page if they are cut or multiplied in machine words.
+    fn page(&mut self, state: &State) -> Call {
+        let last = (state.held.len().saturating_sub(1) / PAGE_ROWS) as u64;
+        let low = self.rng.below(3) as u64;
+        let number = match self.rng.below(10) {
+            0..2 => 0,
+            2 => 1,
+            3 => self.rng.below(last as usize + 1) as u64,
+            4..6 => last,
+            6..8 => last + 1,
+            8 => (1 << 32) + low,
+            _ => self.rng.pick(&[u64::MAX, u64::MAX / PAGE_ROWS as u64 + 1 + low]),
+        };
+        let mut areas = Areas::enough(&self.sizes);
+        areas.answer = match self.rng.below(10) {
+            0 => self.rng.pick(&[0, PAGE_BYTES / 2, PAGE_BYTES - 1, PAGE_BYTES - 1]),
+            1 => PAGE_BYTES + 1,
+            2 => areas.answer,
+            _ => PAGE_BYTES,
+        };
+        Call::Page { areas, number }
+    }
+
     pub(super) fn call(&mut self, kind: Kind, state: &State) -> Call {
         match kind {
             Kind::Contact => self.contact_call(state),
@@ -285,6 +311,7 @@ impl Generator {
             Kind::RowRead => self.row_read(state),
             Kind::Save => self.save(),
             Kind::Load => Call::Load { file: self.file(state) },
+            Kind::Page => self.page(state),
         }
     }
 }

@@ -125,7 +125,7 @@ impl Profile {
             Kind::CustodyCode => 12,
             Kind::Tomb | Kind::OwnEnvelope => 8,
             Kind::StoredTombstone => 6,
-            Kind::InventoryOfOurs | Kind::Window | Kind::RowRead => 3,
+            Kind::InventoryOfOurs | Kind::Window | Kind::RowRead | Kind::Page => 3,
             Kind::RowBlob | Kind::Save | Kind::Load => 2,
         };
         match (self, kind) {

@@ -2,10 +2,11 @@
 
 mod envelopes;
 mod exchanges;
+mod pages;
 mod rows;
 
 use crate::compare::pair::Seen;
-use post::{Action, Answer, Custody, Kind, Reply};
+use post::{Action, Answer, Custody, Kind, Reply, said};
 use std::collections::BTreeMap;
 use std::fmt;
 
@@ -42,6 +43,7 @@ fn answers(kind: Kind) -> &'static [&'static str] {
         Kind::RowBlob => &["blob", "no such row"],
         Kind::RowRead => &["row", "no row"],
         Kind::Save => &["file"],
+        Kind::Page => &["page"],
     }
 }
 
@@ -62,11 +64,14 @@ fn answer_name(answer: &Answer) -> Option<&'static str> {
         Answer::Row(Some(_)) => "row",
         Answer::Row(None) => "no row",
         Answer::Saved(_) => "file",
+        Answer::Page(_) => "page",
     })
 }
 
 fn all_corners() -> impl Iterator<Item = &'static Corner> {
-    envelopes::CORNERS.iter().chain(exchanges::CORNERS).chain(rows::CORNERS)
+    [envelopes::CORNERS, exchanges::CORNERS, rows::CORNERS, pages::CORNERS]
+        .into_iter()
+        .flatten()
 }
 
 fn add<K: Ord>(counts: &mut BTreeMap<K, u64>, key: K) {
@@ -112,6 +117,12 @@ impl Tally {
             Action::OwnPut { .. } => ACTIONS[2],
         };
         add(&mut self.actions, name);
+    }
+
+    /// The calls of which the source has none: the second and the third statement judged them.
+    pub fn not_in_source(&self) -> u64 {
+        let calls = self.calls.iter().filter(|(kind, _)| !kind.is_in_source());
+        calls.map(|(_, count)| count).sum()
     }
 
     /// What a whole run should have reached and did not.
@@ -169,7 +180,7 @@ fn listed<K: fmt::Debug>(counts: &BTreeMap<K, u64>) -> String {
 impl fmt::Display for Tally {
     fn fmt(&self, out: &mut fmt::Formatter<'_>) -> fmt::Result {
         writeln!(out, "reached, calls: {}", listed(&self.calls))?;
-        for number in 1..=13 {
+        for number in 1..=said::LAST_REFUSAL {
             writeln!(out, "reached, refused {number}: {}", self.refusal_line(number))?;
         }
         writeln!(out, "reached, codes: {}", listed(&self.codes))?;

@@ -62,7 +62,7 @@ fn least_goes(seen: &Seen) -> bool {
 }
 
 /// All that a post can hold, but for own rows: 256 carried rows and 1,024 tombstones.
-fn full(state: &State) -> bool {
+pub fn full(state: &State) -> bool {
     let carried = state.carried().count();
     carried == CARRIED && state.held.len() == CARRIED + TOMBSTONES
 }

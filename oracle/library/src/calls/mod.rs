@@ -10,6 +10,15 @@ use goosetable_sys::{self as sys, Answer};
 use lent::{Outcome, Said};
 use post::Call;
 
+// The numbers that a sample has are the library's.
+const _: () = assert!(
+    post::said::DONE == sys::DONE
+        && post::said::MALFORMED == sys::MALFORMED
+        && post::said::OURS == sys::OURS
+        && post::said::MISSING == sys::MISSING
+        && post::said::NO_ENVELOPE == sys::NO_ENVELOPE
+);
+
 /// What an answer says, where `done` is what the call means by its yes.
 fn said(answer: &Answer, done: Said) -> Said {
     match answer.said {
@@ -164,6 +173,7 @@ impl Library {
             } => self.stored_tombstone(tag, secret, *expiry),
             Call::Window { skipped, chains, .. } => self.window(skipped, chains),
             Call::RowRead { blob } => self.row_read(blob),
+            Call::Page { number, .. } => self.page(*number),
         }
     }
 }

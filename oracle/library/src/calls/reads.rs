@@ -1,4 +1,4 @@
-//! Rows as blobs, the saved file, the window.
+//! Rows as blobs, the saved file, the screen page, the window.
 
 use crate::Library;
 use goosetable_sys as sys;
@@ -91,6 +91,24 @@ impl Library {
                 carried_cells.len(),
                 file.as_mut_ptr(),
                 file.len(),
+            )
+        };
+        self.wrote(answer, 1)
+    }
+
+    pub(super) fn page(&mut self, number: u64) -> Outcome {
+        let tombstones = self.tombstones.bytes();
+        let page = self.answer.bytes_mut();
+        // SAFETY: each pointer goes with its length; the table has its fixed one.
+        let answer = unsafe {
+            sys::goosetable_page(
+                self.device.array(),
+                number,
+                self.carried.array(),
+                tombstones.as_ptr(),
+                tombstones.len(),
+                page.as_mut_ptr(),
+                page.len(),
             )
         };
         self.wrote(answer, 1)

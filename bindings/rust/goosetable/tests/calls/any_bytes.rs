@@ -335,3 +335,43 @@ fn blobs_and_records_of_any_bytes_are_read_or_none() {
     }
     assert!(0 < rows && 0 < records, "{rows} {records}");
 }
+
+/// The held rows as a page begins each, merged: the lesser slot of both tables' next rows, the carried row of equal ones.
+fn merged(post: &Post) -> Vec<String> {
+    let begun =
+        |slot: Slot, kind, tag: Tag| format!("{:>20} {kind} {}", slot.0, &tag.to_string()[..16]);
+    let mut carried = post.carried().peekable();
+    let mut tombstones = post.tombstones().peekable();
+    let mut rows = Vec::new();
+    loop {
+        let tombstone = tombstones.next_if(|row| carried.peek().is_none_or(|c| row.slot < c.slot));
+        rows.push(match tombstone {
+            Some(row) => begun(row.slot, 'T', row.tag),
+            None => match carried.next() {
+                Some(row) => begun(row.slot, 'C', row.envelope.header.tag),
+                None => return rows,
+            },
+        });
+    }
+}
+
+#[test]
+fn each_held_row_of_any_bytes_stands_on_one_page() {
+    let mut noise = Noise(7);
+    let mut area = [0; PAGE];
+    let mut shown = 0;
+    for _ in 0..40 {
+        let post = Post::over(noise.areas()).unwrap();
+        let mut rows = Vec::new();
+        for number in 0..post.pages() {
+            let page = post.page(number, &mut area);
+            assert!(page.lines().all(|line| line.len() == 80) && page.ends_with('\n'));
+            let before = rows.len();
+            rows.extend(page.lines().skip(1).map(|row| row[..39].to_owned()));
+            assert!(rows.len() - before == PAGE_ROWS || number + 1 == post.pages());
+        }
+        assert_eq!(rows, merged(&post));
+        shown += rows.len();
+    }
+    assert!(0 < shown);
+}

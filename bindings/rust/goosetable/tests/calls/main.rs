@@ -12,6 +12,7 @@ mod files;
 mod keys;
 mod later;
 mod own;
+mod pages;
 mod restart;
 mod settings;
 mod shown;

@@ -4,8 +4,8 @@ use Prim.Native.Nat.{ℕ}
 use native.Mathlib.Omega.{arith}
 use borrow.Author.Tests.{ltb-true, ltb-false}
 use borrow.Author.Needs.{needs}
-use Rattle.maintenance.proofs.tombstone_first.Statement.{statement}
-use Rattle.maintenance.proofs.tombstone_first.Tie as tie
+use Rattle.by_slot.proofs.tombstone_first.Statement.{statement}
+use Rattle.by_slot.proofs.tombstone_first.Tie as tie
 
 returns : tie.Need-returns
 returns c = record { tombstone = λ e. (omega arith, λ h. absurd (omega arith)); carried = λ e. let z : _≡_ {A = ℕ} 0 1 = cc in absurd (omega arith) }

@@ -1,7 +1,7 @@
 use borrow.Author.Tests.{lt-ltb, le-ltb}
 use borrow.Author.Needs.{needs}
-use Rattle.text.proofs.digit.Statement.{statement}
-use Rattle.text.proofs.digit.Tie as tie
+use Rattle.columns.proofs.digit.Statement.{statement}
+use Rattle.columns.proofs.digit.Tie as tie
 
 returns : tie.Need-returns
 returns c = rw (lt-ltb _ 10 (c .if1 .taken))
