@@ -573,7 +573,7 @@ goosetable_answer goosetable_save(
  * the last is the line HELD alone, whatever its number. A line has 80 bytes, blanks behind what it says, and a line end (0x0a), the last one too.
  * Its columns, from 1: slot 1 to 20; C (carried) or T (tombstone) 22; the first 8 bytes of the tag in lower-case hex 24 to 39; the minutes to the
  * expiry, or past where the minute has come to it, 41 to 50; copies 52 to 54; depositor 56 to 75. Numbers and past stand to the right; a tombstone
- * has no copies and no depositor. In areas that no call left each row still stands once, in the order in which maintenance takes rows.
+ * has no copies and no depositor. In areas that no call left each row still stands once, in the order in which goosetable_save writes rows.
  * The area needs 1,620 bytes for the shortest page too, and what is behind the page stays. goosetable_device_pages says how many pages have rows.
  * Writes: area.
  * Refused by: 1 (area).

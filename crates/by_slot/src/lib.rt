@@ -1,5 +1,6 @@
-// Carried rows and tombstones as one list by slot: which row is next. Maintenance, the saved file and the screen page walk along it.
-ghost use Prim.Native.Nat.{_+_, _*_, _≤_, _<_};
+// Carried rows and tombstones as one list by slot: which row is next. The saved file and the screen page walk along all rows, maintenance along those
+// that have expired.
+ghost use Prim.Native.Nat.{_*_, _<_};
 ghost use lib.ListN.{length};
 ghost use Rattle.octets.specs.Bytes.{part, num};
 ghost use Rattle.by_slot.specs.BySlot.{Reached, TombstoneFirst};

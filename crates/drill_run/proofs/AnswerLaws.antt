@@ -39,7 +39,7 @@ use Rattle.rows.specs.Proper.{Run, ProperOwn, ProperCarried, ProperTombstone, P
 use Rattle.rows.proofs.Laws.{reply-laws, action-laws}
 use Rattle.wire.specs.Log as log
 use Rattle.wire.specs.Log.{Record}
-use Rattle.model.specs.Basics.{matchFound, matchSome, find, merge}
+use Rattle.model.specs.Basics.{matchFound, matchSome, find}
 use Rattle.model.specs.State.{State, Change, apply}
 use Rattle.model.specs.Calls.{Answer, Result, result, only, refused, done, malformed, missing, stepOf, Cells, ofOwn, ofCarried, putCourier, deleteCourier, putQueued, custodyReply, tombReply, noCell, cellFrom, replyCell}
 use Rattle.model.specs.Cells.{maxCells}

@@ -46,7 +46,7 @@ use Rattle.load.proofs.ExactLaws.{of-load}
 use Rattle.load.specs.Laying.{says as loadSays}
 use Rattle.host_answers.specs.HostAnswers.{answered, contactAnswer, openedAnswer, envelopeAnswer, fetchAnswer, fetchedAnswer, ownAnswer, listedAnswer, inventoryAnswer, codeAnswer, storedAnswer, tombAnswer, maintainedAnswer, blobAnswer, saveAnswer, pageAnswer, loadAnswer}
 use Rattle.host_answers.specs.declared.Answer.{Answer}
-use Rattle.goosetable.specs.Hosts.{Counted}
+use Rattle.goosetable.specs.Hosts.{Counted, Length}
 use Rattle.goosetable.proofs.StayLaws.{isOther, numbered}
 
 -- ---- what a host gets of a result
@@ -95,8 +95,8 @@ hostPage o = pageAnswer (pageSays o)
 
 -- ---- a call by its refusals and what it performs
 
-counts : {r : Answer} {o : Result} → r .replies ≡ length (o .replies) → r .actions ≡ length (o .actions) → Counted r o
-counts p q = record { replies = p; actions = q }
+counts : {r : Answer} {o : Result} → r .replies ≡ length (o .replies) → r .actions ≡ length (o .actions) → Length (o .answer) (r .length) → Counted r o
+counts p q l = record { replies = p; actions = q; written = l }
 
 -- what is said of a result has its counts
 abbrev CountedBy : (Result → Answer) → Result → Type 0
@@ -111,85 +111,85 @@ of-call says c r p s = of-step (CountedBy says) (tests s c) (perform s c) r (p s
 
 met : (s : State) (tag secret : List ℕ) (m : Met) → CountedBy hostTomb (receiveTomb s tag secret m)
 unfolding receiveTomb turn endOwn
-met s tag secret (carriedAt i) = counts refl refl
-met s tag secret (ownAt i) = counts refl refl
-met s tag secret wrong = counts refl refl
-met s tag secret unknown = counts refl refl
+met s tag secret (carriedAt i) = counts refl refl refl
+met s tag secret (ownAt i) = counts refl refl refl
+met s tag secret wrong = counts refl refl refl
+met s tag secret unknown = counts refl refl refl
 
 pub contact-counted : (id : ContactId) (v : Verification) → Counts hostContact (contact id v)
 unfolding perform setContact
-contact-counted id v = of-call hostContact (contact id v) (λ why. counts refl refl) (λ s. counts refl refl)
+contact-counted id v = of-call hostContact (contact id v) (λ why. counts refl refl refl) (λ s. counts refl refl refl)
 
 pub setting-counted : (enabled : Bool) (copies lifetime : ℕ) → Counts hostContact (setting enabled copies lifetime)
 unfolding perform setConfig
-setting-counted enabled copies lifetime = of-call hostContact (setting enabled copies lifetime) (λ why. counts refl refl) (λ s. counts refl refl)
+setting-counted enabled copies lifetime = of-call hostContact (setting enabled copies lifetime) (λ why. counts refl refl refl) (λ s. counts refl refl refl)
 
 pub clock-counted : (seconds : ℕ) → Counts hostContact (clock seconds)
 unfolding perform setClock
-clock-counted seconds = of-call hostContact (clock seconds) (λ why. counts refl refl) (λ s. counts refl refl)
+clock-counted seconds = of-call hostContact (clock seconds) (λ why. counts refl refl refl) (λ s. counts refl refl refl)
 
 pub exchange-counted : (peer : ContactId) → Counts hostExchange (openExchange peer)
 unfolding perform openExchanged
-exchange-counted peer = of-call hostExchange (openExchange peer) (λ why. counts refl refl) (λ s. counts refl refl)
+exchange-counted peer = of-call hostExchange (openExchange peer) (λ why. counts refl refl refl) (λ s. counts refl refl refl)
 
 pub envelope-counted : (replies actions : ℕ) (area : List ℕ) (peer : ContactId) (head : Header) (ct : List ℕ) → Counts hostEnvelope (envelope replies actions area peer head ct)
 unfolding perform receiveEnvelope oursAt answerCustody envelopeSays
-envelope-counted replies actions area peer head ct = of-call hostEnvelope (envelope replies actions area peer head ct) (λ why. counts refl refl) (λ s. by-place (CountedBy hostEnvelope) (lookup (windowRows area) (head .tag)) (λ i. counts refl refl) (counts refl refl))
+envelope-counted replies actions area peer head ct = of-call hostEnvelope (envelope replies actions area peer head ct) (λ why. counts refl refl refl) (λ s. by-place (CountedBy hostEnvelope) (lookup (windowRows area) (head .tag)) (λ i. counts refl refl refl) (counts refl refl refl))
 
 pub inventory-counted : (replies : ℕ) (area : List ℕ) (peer : ContactId) (listed : List ℕ) → Counts hostInventory (inventoryReceived replies area peer listed)
 unfolding perform receiveInventory answerInventory listMore
-inventory-counted replies area peer listed = of-call hostInventory (inventoryReceived replies area peer listed) (λ why. counts refl refl) (λ s.
-    by-test (CountedBy hostInventory) (tooMany (s .session .exchange) (length (prefixRows listed))) (counts refl refl)
-    (by-test (CountedBy hostInventory) (eqb (length (prefixRows listed)) 0) (counts refl refl) (counts refl refl)))
+inventory-counted replies area peer listed = of-call hostInventory (inventoryReceived replies area peer listed) (λ why. counts refl refl refl) (λ s.
+    by-test (CountedBy hostInventory) (tooMany (s .session .exchange) (length (prefixRows listed))) (counts refl refl refl)
+    (by-test (CountedBy hostInventory) (eqb (length (prefixRows listed)) 0) (counts refl refl refl) (counts refl refl refl)))
 
 pub code-counted : (actions : ℕ) (peer : ContactId) (tag : List ℕ) (k : Custody) → Counts hostCode (custodyAnswer actions peer tag k)
 unfolding perform receiveCustody settle
-code-counted actions peer tag k = of-call hostCode (custodyAnswer actions peer tag k) (λ why. counts refl refl) (λ s. by-place (CountedBy hostCode) (position (offerOfTag tag) (s .session .exchange .offered)) (λ i. counts refl refl) (counts refl refl))
+code-counted actions peer tag k = of-call hostCode (custodyAnswer actions peer tag k) (λ why. counts refl refl refl) (λ s. by-place (CountedBy hostCode) (position (offerOfTag tag) (s .session .exchange .offered)) (λ i. counts refl refl refl) (counts refl refl refl))
 
 pub tomb-counted : (actions : ℕ) (peer : ContactId) (tag secret : List ℕ) → Counts hostTomb (tomb actions peer tag secret)
 unfolding perform
-tomb-counted actions peer tag secret = of-call hostTomb (tomb actions peer tag secret) (λ why. counts refl refl) (λ s. met s tag secret (meets (s .own) (s .carried) tag secret))
+tomb-counted actions peer tag secret = of-call hostTomb (tomb actions peer tag secret) (λ why. counts refl refl refl) (λ s. met s tag secret (meets (s .own) (s .carried) tag secret))
 
 pub opened-counted : (replies actions : ℕ) (peer : ContactId) (tag secret : List ℕ) (expiry : ℕ) → Counts hostTomb (opened replies actions peer tag secret expiry)
 unfolding perform reportOpened
-opened-counted replies actions peer tag secret expiry = of-call hostTomb (opened replies actions peer tag secret expiry) (λ why. counts refl refl) (λ s. counts refl refl)
+opened-counted replies actions peer tag secret expiry = of-call hostTomb (opened replies actions peer tag secret expiry) (λ why. counts refl refl refl) (λ s. counts refl refl refl)
 
 pub failed-counted : (peer : ContactId) (tag : List ℕ) → Counts hostTomb (failed peer tag)
 unfolding perform reportFailed
-failed-counted peer tag = of-call hostTomb (failed peer tag) (λ why. counts refl refl) (λ s. counts refl refl)
+failed-counted peer tag = of-call hostTomb (failed peer tag) (λ why. counts refl refl refl) (λ s. counts refl refl refl)
 
 pub stored-counted : (actions : ℕ) (tag secret : List ℕ) (expiry : ℕ) → Counts hostStored (storedTombstone actions tag secret expiry)
 unfolding perform stored
-stored-counted actions tag secret expiry = of-call hostStored (storedTombstone actions tag secret expiry) (λ why. counts refl refl) (λ s. counts refl refl)
+stored-counted actions tag secret expiry = of-call hostStored (storedTombstone actions tag secret expiry) (λ why. counts refl refl refl) (λ s. counts refl refl refl)
 
 pub own-counted : (id : ContactId) (msgno : ℕ) (key : List ℕ) (dir : Dir) (generation idx : ℕ) (secret ct : List ℕ) → Counts hostOwn (addOwn id msgno key dir generation idx secret ct)
 unfolding perform ownEnvelope makeOwn
-own-counted id msgno key dir generation idx secret ct = of-call hostOwn (addOwn id msgno key dir generation idx secret ct) (λ why. counts refl refl) (λ s. by-test (CountedBy hostOwn) (noneMade (s .own) (length ct)) (counts refl refl) (counts refl refl))
+own-counted id msgno key dir generation idx secret ct = of-call hostOwn (addOwn id msgno key dir generation idx secret ct) (λ why. counts refl refl refl) (λ s. by-test (CountedBy hostOwn) (noneMade (s .own) (length ct)) (counts refl refl refl) (counts refl refl refl))
 
 pub maintenance-counted : (actions : ℕ) → Counts hostMaintained (maintenance actions)
 unfolding perform maintainCouriers
-maintenance-counted actions = of-call hostMaintained (maintenance actions) (λ why. counts refl refl) (λ s. counts refl refl)
+maintenance-counted actions = of-call hostMaintained (maintenance actions) (λ why. counts refl refl refl) (λ s. counts refl refl refl)
 
 pub listed-counted : (prefixes : ℕ) (peer : ContactId) → Counts hostListed (inventoryOfOurs prefixes peer)
 unfolding perform listInventory
-listed-counted prefixes peer = of-call hostListed (inventoryOfOurs prefixes peer) (λ why. counts refl refl) (λ s. counts refl refl)
+listed-counted prefixes peer = of-call hostListed (inventoryOfOurs prefixes peer) (λ why. counts refl refl refl) (λ s. counts refl refl refl)
 
 pub blob-counted : (area slot : ℕ) → Counts hostBlob (rowBlob area slot)
 unfolding perform rowBlobOf
-blob-counted area slot = of-call hostBlob (rowBlob area slot) (λ why. counts refl refl) (λ s. by-found (CountedBy hostBlob) (find (λ (h : Slotted). eqb (h .slot) slot) (heldRows s)) (λ h. counts refl refl) (counts refl refl))
+blob-counted area slot = of-call hostBlob (rowBlob area slot) (λ why. counts refl refl refl) (λ s. by-found (CountedBy hostBlob) (find (λ (h : Slotted). eqb (h .slot) slot) (heldRows s)) (λ h. counts refl refl refl) (counts refl refl refl))
 
 pub save-counted : (file : ℕ) → Counts hostSave (save file)
 unfolding perform saveHeld
-save-counted file = of-call hostSave (save file) (λ why. counts refl refl) (λ s. counts refl refl)
+save-counted file = of-call hostSave (save file) (λ why. counts refl refl refl) (λ s. counts refl refl refl)
 
 pub page-counted : (area number : ℕ) → Counts hostPage (page area number)
 unfolding perform showPage
-page-counted area number = of-call hostPage (page area number) (λ why. counts refl refl) (λ s. counts refl refl)
+page-counted area number = of-call hostPage (page area number) (λ why. counts refl refl refl) (λ s. counts refl refl refl)
 
 pub load-counted : (file : List ℕ) (s : State) → CountedBy hostLoad (loadStep s file)
 unfolding loadHeldRows
 load-counted file s =
-    of-load (CountedBy hostLoad) s file (λ why. counts refl refl) (counts refl refl)
+    of-load (CountedBy hostLoad) s file (λ why. counts refl refl refl) (counts refl refl refl)
 
 -- ---- a count that the code writes down: one reply where a report is done or a fetch finds an envelope, none of a tomb or a failure
 
@@ -220,10 +220,10 @@ unfolding step perform reportFailed
 failed-counts peer tag s = of-step (Replies 0) (tests s (failed peer tag)) (perform s (failed peer tag)) (λ why. refl) refl
 
 -- a fetch of no reply, by the two tests on its number
-no-reply : (a b : Bool) (n : ℕ) (o : Result) → 0 ≡ length (o .replies) → 0 ≡ length (o .actions) → Counted (cond a (answered 0 0 0 0) (cond b (answered 130 0 0 0) (answered n 0 0 0))) o
-no-reply true b n o p q = counts p q
-no-reply false true n o p q = counts p q
-no-reply false false n o p q = counts p q
+no-reply : (a b : Bool) (n : ℕ) (o : Result) → 0 ≡ length (o .replies) → 0 ≡ length (o .actions) → Length (o .answer) 0 → Counted (cond a (answered 0 0 0 0) (cond b (answered 130 0 0 0) (answered n 0 0 0))) o
+no-reply true b n o p q l = counts p q l
+no-reply false true n o p q l = counts p q l
+no-reply false false n o p q l = counts p q l
 
 -- a fetch that is refused: its number is not 0, and the count is not looked at
 unread : (n : ℕ) → isOther n ≡ false → (k l len : ℕ) → fetchAnswer k n len ≡ fetchAnswer l n len
@@ -240,8 +240,8 @@ module _ (own carried : List ℕ) where
   pub fetch-counted : (replies : ℕ) (peer : ContactId) (tag : List ℕ) → Counts hostFetch (fetch replies peer tag)
   unfolding perform receiveFetch fetched
   fetch-counted replies peer tag =
-      of-call hostFetch (fetch replies peer tag) (λ why. no-reply (eqb (refusalNumber why) 0) (eqb (refusalNumber why) 255) (refusalNumber why) (only (refused why)) refl refl)
-      (λ s. by-found (CountedBy hostFetch) (find (envelopeOfTag tag) (envelopes (s .own) (s .carried) peer)) (λ e. counts refl refl) (counts refl refl))
+      of-call hostFetch (fetch replies peer tag) (λ why. no-reply (eqb (refusalNumber why) 0) (eqb (refusalNumber why) 255) (refusalNumber why) (only (refused why)) refl refl refl)
+      (λ s. by-found (CountedBy hostFetch) (find (envelopeOfTag tag) (envelopes (s .own) (s .carried) peer)) (λ e. counts refl refl tt) (counts refl refl refl))
 
   finding : (s : State) (f : Option Envelope) → Fetches (matchSome f (fetched s) (only missing))
   unfolding fetched

@@ -1,13 +1,13 @@
 -- Laws of the deletions: the slots of two tables merged, one row further at a time.
 -- Assumes nothing.
 use mathlib.Core.Path.{_≡_, refl, sym, ap, ap₂, _∙_}
-use mathlib.Core.Bool.{Bool, true, false, cond}
+use mathlib.Core.Bool.{Bool, true, false}
 use mathlib.Core.List.{List, [], _∷_, _++_, map, map-append, append-assoc, append-nil}
-use Prim.Native.Nat.{ℕ, suc, _+_, _*_, _≤_, _<_}
+use Prim.Native.Nat.{ℕ, _+_, _*_, _≤_, _<_}
 use native.Mathlib.Omega.{arith}
 use lib.ListN.{length, drop, length-map, drop-of-length-le}
-use lib.Dec.{leb, ltb}
-use borrow.Author.Tests.{le-leb, lt-leb, ltb-true, ltb-false}
+use lib.Dec.{ltb}
+use borrow.Author.Tests.{ltb-true, ltb-false}
 use Rattle.octets.specs.Bytes.{splice}
 use Rattle.table.specs.Lists.{filter}
 use Rattle.table.proofs.ListLaws.{length-filter}

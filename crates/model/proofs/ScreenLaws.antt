@@ -1,6 +1,6 @@
 -- Laws of the screen page: a line's length, minutes left, and all pages of a post.
 -- Assumes nothing.
-use mathlib.Core.Path.{_≡_, refl, sym, ap, ap₂, _∙_, subst}
+use mathlib.Core.Path.{_≡_, refl, sym, ap, ap₂, _∙_}
 use mathlib.Core.Bool.{Bool, true, false, cond}
 use mathlib.Core.List.{List, [], _∷_, _++_, map, map-append, append-nil, Perm}
 use Prim.Native.Nat.{ℕ, zero, suc, _+_, _*_, _-_, _≤_, _<_, min}
@@ -9,7 +9,6 @@ use lib.ListN.{length, take, drop, length-append, length-map, length-take, lengt
 use lib.Seq.{length-take-le, take-add, take-append-seam, drop-append-seam}
 use lib.Dec.{ltb}
 use borrow.Author.Tests.{lt-ltb, le-ltb}
-use Rattle.octets.specs.Bytes.{part}
 use Rattle.octets.proofs.Parts.{length-part}
 use Rattle.core.specs.declared.Refusal.the-variants as refusal
 use Rattle.table.specs.Lists.{All}
@@ -18,13 +17,10 @@ use Rattle.table.specs.Rows.{held as heldOf, rows, join}
 use Rattle.table.specs.Codec.{Codec, tableOf}
 use Rattle.table.proofs.ListLaws.{all-append, all-take, all-drop, all-imp, all-map}
 use Rattle.table.proofs.RowLaws.{held-inside, wide-rows, join-append, length-join}
-use Rattle.columns.specs.Columns.{blank, blanks, column, hexes}
+use Rattle.columns.specs.Columns.{blanks, column, hexes}
 use Rattle.columns.proofs.ColumnLaws.{length-column, length-hexes}
-use Rattle.rows.specs.declared.Carried.{Carried}
-use Rattle.rows.specs.declared.Tombstone.{Tombstone}
 use Rattle.rows.specs.Rows.{carriedCodec, carriedOf, tombstoneCodec, tombstoneOf}
-use Rattle.rows.specs.Proper.{ProperCarried, ProperTombstone}
-use Rattle.model.specs.Basics.{merge, trunc8}
+use Rattle.model.specs.Basics.{trunc8}
 use Rattle.model.specs.State.{State}
 use Rattle.model.specs.Calls
 use Rattle.model.specs.Calls.{Result, wrote}

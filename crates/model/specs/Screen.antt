@@ -28,7 +28,7 @@ abbrev pub slotOf : HeldRow → ℕ
 slotOf (carriedRow r) = r .slot
 slotOf (tombstoneRow t) = t .slot
 
--- every held row, by slot: in the order of maintenance and of the saved file
+-- every held row, by slot: in the order of the saved file
 unfoldable pub shown : State → List HeldRow
 shown s = merge slotOf (map carriedRow (s .carried)) (map tombstoneRow (s .tombstones))
 

@@ -4,7 +4,7 @@ use Prim.Native.Nat.{ℕ, _<_}
 use mathlib.Core.Path.{_≡_}
 use mathlib.Core.List.{List}
 use Rattle.model.specs.Calls
-use Rattle.model.specs.Step.{Post, Lent, step, answerTo}
+use Rattle.model.specs.Step.{Post, step, answerTo}
 use Rattle.model.specs.Screen.{HeldRow, slotOf}
 use Rattle.model.specs.Pages.{ScreenPages}
 use Rattle.history.specs.Order.{Sorted}

@@ -8,7 +8,7 @@ use native.Mathlib.Omega.{arith}
 use lib.ListN.{length, drop, length-append, length-take}
 use lib.Dec.{eqb}
 use Rattle.octets.specs.Bytes.{part, splice, num}
-use Rattle.octets.proofs.Parts.{part-part, length-part}
+use Rattle.octets.proofs.Parts.{length-part}
 use Rattle.octets.proofs.Numbers.{length-be}
 use Rattle.courier.specs.Courier.{headerBytes}
 use Rattle.table.specs.declared.Found.the-variants.{At, Nothing}

@@ -25,7 +25,7 @@ use Rattle.rows.specs.declared.Tombstone.{Tombstone}
 use Rattle.rows.specs.Rows.{carriedCodec, carriedOf, tombstoneCodec, tombstoneOf}
 use Rattle.model.specs.Basics.{find, matchSome}
 use Rattle.model.specs.State.{nothing}
-use Rattle.model.specs.Calls.{Call, Result, rowBlob, missing, only}
+use Rattle.model.specs.Calls.{Call, rowBlob, missing, only}
 use Rattle.model.specs.Saved.{Slotted, carriedHeld, tombstoneHeld, heldRows, writes, blobTests, rowBlobOf}
 use Rattle.model.specs.Exchange.{noCarried}
 use Rattle.model.specs.Tombs.{noTombstone}

@@ -30,7 +30,7 @@ use Rattle.by_slot.specs.BySlot.{rowsLeft}
 use Rattle.screen.specs.declared.Turn.{Turn}
 use Rattle.screen.specs.declared.PageAnswer.{PageAnswer}
 use Rattle.screen.specs.declared.PageAnswer.the-variants as pageAnswer
-use Rattle.screen.specs.Page.{left, InTables, Passed, RowsFit, RowsPut, pageSays, heldIn}
+use Rattle.screen.specs.Page.{left, Passed, RowsFit, RowsPut, pageSays, heldIn}
 
 -- ---- a part of a list, where the list may end before
 

@@ -1,5 +1,4 @@
 // Text in an area: runs, numbers in decimal, tags in hexadecimal. Each function puts its text at a place and answers the place behind it.
-ghost use mathlib.Core.Path.{_≡_};
 ghost use mathlib.Core.List.{_++_};
 ghost use Prim.Native.Nat.{_+_, _≤_};
 ghost use lib.ListN.{length};

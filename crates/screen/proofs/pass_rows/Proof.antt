@@ -1,10 +1,9 @@
 -- So many rows are passed, and the rest is left.
 use mathlib.Core.Path.{_≡_}
-use Prim.Native.Nat.{ℕ, _+_, _-_, _≤_}
+use Prim.Native.Nat.{_+_, _-_, _≤_}
 use native.Mathlib.Omega.{arith}
 use Rattle.screen.specs.Page.{Passed}
 use Rattle.screen.proofs.RowLaws.{turn, passed-start, passed-carried, passed-tombstone, passed-end}
-use borrow.Author.Needs.{needs}
 use Rattle.screen.proofs.pass_rows.Statement.{statement}
 use Rattle.screen.proofs.pass_rows.Tie as tie
 

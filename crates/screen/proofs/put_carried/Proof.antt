@@ -4,7 +4,7 @@ use native.Mathlib.Omega.{arith}
 use lib.ListN.{length}
 use Rattle.model.specs.Screen.{screenLine}
 use Rattle.model.proofs.ScreenLaws.{length-front, length-minutes, length-carried-end}
-use Rattle.screen.proofs.LineLaws.{Put, behind}
+use Rattle.screen.proofs.LineLaws.{behind}
 use borrow.Author.Needs.{needs}
 use Rattle.screen.proofs.put_carried.Statement.{statement}
 use Rattle.screen.proofs.put_carried.Tie as tie

@@ -3,7 +3,7 @@ use mathlib.Core.Path.{refl}
 use native.Mathlib.Omega.{arith}
 use Rattle.columns.proofs.ColumnLaws.{length-column}
 use Rattle.model.specs.Screen.{carriedEnd}
-use Rattle.screen.proofs.LineLaws.{Put, behind}
+use Rattle.screen.proofs.LineLaws.{behind}
 use borrow.Author.Needs.{needs}
 use Rattle.screen.proofs.put_carried_end.Statement.{statement}
 use Rattle.screen.proofs.put_carried_end.Tie as tie

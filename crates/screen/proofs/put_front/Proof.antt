@@ -5,7 +5,7 @@ use lib.ListN.{length}
 use Rattle.columns.proofs.ColumnLaws.{length-column}
 use Rattle.model.specs.Screen.{lineFront}
 use Rattle.model.proofs.ScreenLaws.{length-prefix}
-use Rattle.screen.proofs.LineLaws.{Put, behind}
+use Rattle.screen.proofs.LineLaws.{behind}
 use borrow.Author.Needs.{needs}
 use Rattle.screen.proofs.put_front.Statement.{statement}
 use Rattle.screen.proofs.put_front.Tie as tie

@@ -2,7 +2,7 @@
 use mathlib.Core.Path.{refl}
 use native.Mathlib.Omega.{arith}
 use Rattle.model.specs.Screen.{heading}
-use Rattle.screen.proofs.LineLaws.{Put, behind}
+use Rattle.screen.proofs.LineLaws.{behind}
 use borrow.Author.Needs.{needs}
 use Rattle.screen.proofs.put_heading.Statement.{statement}
 use Rattle.screen.proofs.put_heading.Tie as tie

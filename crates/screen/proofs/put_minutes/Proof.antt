@@ -1,7 +1,5 @@
 -- Minutes are left, or the row is past.
 use mathlib.Core.Path.{sym, ap, _∙_}
-use mathlib.Core.List.{List}
-use Prim.Native.Nat.{ℕ}
 use Rattle.octets.specs.Bytes.{splice}
 use Rattle.model.proofs.ScreenLaws.{minutes-left, minutes-past}
 use borrow.Author.Needs.{needs}

@@ -1,8 +1,7 @@
 -- The lines of the rows so far stand behind the heading, and the other rows are left.
-use Prim.Native.Nat.{ℕ, _-_, _≤_}
+use Prim.Native.Nat.{_-_, _≤_}
 use native.Mathlib.Omega.{arith}
-use mathlib.Core.Path.{_≡_, subst}
-use Rattle.screen.specs.Page.{Showing, RowsPut}
+use Rattle.screen.specs.Page.{Showing}
 use Rattle.screen.proofs.RowLaws.{showing-start, showing-more, showing-end}
 use borrow.Author.Needs.{needs}
 use Rattle.screen.proofs.put_rows.Statement.{statement}
