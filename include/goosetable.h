@@ -377,15 +377,15 @@ goosetable_answer goosetable_inventory_of_ours(
 
 /*
  * A list of prefixes from a peer, gathered in the exchange; the empty list is the terminator and is answered: fetches for listed prefixes in the
- * window, in listed order, unless the tag of the first such row is bad for this peer; then the tombs of listed prefixes; then offers, which are
- * envelopes with half of the copies, own rows before carried rows, but none with copies 1 or 0, of a tombstoned tag or a listed prefix, nor own
- * ones for this peer. goosetable_ciphertext and goosetable_ciphertext_length have the ciphertext of an offer; a fetch would write its own reply,
- * with all of the copies, over the replies that are being read. Rows are looked up in the window for the terminator alone, but all of it is tested
- * (12, 2) with each list, which takes its time: lend an empty window until the terminator. MALFORMED: over 512 prefixes in all, or any list after
- * the terminator.
+ * window, in listed order, unless the tag of the first such row is bad for this peer or a tombstone has it; then the tombs of listed prefixes;
+ * then offers, which are envelopes with half of the copies, own rows before carried rows, but none with copies 1 or 0, of a tombstoned tag or a
+ * listed prefix, nor own ones for this peer. goosetable_ciphertext and goosetable_ciphertext_length have the ciphertext of an offer; a fetch would
+ * write its own reply, with all of the copies, over the replies that are being read. Rows are looked up in the window for the terminator alone, but
+ * all of it is tested (12, 2) with each list, which takes its time: lend an empty window until the terminator. MALFORMED: over 512 prefixes in all,
+ * or any list after the terminator.
  * Writes: exchange, prefixes, offers, replies.
  * Refused by: 1 (replies, prefixes, offers), 12, 2, 3.
- * Stack: 3,672 bytes.
+ * Stack: 3,704 bytes.
  */
 goosetable_answer goosetable_inventory(
     const uint8_t device[GOOSETABLE_DEVICE_SIZE],
@@ -675,10 +675,10 @@ goosetable_row goosetable_row_read(const uint8_t *blob, size_t blob_len);
 /* ---- the version */
 
 /* Of header and library alike. The first two numbers change whenever a struct, a size, what a number means or a function's parameters do. */
-#define GOOSETABLE_VERSION "0.2.1"
+#define GOOSETABLE_VERSION "0.2.2"
 #define GOOSETABLE_VERSION_MAJOR 0
 #define GOOSETABLE_VERSION_MINOR 2
-#define GOOSETABLE_VERSION_PATCH 1
+#define GOOSETABLE_VERSION_PATCH 2
 
 /*
  * The version of the library: major * 10,000 + minor * 100 + patch. Its name has the first two numbers.

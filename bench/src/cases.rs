@@ -106,12 +106,17 @@ fn exchanges() -> Vec<Case> {
         expected: Replies(|rows| 6 * rows),
         ..ended.on(Shape::with_window)
     };
+    let delivered = Case {
+        name: "inventory received, 5,000 window rows, those listed tombstoned: its end",
+        ..ended.on(Shape::with_delivered)
+    };
     vec![
         list,
         Case { name: "inventory received, 5,000 window rows: 512 prefixes listed", ..list.on(Shape::with_window) },
         ended,
         with_window,
         Case { name: "the same, the source's tags computed", ..with_window.forgetting() },
+        delivered,
         changes("custody code: Accepted, the last carried row", RECORD, calls::accepted_last_carried, Actions(|_| 1)),
         changes("custody code: Accepted, the last own row", RECORD, calls::accepted_last_own, Actions(|_| 1)),
         changes("custody code: Full, the last offer", RECORD, calls::full_last_carried, Nothing),

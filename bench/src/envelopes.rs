@@ -21,6 +21,7 @@ const SHAPE: Shape = Shape {
     window: 0,
     bad_tags: 0,
     at_quota: false,
+    delivered: false,
 };
 
 /// Half of them have the tag of a carried row, spread over all rows; the others have one that no row has.

@@ -29,6 +29,8 @@ pub struct Shape {
     pub bad_tags: usize,
     /// Whether the last sixteen carried rows are those of the peer, who is not verified.
     pub at_quota: bool,
+    /// Whether the last tombstones have the tags of the last window rows; else they have their prefixes alone.
+    pub delivered: bool,
 }
 
 impl Shape {
@@ -43,12 +45,18 @@ impl Shape {
             window: 0,
             bad_tags: rows,
             at_quota: false,
+            delivered: false,
         }
     }
 
     /// With 5,000 window rows at 256.
     pub fn with_window(rows: usize) -> Self {
         Self { window: 5_000 * rows / 256, ..Self::of(rows) }
+    }
+
+    /// With the listed of them tombstoned.
+    pub fn with_delivered(rows: usize) -> Self {
+        Self { delivered: true, ..Self::with_window(rows) }
     }
 }
 
@@ -117,12 +125,13 @@ impl Shape {
         Held::Carried { depositor: depositor as u64, envelope: envelope(number, LENGTHS[from_end % LENGTHS.len()]) }
     }
 
-    /// The last ones share their prefixes with the last window rows. The first has the least expiry.
+    /// The last ones share their prefixes, or whole tags, with the last window rows. The first has the least expiry.
     fn tombstone(&self, number: usize, window: &[WindowRow]) -> Held {
         let mut tag = sixteen(b'T', number);
         let from_end = self.tombstones - number;
         if from_end <= self.listed.min(window.len()) {
-            tag[..8].copy_from_slice(&window[window.len() - from_end].tag[..8]);
+            let shared = if self.delivered { 16 } else { 8 };
+            tag[..shared].copy_from_slice(&window[window.len() - from_end].tag[..shared]);
         }
         Held::Tombstone {
             tag,

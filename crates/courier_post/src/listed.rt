@@ -72,6 +72,21 @@ pub fn fetches() {
     p.listed(&window(), &l);
 }
 
+// Tombstones have the tags 41..01 and 42, which is bad for the peer too, and 43..02, of which the first window row has only the prefix.
+// Those of 41 and 42 expire at minute 20 and go by maintenance.
+pub fn tombstoned_rows() {
+    text(b"a tombstoned tag: no fetch and no second look, and the tomb stays\n");
+    let p = Post::fresh().contact(7).contact(6).contact(5);
+    let p = p.report_failed(5, tag(0x42))
+        .stored_tombstone(tag(0x42), 20);
+    let p = p.stored_tombstone(twin(0x41, 1), 20)
+        .stored_tombstone(twin(0x43, 2), 100);
+    let l = list_of(tag(0x41), tag(0x42), tag(0x43), tag(0x41), tag(0x99));
+    let p = p.at_minute(20);
+    p.listed(&window(), &l);
+    p.maintenance().listed(&window(), &l);
+}
+
 // ---- tombs
 
 // Slot 0 turns into a tombstone after slot 1 is stored; both have the prefix. The offer of slot 3 comes last.

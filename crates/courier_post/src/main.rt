@@ -12,6 +12,7 @@ pub fn main() {
     time::lifetime_end();
     time::accepted();
     listed::fetches();
+    listed::tombstoned_rows();
     listed::tombs();
     listed::offers();
     listed::tombstoned();

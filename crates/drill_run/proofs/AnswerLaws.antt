@@ -257,7 +257,7 @@ module _ (s : State) (g : Good s) where
       go (option.some e) p = replying s _ (replyFor e) _ (envelope-proper e p)
 
   -- the window is empty: nothing is fetched
-  no-fetch : (peer : ContactId) (ps : List (List ℕ)) → flatMap (fetchFor (s .badTags) (windowRows []) peer) ps ≡ []
+  no-fetch : (peer : ContactId) (ps : List (List ℕ)) → flatMap (fetchFor (s .badTags) (s .tombstones) (windowRows []) peer) ps ≡ []
   unfolding flatMap fetchFor lookup windowRows tableOf held rows positionFrom
   no-fetch peer [] = refl
   no-fetch peer (p ∷ ps) = no-fetch peer ps
@@ -290,7 +290,7 @@ module _ (s : State) (g : Good s) where
       let tombs : List Reply = flatMap (tombFor (s .tombstones)) ps in
       let t : All ProperReply tombs × (length tombs ≤ length ps) = flat-each (tombFor (s .tombstones)) tomb-of ps in
       let shown : List Reply = map replyFor (offers s peer) in
-      let fetches : List Reply = flatMap (fetchFor (s .badTags) (windowRows []) peer) ps in
+      let fetches : List Reply = flatMap (fetchFor (s .badTags) (s .tombstones) (windowRows []) peer) ps in
       record {
         replies = all-append (fetches ++ tombs) shown
             (all-append fetches tombs (subst (All ProperReply) (sym (no-fetch peer ps)) none) (t .0)) (offers-whole peer);

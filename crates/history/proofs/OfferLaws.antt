@@ -30,8 +30,8 @@ use Rattle.rows.specs.Proper.{Run}
 use Rattle.model.specs.Basics.{matchFound, matchSome, find}
 use Rattle.model.specs.State.{State}
 use Rattle.model.specs.Calls.{fetchReply, tombReply}
-use Rattle.model.specs.Window.{noReachable, lookup, isBad}
-use Rattle.model.specs.Exchange.{Envelope, ownEnvelopeOf, carriedEnvelopeOf, notFor, envelopes, replyFor, isOffered, halved, offers, offerOfTag, noOffer, insertOffer, insertOffers, fetchFor, hasPrefix, tombFor}
+use Rattle.model.specs.Window.{noReachable, lookup}
+use Rattle.model.specs.Exchange.{Envelope, ownEnvelopeOf, carriedEnvelopeOf, notFor, envelopes, replyFor, isOffered, halved, offers, offerOfTag, noOffer, insertOffer, insertOffers, notFetched, fetchFor, hasPrefix, tombFor}
 use Rattle.model.specs.Good.{Good}
 use Rattle.model.proofs.HashLaws.{sha384-run}
 use Rattle.history.specs.Order.{Sorted}
@@ -189,17 +189,18 @@ unfolding flatMap
 all-flat f [] h = none
 all-flat f (x ∷ xs) h = all-append (f x) (flatMap f xs) (h x) (all-flat f xs h)
 
-fetch-kind : (bad : List BadTag) (window : List Reachable) (peer : ContactId) (prefix : List ℕ) → All (λ (r : Reply). eqb (r .kind) 1 ≡ false) (fetchFor bad window peer prefix)
+fetch-kind : (bad : List BadTag) (ts : List Tombstone) (window : List Reachable) (peer : ContactId) (prefix : List ℕ)
+    → All (λ (r : Reply). eqb (r .kind) 1 ≡ false) (fetchFor bad ts window peer prefix)
 unfolding fetchFor
-fetch-kind bad window peer prefix = go (lookup window prefix)
+fetch-kind bad ts window peer prefix = go (lookup window prefix)
   where
     by : (b : Bool) (t : List ℕ) → All (λ (r : Reply). eqb (r .kind) 1 ≡ false) (cond b [] (fetchReply t ∷ []))
     by true t = none
     by false t = more refl none
 
     go : (f : Found) → All (λ (r : Reply). eqb (r .kind) 1 ≡ false)
-        (matchFound f (λ i. cond (isBad bad peer (getD window i noReachable .tag)) [] (fetchReply (getD window i noReachable .tag) ∷ [])) [])
-    go (At i) = by (isBad bad peer (getD window i noReachable .tag)) (getD window i noReachable .tag)
+        (matchFound f (λ i. cond (notFetched bad ts peer (getD window i noReachable .tag)) [] (fetchReply (getD window i noReachable .tag) ∷ [])) [])
+    go (At i) = by (notFetched bad ts peer (getD window i noReachable .tag)) (getD window i noReachable .tag)
     go Nothing = none
 
 tomb-kind : (ts : List Tombstone) (prefix : List ℕ) → All (λ (r : Reply). eqb (r .kind) 1 ≡ false) (tombFor ts prefix)
@@ -240,14 +241,14 @@ module _ (s : State) (g : Good s) (peer : ContactId) where
 
   -- the replies of the empty inventory say what it offers
   pub terminator-sent : (tag : List ℕ) (window : List Reachable) (listed : List (List ℕ)) → offeredCopies (insertOffers (offers s peer) []) tag
-      ≡ lastSent tag 0 (flatMap (fetchFor (s .badTags) window peer) listed ++ flatMap (tombFor (s .tombstones)) listed ++ map replyFor (offers s peer))
+      ≡ lastSent tag 0 (flatMap (fetchFor (s .badTags) (s .tombstones) window peer) listed ++ flatMap (tombFor (s .tombstones)) listed ++ map replyFor (offers s peer))
   unfolding positionFrom
   terminator-sent tag window listed =
-      let fetches : List Reply = flatMap (fetchFor (s .badTags) window peer) listed in
+      let fetches : List Reply = flatMap (fetchFor (s .badTags) (s .tombstones) window peer) listed in
       let tombs : List Reply = flatMap (tombFor (s .tombstones)) listed in
       offered-sent tag (offers s peer) [] offers-whole
       ∙ sym (not-sent tag 0 (fetches ++ tombs) (map replyFor (offers s peer))
-      (all-append fetches tombs (all-flat (fetchFor (s .badTags) window peer) listed (λ prefix. fetch-kind (s .badTags) window peer prefix))
+      (all-append fetches tombs (all-flat (fetchFor (s .badTags) (s .tombstones) window peer) listed (λ prefix. fetch-kind (s .badTags) (s .tombstones) window peer prefix))
       (all-flat (tombFor (s .tombstones)) listed (λ prefix. tomb-kind (s .tombstones) prefix))))
 
 -- ---- one offer a tag

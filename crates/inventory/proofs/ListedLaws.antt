@@ -27,6 +27,7 @@ use Rattle.model.specs.Basics.{find}
 use Rattle.model.specs.Calls.{fetchReply, tombReply}
 use Rattle.model.specs.Window.{noReachable, windowRows, prefixCodec, lookup, isBad}
 use Rattle.model.specs.Exchange.{fetchFor, hasPrefix, tombFor}
+use Rattle.model.specs.Tombs.{tombstoned}
 use Rattle.inventory.specs.Inventory.{Appended, tombOf}
 use Rattle.inventory.proofs.AppendLaws.{append-none, append-one, Filling, filling-start, filling-next, filling-end, map-flat}
 
@@ -66,9 +67,9 @@ module _ (window prefix : List ℕ) (i : ℕ) (e : At i ≡ lookup (windowRows w
   window-tag =
       ap (λ (r : Reachable). r .tag) (getD-table reachableCodec (length window / 30) window i noReachable inside) ∙ part-part window (i * 30) 30 14 16 (omega arith)
 
-module _ (bad : List BadTag) (window : List ℕ) (peer : ContactId) (prefix a x : List ℕ) (k : ℕ) where
+module _ (bad : List BadTag) (ts : List Tombstone) (window : List ℕ) (peer : ContactId) (prefix a x : List ℕ) (k : ℕ) where
   abbrev F : List (List ℕ)
-  F = map replyBytes (fetchFor bad (windowRows window) peer prefix)
+  F = map replyBytes (fetchFor bad ts (windowRows window) peer prefix)
 
   pub fetch-none : Nothing ≡ lookup (windowRows window) prefix → Appended 40 a k F k a
   unfolding fetchFor
@@ -82,11 +83,16 @@ module _ (bad : List BadTag) (window : List ℕ) (peer : ContactId) (prefix a x 
     unfolding fetchFor
     fetch-bad b = rw (sym e, found-tag, b) (append-none 40 a k)
 
-    pub fetch-put : isBad bad peer tag ≡ false → k * 40 + 40 ≤ length a → x ≡ splice a (k * 40) (replyBytes (fetchReply tag)) → Appended 40 a k F (k + 1) x
-    unfolding fetchFor
-    fetch-put b h ex =
+    pub fetch-tombstoned : isBad bad peer tag ≡ false → tombstoned ts tag ≡ true → Appended 40 a k F k a
+    unfolding fetchFor tombstoned
+    fetch-tombstoned b d = rw (sym e, found-tag, b, d) (append-none 40 a k)
+
+    pub fetch-put : isBad bad peer tag ≡ false → tombstoned ts tag ≡ false → k * 40 + 40 ≤ length a
+        → x ≡ splice a (k * 40) (replyBytes (fetchReply tag)) → Appended 40 a k F (k + 1) x
+    unfolding fetchFor tombstoned
+    fetch-put b d h ex =
         let l : length tag ≡ 16 = ap length t ∙ length-part window (i * 30 + 14) 16 (omega (arith, window-row window prefix i e)) in
-        rw (sym e, found-tag, b) (append-one 40 a x (replyBytes (fetchReply tag)) k (length-fetch tag l) h ex)
+        rw (sym e, found-tag, b, d) (append-one 40 a x (replyBytes (fetchReply tag)) k (length-fetch tag l) h ex)
 
 -- ---- the tomb of a prefix
 

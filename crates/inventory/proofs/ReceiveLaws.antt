@@ -85,18 +85,18 @@ module _ (e : Exchange) (fs ms : List Reply) (es : List Envelope) (replies x y z
 
 -- what the call writes, at the counts that fit
 module _ (d : Device) (e : Exchange) (peer : ContactId) (own carried tombs bad window prefixes : List ℕ) (l : ℕ) (replies offers : List ℕ) where
-  abbrev Fetch : List ℕ → List Reply
-  Fetch = fetchFor (tableOf badTagCodec (d .«bad_tags») bad) (windowRows window) peer
+  abbrev Fetch : List Tombstone → List ℕ → List Reply
+  Fetch ts = fetchFor (tableOf badTagCodec (d .«bad_tags») bad) ts (windowRows window) peer
 
   abbrev Taken : List (List ℕ)
   Taken = tableOf prefixCodec l prefixes
 
   abbrev Ends : Received → List ℕ → List ℕ → List Tombstone → List Own → List Carried → Type 0
   Ends r z w ts os cs =
-      Terminated e (flatMap Fetch Taken ++ flatMap (tombFor ts) Taken ++ map replyFor (offersOf ts Taken (entries peer os cs))) (offersOf ts Taken (entries peer os cs)) replies offers r z w
+      Terminated e (flatMap (Fetch ts) Taken ++ flatMap (tombFor ts) Taken ++ map replyFor (offersOf ts Taken (entries peer os cs))) (offersOf ts Taken (entries peer os cs)) replies offers r z w
 
   pub ended : {r : Received} {x y z w : List ℕ} (n m g : ℕ) {f t k c : ℕ} → n ≡ held (length own) 54 (d .own) → m ≡ held (length carried) 57 (d .carried)
-      → g ≡ held (length tombs) 44 (d .tombstones) → Appended 40 replies 0 (map replyBytes (flatMap Fetch Taken)) f x
+      → g ≡ held (length tombs) 44 (d .tombstones) → Appended 40 replies 0 (map replyBytes (flatMap (Fetch (tableOf tombstoneCodec g tombs)) Taken)) f x
       → Appended 40 x f (map replyBytes (flatMap (tombFor (tableOf tombstoneCodec g tombs)) Taken)) t y
       → Answered (offersOf (tableOf tombstoneCodec g tombs) Taken (entries peer (tableOf ownCodec n own) (tableOf carriedCodec m carried))) y t offers k z c w
       → t * 40 ≤ length replies → r .exchange ≡ completedWith e c → r .said ≡ said.Done k
@@ -105,7 +105,7 @@ module _ (d : Device) (e : Exchange) (peer : ContactId) (own carried tombs bad w
       subst (λ (ts : List Tombstone). Ends r z w ts (tableOf ownCodec (d .own) own) (tableOf carriedCodec (d .carried) carried)) (table-held tombstoneCodec (d .tombstones) _ tombs (omega arith) eg)
       (subst (λ (os : List Own). Ends r z w (tableOf tombstoneCodec g tombs) os (tableOf carriedCodec (d .carried) carried)) (table-held ownCodec (d .own) _ own (omega arith) en)
       (subst (λ (cs : List Carried). Ends r z w (tableOf tombstoneCodec g tombs) (tableOf ownCodec n own) cs) (table-held carriedCodec (d .carried) _ carried (omega arith) em)
-      (terminated e (flatMap Fetch Taken) (flatMap (tombFor (tableOf tombstoneCodec g tombs)) Taken)
+      (terminated e (flatMap (Fetch (tableOf tombstoneCodec g tombs)) Taken) (flatMap (tombFor (tableOf tombstoneCodec g tombs)) Taken)
       (offersOf (tableOf tombstoneCodec g tombs) Taken (entries peer (tableOf ownCodec n own) (tableOf carriedCodec m carried))) replies x y z offers w f t r k c F T A h ex sa)))
 
 -- ---- more prefixes
@@ -201,7 +201,7 @@ module _ (d : Device) (peer : ContactId) (own carried tombs bad window v : List 
       -- the terminator is answered, with these prefixes and these envelopes
       abbrev Ended : Received → List ℕ → List ℕ → List (List ℕ) → List Envelope → Type 0
       Ended r os back ls es =
-          Terminated e (flatMap (fetchFor (tableOf badTagCodec (d .«bad_tags») bad) (windowRows window) peer) ls ++ flatMap (tombFor Tombs) ls ++ map replyFor es) es lent area r back os
+          Terminated e (flatMap (fetchFor (tableOf badTagCodec (d .«bad_tags») bad) Tombs (windowRows window) peer) ls ++ flatMap (tombFor Tombs) ls ++ map replyFor es) es lent area r back os
 
       pub says-answered : (r : Received) (os back : List ℕ) → length v / 8 ≡ 0 → Ended r os back Before (offersOf Tombs Before E) → Says O r prefixes os back
       unfolding answerInventory offers view viewSession store storeDevice storeSession answerAreas withTable written join splice

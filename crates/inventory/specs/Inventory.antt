@@ -156,7 +156,7 @@ pub record Answered (es : List Envelope) (replies : List ℕ) (n : ℕ) (offers 
 -- the replies to the listed prefixes ls: fetches, tombs, then offers
 abbrev pub repliesFor : List BadTag → List Reachable → ContactId → List Tombstone → List (List ℕ) → List Entry → List Reply
 repliesFor bad window peer ts ls es =
-    flatMap (fetchFor bad window peer) ls ++ flatMap (tombFor ts) ls ++ map replyFor (offersOf ts ls es)
+    flatMap (fetchFor bad ts window peer) ls ++ flatMap (tombFor ts) ls ++ map replyFor (offersOf ts ls es)
 
 -- ---- inventory received: the exchange after it
 

@@ -176,8 +176,8 @@ fn prefix_at(listed: &[u8], at: usize) -> [u8; 8]
     t
 }
 
-// Writes a fetch behind the k replies that are there, if the first window row with the prefix has a tag that is not bad for the
-// peer; answers how many there are then.
+// Writes a fetch behind the k replies that are there, if the first window row with the prefix has a tag that is neither bad for the
+// peer nor one of the g tombstones'; answers how many there are then.
 fn push_fetch(
     replies: &mut [u8],
     k: usize,
@@ -185,16 +185,22 @@ fn push_fetch(
     window: &[u8],
     bad_tags: &[u8],
     count: usize,
+    tombstones: &[u8],
+    g: usize,
     peer: ContactId,
 ) -> usize
     requires { ⌜ k * 40 + 40 ≤ length (now replies) ⌝ }
     ensures { λ r. ⌜ Appended 40 (now (replies .entry)) k
-        (map replyBytes (fetchFor (tableOf badTagCodec count (now («bad_tags» .entry))) (windowRows (now (window .entry))) peer prefix)) r (now (replies .exit)) × (r ≤ k + 1) ⌝ }
+        (map replyBytes (fetchFor (tableOf badTagCodec count (now («bad_tags» .entry))) (tableOf tombstoneCodec g (now (tombstones .entry)))
+        (windowRows (now (window .entry))) peer prefix)) r (now (replies .exit)) × (r ≤ k + 1) ⌝ }
 {
     match custody::lookup_prefix(window, prefix) {
         Found::At(i) => {
             let tag = octets::get_16(window, i * rows::REACHABLE_WIDTH + 14);
             if custody::is_bad(bad_tags, count, peer, tag) {
+                return k;
+            }
+            if tombstones::tombstoned(tombstones, g, tag) {
                 return k;
             }
             answers::put_fetch(replies, k * rows::REPLY_WIDTH, tag);
@@ -212,17 +218,30 @@ fn push_fetches(
     window: &[u8],
     bad_tags: &[u8],
     count: usize,
+    tombstones: &[u8],
+    g: usize,
     peer: ContactId,
 ) -> usize
     requires { ⌜ (l * 8 ≤ length (now listed)) × (l * 40 ≤ length (now replies)) ⌝ }
     ensures { λ r. ⌜ Appended 40 (now (replies .entry)) 0
-        (map replyBytes (flatMap (fetchFor (tableOf badTagCodec count (now («bad_tags» .entry))) (windowRows (now (window .entry))) peer) (tableOf prefixCodec l (now (listed .entry))))) r (now (replies .exit)) × (r ≤ l) ⌝ }
+        (map replyBytes (flatMap (fetchFor (tableOf badTagCodec count (now («bad_tags» .entry))) (tableOf tombstoneCodec g (now (tombstones .entry)))
+        (windowRows (now (window .entry))) peer) (tableOf prefixCodec l (now (listed .entry))))) r (now (replies .exit)) × (r ≤ l) ⌝ }
 {
     let mut k = 0;
     let mut i = 0;
     while i < l {
         let prefix = prefix_at(listed, i * 8);
-        k = push_fetch(replies, k, prefix, window, bad_tags, count, peer);
+        k = push_fetch(
+            replies,
+            k,
+            prefix,
+            window,
+            bad_tags,
+            count,
+            tombstones,
+            g,
+            peer,
+        );
         i += 1;
     }
     k
@@ -532,6 +551,8 @@ fn answer_inventory(
         window,
         bad_tags,
         device.bad_tags,
+        tombstones,
+        g,
         peer,
     );
     let t = push_tombs(replies, f, prefixes, l, tombstones, g);

@@ -76,7 +76,7 @@ module _ {A : Type 0} (f : A → List ℕ) (bytes : List ℕ) where
   has-any (x ∷ xs) (here e) = or-left (same x) (any same xs) (ap (λ (b : List ℕ). sameBytes b bytes) e ∙ same-refl bytes)
   has-any (x ∷ xs) (there h) = or-right (same x) (any same xs) (has-any xs h)
 
-  any-has : (xs : List A) → any same xs ≡ true → Has f bytes xs
+  pub any-has : (xs : List A) → any same xs ≡ true → Has f bytes xs
   unfolding any
   any-has [] e = absurd (false≢true e)
   any-has (x ∷ xs) e = ⊎-elim (λ t. here (same-eq (f x) bytes t)) (λ u. there (any-has xs u)) (or-either (same x) (any same xs) e)
@@ -135,6 +135,17 @@ module _ {A : Type 0} {f : A → List ℕ} {tag : List ℕ} {rows x y : List A} 
   unfolding replaceAt
   first-replaced b =
       ap (replaceAt (length x) b) (h .all) ∙ ap₂ (λ (u v : List A). u ++ (b ∷ v)) (take-append-seam x (a ∷ y)) (drop-append-add x (a ∷ y) 1)
+
+-- the place that is found has the first row with the tag
+pub place-first : {A : Type 0} (f : A → List ℕ) (tag : List ℕ) (rows : List A) (d : A) (i : ℕ) → position (same f tag) rows ≡ At i
+    → FirstOf f tag rows (take i rows) (getD rows i d) (drop (i + 1) rows)
+place-first f tag rows d i e =
+    let p = position-first (same f tag) rows d i e in
+    record {
+      all = sym (take-append-drop i rows) ∙ ap (λ (l : List _). take i rows ++ l) (drop-next rows i d (p .inside));
+      tagged = same-eq (f (getD rows i d)) tag (p .holds);
+      none = λ h. false≢true (sym (p .before) ∙ has-any f tag (take i rows) h);
+    }
 
 -- no row has the tag
 pub no-place : {A : Type 0} (f : A → List ℕ) (tag : List ℕ) (rows : List A) → (Has f tag rows → ⊥) → position (same f tag) rows ≡ Nothing
@@ -282,7 +293,7 @@ offersOf s es = map halved (filter (isOffered (s .tombstones) (s .session .excha
 -- the answer to the terminator offers these envelopes and no other: the replies behind fetches and tombs, and the exchange's rows
 pub record OffersOnly (s : State) (window : List Reachable) (peer : ContactId) (es : List Envelope) : Type 0 where
   pub replies : answerInventory s window peer .replies
-      ≡ flatMap (fetchFor (s .badTags) window peer) (s .session .exchange .listed) ++ flatMap (tombFor (s .tombstones)) (s .session .exchange .listed)
+      ≡ flatMap (fetchFor (s .badTags) (s .tombstones) window peer) (s .session .exchange .listed) ++ flatMap (tombFor (s .tombstones)) (s .session .exchange .listed)
       ++ map replyFor es
   pub rows : answerInventory s window peer .change .offered ≡ now (insertOffers es [])
 
@@ -322,7 +333,7 @@ module _ (s : State) (peer : ContactId) (x y : List Envelope) (e : Envelope) (al
         let q : Offer → Bool = offerOfTag (e .head .tag) in
         let os : List Offer = insertOffers (offersOf s x) [] in
         record {
-          reply = has-right (flatMap (fetchFor (s .badTags) window peer) listed ++ flatMap (tombFor (s .tombstones)) listed)
+          reply = has-right (flatMap (fetchFor (s .badTags) (s .tombstones) window peer) listed ++ flatMap (tombFor (s .tombstones)) listed)
               (has-map replyFor (offers s peer) (rw (by-test true h) found));
           row = λ last. ap (λ (l : List Envelope). find q (insertOffers l [])) (by-test true h)
               ∙ ap (find q) (insert-append (offersOf s x) (halved e ∷ offersOf s y) [])

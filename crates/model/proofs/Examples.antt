@@ -23,6 +23,7 @@ use Rattle.rows.specs.declared.Carried.{Carried}
 use Rattle.rows.specs.declared.Tombstone.{Tombstone}
 use Rattle.rows.specs.Rows as encoded
 use Rattle.rows.specs.Device.{freshDevice, closedExchange}
+use Rattle.rows.specs.declared.BadTag.{BadTag}
 use Rattle.rows.specs.declared.Reachable.{Reachable}
 use Rattle.rows.specs.declared.Reply.{Reply}
 use Rattle.rows.specs.declared.Action.{Action}
@@ -37,6 +38,7 @@ use Rattle.model.specs.Custody as model
 use Rattle.model.specs.Exchange
 use Rattle.model.specs.Tombs
 use Rattle.model.specs.Maintenance
+use Rattle.model.specs.Before.{fetchForBefore}
 use Rattle.model.specs.Areas.{PostAreas, noSessionAreas, view, viewSession, viewPost, store, storeDevice, storeSession, areasFor, afterAreas, runAreas}
 use Rattle.model.specs.Step.{Post, Lent, emptyState, tests, perform, step, stateFor, answerTo, after, run, results}
 
@@ -233,7 +235,7 @@ tombstone-duplicate : (duplicates [] (tombs 100 1) ≡ true) × (duplicates (row
 unfolding duplicates
 tombstone-duplicate = (refl, refl)
 
--- ---- a bad window row
+-- ---- a window row that is not fetched
 
 -- a window row of contact n, and two tags of one prefix
 reach : ℕ → List ℕ → Reachable
@@ -243,12 +245,35 @@ reach n tag = record { contact = id n; dir = 73; generation = 0; idx = 0; tag = 
 twin : ℕ → List ℕ
 twin b = replicate 8 17 ++ replicate 8 b
 
--- the first row with the prefix is met; if it is bad for the peer there is no fetch, though the next has the prefix too
+-- what a prefix that two window rows have brings contact 5, and what it did before request Two
+fetched : List BadTag → List Tombstone → List Reply
+unfolding id reach twin
+fetched bad ts = Exchange.fetchFor bad ts (reach 1 (twin 1) ∷ reach 2 (twin 2) ∷ []) (id 5) (replicate 8 17)
+
+fetchedBefore : List BadTag → List Reply
+unfolding id reach twin
+fetchedBefore bad = fetchForBefore bad (reach 1 (twin 1) ∷ reach 2 (twin 2) ∷ []) (id 5) (replicate 8 17)
+
+badFor : ℕ → List BadTag
+unfolding id twin
+badFor n = (record { peer = id n; tag = twin 1 }) ∷ []
+
+tombOf : ℕ → List Tombstone
+unfolding twin
+tombOf b = (record { slot = 0; tag = twin b; s = []; «expiry_min» = 0 }) ∷ []
+
+-- the first row with the prefix is met; if it is bad for the peer, or a tombstone has its tag, there is no fetch, though the next row has
+-- the prefix too; a tombstone of another tag with the prefix stops nothing
 first-row-met :
-    (Exchange.fetchFor [] (reach 1 (twin 1) ∷ reach 2 (twin 2) ∷ []) (id 5) (replicate 8 17) ≡ fetchReply (twin 1) ∷ [])
-    × (Exchange.fetchFor ((record { peer = id 5; tag = twin 1 }) ∷ []) (reach 1 (twin 1) ∷ reach 2 (twin 2) ∷ []) (id 5) (replicate 8 17) ≡ [])
-unfolding rows-of reach twin Exchange.fetchFor
-first-row-met = (refl, refl)
+    (fetched [] [] ≡ fetchReply (twin 1) ∷ []) × (fetched (badFor 5) [] ≡ []) × (fetched (badFor 6) [] ≡ fetchReply (twin 1) ∷ [])
+    × (fetched [] (tombOf 1) ≡ []) × (fetched [] (tombOf 2) ≡ fetchReply (twin 1) ∷ []) × (fetched (badFor 5) (tombOf 1) ≡ [])
+unfolding fetched badFor tombOf rows-of Exchange.fetchFor
+first-row-met = (refl, refl, refl, refl, refl, refl)
+
+-- before, tombstones were not asked
+first-row-met-before : (fetchedBefore [] ≡ fetchReply (twin 1) ∷ []) × (fetchedBefore (badFor 5) ≡ []) × (fetchedBefore (badFor 6) ≡ fetchReply (twin 1) ∷ [])
+unfolding fetchedBefore badFor rows-of fetchForBefore
+first-row-met-before = (refl, refl, refl)
 
 -- ---- the worked example on areas of any bytes, through view and store
 

@@ -9,6 +9,7 @@ pub mod KeepCalls
 pub mod RunLaws
 pub mod CallLaws
 pub mod CornerLaws
+pub mod FetchLaws
 pub mod RefusalLaws
 pub mod Corners
 pub mod Examples

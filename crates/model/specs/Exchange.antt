@@ -116,11 +116,15 @@ receiveInventoryTests s replies window peer listed =
     ∷ (not (isFor peer (s .session .exchange .peer)), refusal.WrongExchange)
     ∷ []
 
--- a listed prefix meets the first window row in key order; if that tag is bad for this peer there is no fetch and no second look
-unfoldable pub fetchFor : List BadTag → List Reachable → ContactId → List ℕ → List Reply
-fetchFor bad window peer prefix =
+-- a tag that is bad for this peer, or a tombstone's, is not fetched
+abbrev pub notFetched : List BadTag → List Tombstone → ContactId → List ℕ → Bool
+notFetched bad ts peer tag = isBad bad peer tag || any (tombstoneOfTag tag) ts
+
+-- a listed prefix meets the first window row in key order; if that tag is not fetched there is no second look
+unfoldable pub fetchFor : List BadTag → List Tombstone → List Reachable → ContactId → List ℕ → List Reply
+fetchFor bad ts window peer prefix =
     matchFound (lookup window prefix)
-    (λ i. cond (isBad bad peer (getD window i noReachable .tag)) [] (fetchReply (getD window i noReachable .tag) ∷ [])) []
+    (λ i. cond (notFetched bad ts peer (getD window i noReachable .tag)) [] (fetchReply (getD window i noReachable .tag) ∷ [])) []
 
 abbrev pub hasPrefix : List ℕ → Tombstone → Bool
 hasPrefix prefix t = sameBytes (trunc8 (t .tag)) prefix
@@ -169,7 +173,7 @@ unfoldable pub answerInventory : State → List Reachable → ContactId → Resu
 answerInventory s window peer =
     let e : OpenExchange = s .session .exchange in
     result done
-    (flatMap (fetchFor (s .badTags) window peer) (e .listed) ++ flatMap (tombFor (s .tombstones)) (e .listed) ++ map replyFor (offers s peer)) []
+    (flatMap (fetchFor (s .badTags) (s .tombstones) window peer) (e .listed) ++ flatMap (tombFor (s .tombstones)) (e .listed) ++ map replyFor (offers s peer)) []
     (completeNow true and listedNow [] and offeredNow (insertOffers (offers s peer) []))
 
 unfoldable pub listMore : OpenExchange → List (List ℕ) → Result

@@ -13,6 +13,7 @@ pub mod Maintenance
 pub mod Saved
 pub mod Screen
 pub mod Step
+pub mod Before
 pub mod Pages
 pub mod Areas
 pub mod Lent

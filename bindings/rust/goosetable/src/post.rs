@@ -352,6 +352,9 @@ impl Post {
     /// the window for the empty list alone, but all of it is tested with each: until then lend
     /// [`Window::EMPTY`]. Over 512 prefixes in all, or any list after the empty one, are malformed.
     ///
+    /// Fetched is the tag of the first window row with a listed prefix, unless it is bad for the peer or has a
+    /// tombstone; no other row is looked at then.
+    ///
     /// Offered are rows with 2 copies or more whose tag has no tombstone and whose prefix the peer did not list, each
     /// with half of its copies, rounded down: own rows first, but for those whose contact is the peer, then carried
     /// ones by slot.

@@ -211,6 +211,36 @@ fn a_bad_tag_is_not_fetched_from_its_peer_nor_looked_past() {
 }
 
 #[test]
+fn a_tombstoned_tag_is_not_fetched_nor_looked_past_and_its_tomb_stays() {
+    let mut post = post();
+    let (first, mut second) = (tag(0xa0), tag(0xa0));
+    second.0[15] = 0;
+    let window = window_of([
+        window_row(VERIFIED, 0, first),
+        window_row(VERIFIED, 1, second),
+    ]);
+    let tomb = Reply::Tomb {
+        tag: second,
+        secret: SECRET,
+    };
+    let fetch = Reply::Fetch(first);
+
+    // The first tombstone has only the prefix of the first row, and stays the one of lowest slot.
+    for (tag, replies) in [
+        (second, vec![fetch, fetch, tomb, tomb]),
+        (first, vec![tomb, tomb]),
+    ] {
+        let _ = post.stored_tombstone(tag, SECRET, 90).unwrap();
+        let mut exchange = opened(&post, UNVERIFIED);
+        let listed = [first.prefix(), first.prefix()];
+        assert_eq!(
+            meet(&mut post, &mut exchange, UNVERIFIED, &window, &listed),
+            replies
+        );
+    }
+}
+
+#[test]
 fn five_hundred_and_twelve_prefixes_are_fine_and_one_more_is_malformed() {
     let mut post = post();
     let mut exchange = opened(&post, VERIFIED);
