@@ -1,10 +1,12 @@
 //! The oracle's one program: comparison, drill, logs and checks.
 
+mod changed;
 mod checks;
 mod compare;
 mod drill;
 mod garbage;
 mod generate;
+mod lost;
 mod sample;
 #[cfg(feature = "library")]
 mod spoiled;
@@ -19,6 +21,8 @@ use std::process::ExitCode;
 
 const USAGE: &str =
     "usage: oracle compare --seeds FROM..TO --calls N [--profile P] [--against PARTY] [--tally] [--reach]
+       oracle changed FROM..TO N [PARTY]
+                                    what request Two changes, against the source as it lies
        oracle garbage FROM..TO N [--reach]    the library on garbage areas, by seeds
        oracle spoiled               every byte at the library's boundary, and the library with one thing wrong
        oracle tags N                N of the library's tags, delivery secrets and commitments, and those with one thing wrong
@@ -102,6 +106,7 @@ fn main() -> ExitCode {
         Some((command, rest)) if command == "log" => print_log(rest),
         Some((command, rest)) if command == "variants" => print_variants(rest),
         Some((command, rest)) if command == "sample" => sample::main(rest).unwrap_or_else(usage),
+        Some((command, rest)) if command == "changed" => changed::main(rest).unwrap_or_else(usage),
         Some((command, [])) if command == "corners" => run_corners(),
         #[cfg(feature = "library")]
         Some((command, rest)) if command == "garbage" => garbage::main(rest).unwrap_or_else(usage),

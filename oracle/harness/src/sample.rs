@@ -3,6 +3,7 @@
 use crate::compare::maker;
 use crate::compare::pair::{self, Pair, Seen};
 use crate::generate::{Generator, Profile};
+use crate::tally::LOST_FETCHES;
 use post::{Action, Answer, Areas, Call, Envelope, Held, Kind, NewOwn, Reply, Sizes, State, Verification, said};
 use std::collections::BTreeSet;
 use std::io::Write;
@@ -398,7 +399,7 @@ fn page_of(expected: &Expected) -> &'static str {
     }
 }
 
-/// What the sample must have: every call, number, answer, custody code, reply and action.
+/// What the sample must have: every call, number, answer, custody code, reply and action, and every corner of request Two.
 fn reached(seen: &Seen, found: &mut BTreeSet<String>) {
     found.insert(format!("{:?}", seen.call.kind()));
     if let Call::CustodyCode { code, .. } = seen.call {
@@ -418,6 +419,8 @@ fn reached(seen: &Seen, found: &mut BTreeSet<String>) {
     if seen.call.kind() == Kind::Page {
         found.insert(page_of(&expected).into());
     }
+    let corners = LOST_FETCHES.iter().filter(|(_, met)| met(seen));
+    found.extend(corners.map(|(name, _)| name.to_string()));
 }
 
 fn wanted() -> impl Iterator<Item = String> {
@@ -435,12 +438,14 @@ fn wanted() -> impl Iterator<Item = String> {
     let numbers = (1..=said::LAST_REFUSAL).chain(numbers);
     let said = numbers.map(|number| format!("said {number}"));
     let pages = PAGES.map(String::from).into_iter();
+    let lost = LOST_FETCHES.iter().map(|(name, _)| name.to_string());
     kinds
         .chain(codes)
         .chain(replies)
         .chain(actions)
         .chain(said)
         .chain(pages)
+        .chain(lost)
 }
 
 /// The generator's next call. Where the list has its long calls already, it is drawn again until it is short.

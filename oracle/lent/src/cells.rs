@@ -1,5 +1,7 @@
-//! How areas that no call left are read. The cells of ciphertexts: which of them count, what lies in one, and how a reply names one. And
-//! held rows of one slot: which comes first on a page.
+//! How areas that no call left are read. The cells of ciphertexts: which of them count, what lies in one, and how a reply names one.
+//! Held rows of one slot: which comes first on a page. Tombstone rows: which of them stop a fetch.
+
+use crate::rows::{Tombstone, table};
 
 pub const CELL: usize = 2_064;
 
@@ -14,14 +16,15 @@ pub fn cell_count(cells: &[u8]) -> usize {
     (cells.len() / CELL).min(COUNTED.into())
 }
 
-/// Which cells are read as cells that count: the first so many, for each thing that is read of them; and whether a tombstone comes before
-/// a carried row of its slot.
+/// Which cells are read as cells that count: the first so many, for each thing that is read of them; whether a tombstone comes before
+/// a carried row of its slot; and whether a tombstone behind the count stops a fetch.
 #[derive(Debug, Clone, Copy, PartialEq, Eq)]
 pub struct Reading {
     ciphertexts: u16,
     own_replies: u16,
     carried_replies: u16,
     pub(crate) tombstones_first: bool,
+    stops_behind_the_count: bool,
 }
 
 fn replied(count: u16, first: u16, cell: u16) -> u16 {
@@ -41,6 +44,7 @@ impl Reading {
             own_replies: count,
             carried_replies: count,
             tombstones_first: false,
+            stops_behind_the_count: false,
         }
     }
 
@@ -49,6 +53,11 @@ impl Reading {
         let at = (usize::from(cell) * CELL).min(cells.len());
         let len = if cell < self.ciphertexts { len.into() } else { 0 };
         &cells[at..at + CELL.min(len).min(cells.len() - at)]
+    }
+
+    /// The tombstones that stop a fetch: so many rows of the area as count.
+    pub(crate) fn stopping(self, area: &[u8], count: usize) -> Vec<Tombstone> {
+        table(area, if self.stops_behind_the_count { usize::MAX } else { count })
     }
 
     /// The cell of an own row as a reply says it.
@@ -71,16 +80,18 @@ pub enum Wrong {
     OwnReplyNamesAnyCell,
     CarriedReplyWraps,
     TombstoneFirst,
+    StopsBehindTheCount,
 }
 
 impl Wrong {
-    pub const ALL: [Self; 6] = [
+    pub const ALL: [Self; 7] = [
         Self::Counts255Cells,
         Self::Counts257Cells,
         Self::AnyCellHasACiphertext,
         Self::OwnReplyNamesAnyCell,
         Self::CarriedReplyWraps,
         Self::TombstoneFirst,
+        Self::StopsBehindTheCount,
     ];
 
     pub fn says(self) -> &'static str {
@@ -91,6 +102,7 @@ impl Wrong {
             Self::OwnReplyNamesAnyCell => "the reply of an own row has a cell of 256 or more",
             Self::CarriedReplyWraps => "the reply of a carried row has 256 and its cell, modulo 2^16",
             Self::TombstoneFirst => "on a page a tombstone comes before a carried row of its slot",
+            Self::StopsBehindTheCount => "a tombstone behind the count stops a fetch",
         }
     }
 
@@ -113,6 +125,10 @@ impl Wrong {
             },
             Self::TombstoneFirst => Reading {
                 tombstones_first: true,
+                ..right
+            },
+            Self::StopsBehindTheCount => Reading {
+                stops_behind_the_count: true,
                 ..right
             },
         }

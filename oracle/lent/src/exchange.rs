@@ -1,7 +1,7 @@
 //! Inventories, fetches and custody codes.
 
 use crate::custody::{window_rows, wrong_window};
-use crate::rows::{Carried, Offer, Own};
+use crate::rows::{BadTag, Carried, Offer, Own};
 use crate::settings::{own_put, put, reply, tomb_reply};
 use crate::state::{Change, Lent, Outcome, Said, State, Step, refused, said};
 use post::{Custody, Prefix, Tag, WindowRow, array};
@@ -96,16 +96,24 @@ impl State<'_> {
         (outcome, Change::default())
     }
 
+    /// A prefix fetches the tag of the first row that has it, unless the tag is among the peer's bad tags or among the tombstones. No later row
+    /// is looked at.
+    fn fetches(&self, window: &[WindowRow], peer: u64) -> Vec<[u8; 40]> {
+        let tombstones = self.reading.stopping(self.tombstone_area, self.tombstones.len());
+        let stopped = |tag: &Tag| {
+            self.bad_tags.contains(&BadTag { peer, tag: *tag }) || tombstones.iter().any(|row| row.tag == *tag)
+        };
+        let first = |prefix: &Prefix| window.iter().find(|row| row.tag.starts_with(prefix));
+        let met = self.listed.iter().filter_map(first);
+        met.filter(|row| !stopped(&row.tag))
+            .map(|row| reply(0, 0, &row.tag))
+            .collect()
+    }
+
     /// Fetches for listed prefixes, tombs, then offers.
     fn answered(&self, window: &[WindowRow], peer: u64) -> Step {
         let mut outcome = Outcome::only(Said::Done);
-        let bad = |tag: &Tag| self.bad_tags.iter().any(|row| row.peer == peer && row.tag == *tag);
-        for prefix in &self.listed {
-            let row = window.iter().find(|row| row.tag.starts_with(prefix));
-            if let Some(row) = row.filter(|row| !bad(&row.tag)) {
-                outcome.replies.push(reply(0, 0, &row.tag));
-            }
-        }
+        outcome.replies = self.fetches(window, peer);
         for prefix in &self.listed {
             if let Some(row) = self.tombstones.iter().find(|row| row.tag.starts_with(prefix)) {
                 outcome.replies.push(tomb_reply(&row.tag, &row.secret));

@@ -17,6 +17,8 @@ pub struct State<'a> {
     pub next_slot: u64,
     pub own_cells: &'a [u8],
     pub carried_cells: &'a [u8],
+    /// All of the area, the rows behind the count too.
+    pub tombstone_area: &'a [u8],
     pub reading: Reading,
     pub tombstone_rows: usize,
     pub bad_rows: usize,
@@ -153,6 +155,7 @@ impl<'a> State<'a> {
             next_slot: device.next_slot,
             own_cells: &areas.own_cells,
             carried_cells: &areas.carried_cells,
+            tombstone_area: &areas.tombstones,
             reading,
             tombstone_rows: areas.tombstones.len() / Tombstone::WIDTH,
             bad_rows: areas.bad_tags.len() / BadTag::WIDTH,

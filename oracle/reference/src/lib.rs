@@ -1,4 +1,5 @@
-//! The Rust source, compiled where it lies and unchanged, and a post made of it.
+//! The Rust source, and a post made of it. The source is compiled where it lies, unchanged but for one line of couriering.rs (request Two), whose
+//! copy is in the build's folder. The crate `before` is this one without that line.
 //!
 //! `core` and `resume` stand in for files that are not there; `backend` for the crate of the backend.
 //! `raw` reaches the source's plain functions, `Source` its calls, and `Reference` puts document 01's

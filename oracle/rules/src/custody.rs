@@ -107,7 +107,8 @@ impl Rules {
         let addressed = self.addressed(window, &envelope.tag).filter(|row| {
             let hidden = self.is(Wrong::BadTagIsNotOurs) && self.state.bad.contains(&(peer, row.tag));
             let refused = self.is(Wrong::OursOnlyIfValid) && matches!(code, Custody::Off | Custody::Invalid);
-            !hidden && !refused
+            let gone = self.is(Wrong::TombstonedIsNotOurs) && self.is_tombstoned(&row.tag);
+            !hidden && !refused && !gone
         });
         if let Some(row) = addressed {
             return Answer::Ours {

@@ -40,7 +40,7 @@ impl Rules {
         shown
     }
 
-    fn is_tombstoned(&self, tag: &Tag) -> bool {
+    pub(crate) fn is_tombstoned(&self, tag: &Tag) -> bool {
         let bytes = self.unless(Wrong::TombstonedByPrefix, 16, 8);
         self.state
             .tombstones()
@@ -66,21 +66,45 @@ impl Rules {
         done(found.map(Reply::Envelope).into_iter().collect(), Vec::new())
     }
 
-    /// A prefix meets the first window row in key order; a bad tag of this peer brings no fetch and no second look.
+    fn is_bad(&self, peer: u64, tag: &Tag) -> bool {
+        match self.wrong {
+            Some(Wrong::FetchesBadTags) => false,
+            Some(Wrong::BadForEveryPeer) => self.state.bad.iter().any(|(_, bad)| bad == tag),
+            _ => self.state.bad.contains(&(peer, *tag)),
+        }
+    }
+
+    /// Request Two: a window tag that equals the tag of a tombstone, whatever its expiry, brings no fetch.
+    fn is_not_fetched(&self, tag: &Tag) -> bool {
+        let mut tombstones = self.state.tombstones();
+        match self.wrong {
+            Some(Wrong::FetchesTombstoned) => false,
+            Some(Wrong::FetchTombstonedByPrefix) => tombstones.any(|row| starts(row.held.tag(), &prefix_of(tag))),
+            Some(Wrong::PastTombstonesLetFetch) => {
+                tombstones.any(|row| row.held.tag() == tag && row.held.expiry() > self.minute())
+            }
+            Some(Wrong::OnlyTheSentTombStops) => {
+                let sent = tombstones.find(|row| starts(row.held.tag(), &prefix_of(tag)));
+                sent.is_some_and(|row| row.held.tag() == tag)
+            }
+            _ => tombstones.any(|row| row.held.tag() == tag),
+        }
+    }
+
+    /// A prefix meets the first window row in key order. If its tag is bad for this peer, or tombstoned, there is no fetch and no second look.
     fn fetches(&self, rows: &[WindowRow], peer: u64, listed: &[Prefix]) -> Vec<Reply> {
-        let bad = |row: &WindowRow| self.state.bad.contains(&(peer, row.tag));
-        let bad_for_any = |row: &WindowRow| self.state.bad.iter().any(|(_, tag)| *tag == row.tag);
+        let good = |row: &&WindowRow| !self.is_bad(peer, &row.tag);
+        let alive = |row: &&WindowRow| !self.is_not_fetched(&row.tag);
         let mut replies = Vec::new();
         for prefix in listed {
             let mut meeting = rows.iter().filter(|row| starts(&row.tag, prefix));
             let met = match self.wrong {
-                Some(Wrong::LooksPastABadRow) => meeting.find(|row| !bad(row)),
-                Some(Wrong::BadForEveryPeer) => meeting.next().filter(|row| !bad_for_any(row)),
-                Some(Wrong::FetchesBadTags) => meeting.next(),
-                Some(Wrong::LastWindowRow) => meeting.next_back().filter(|row| !bad(row)),
-                _ => meeting.next().filter(|row| !bad(row)),
+                Some(Wrong::LooksPastABadRow) => meeting.find(good),
+                Some(Wrong::LooksPastATombstonedRow) => meeting.find(alive),
+                Some(Wrong::LastWindowRow) => meeting.next_back(),
+                _ => meeting.next(),
             };
-            if let Some(row) = met {
+            if let Some(row) = met.filter(good).filter(alive) {
                 let reply = Reply::Fetch(row.tag);
                 if !(self.is(Wrong::RepeatedFetchesOnce) && replies.contains(&reply)) {
                     replies.push(reply);
@@ -90,10 +114,14 @@ impl Rules {
         replies
     }
 
-    /// Of the tombstones whose tag starts so, the one of lowest slot.
-    fn tombs(&self, listed: &[Prefix]) -> Vec<Reply> {
+    /// Of the tombstones whose tag starts so, the one of lowest slot, whether the prefix was fetched or not.
+    fn tombs(&self, rows: &[WindowRow], listed: &[Prefix]) -> Vec<Reply> {
         let mut replies = Vec::new();
         for prefix in listed {
+            let first = rows.iter().find(|row| starts(&row.tag, prefix));
+            if self.is(Wrong::NoTombWithoutTheFetch) && first.is_some_and(|row| self.is_not_fetched(&row.tag)) {
+                continue;
+            }
             let mut found = self.state.tombstones().filter(|row| starts(row.held.tag(), prefix));
             let found = if self.is(Wrong::TombOfTheHighestSlot) {
                 found.last()
@@ -131,8 +159,9 @@ impl Rules {
     fn answered(&mut self, window: &[u8], exchange: usize, peer: u64) -> Answer {
         let listed = std::mem::take(&mut self.state.exchanges[exchange].listed);
         let offers = self.offers(peer, &listed);
-        let fetches = self.fetches(&rows_of(window), peer, &listed);
-        let tombs = self.tombs(&listed);
+        let rows = rows_of(window);
+        let fetches = self.fetches(&rows, peer, &listed);
+        let tombs = self.tombs(&rows, &listed);
         let mut replies = if self.is(Wrong::TombsBeforeFetches) {
             [tombs, fetches].concat()
         } else {

@@ -257,6 +257,46 @@ fn window_rows_of_one_key() -> Outcome {
     same([envelope, inventory].map(|call| bench.refusal(call)), [Some(12); 2])
 }
 
+/// Request Two: the source as it lies sends a fetch and a tomb for a tombstoned window tag, the product the tomb alone.
+fn tombstoned_window_tag() -> Outcome {
+    let tag = raw::route_tag(&raw::route_key_of(VERIFIED), b'I', 0, 3);
+    let rows = [window_row(VERIFIED, 3, tag)];
+    let prefix: post::Prefix = post::array(&tag, 0);
+    let tomb = Reply::Tomb(tag, SECRET);
+    let mut source = before::Source::new(1);
+    source.contact(VERIFIED, Verification::Verified);
+    source.clock(SECONDS);
+    source.fresh_exchange(0, VERIFIED);
+    source.store_tombstone(tag, SECRET, 100);
+    source.inventory(0, VERIFIED, vec![prefix], &rows);
+    let raw = source.inventory(0, VERIFIED, Vec::new(), &rows);
+    same(raw.replies, vec![Reply::Fetch(tag), tomb.clone()])?;
+
+    let mut bench = Bench::new(SIZES);
+    let (areas, exchange, peer) = (bench.areas, 0, VERIFIED);
+    let inventory = |prefixes: &[u8]| Call::Inventory {
+        areas,
+        window: post::encode_window(&rows),
+        exchange,
+        peer,
+        prefixes: prefixes.into(),
+    };
+    bench.call(Call::FreshExchange { areas, exchange, peer });
+    bench.call(Call::StoredTombstone {
+        areas,
+        tag,
+        secret: SECRET,
+        expiry: 100,
+    });
+    bench.call(inventory(&prefix));
+    let answer = post::Answer::Done {
+        malformed: false,
+        replies: vec![tomb],
+        actions: Vec::new(),
+    };
+    same(bench.call(inventory(&[])), answer)
+}
+
 fn long_labels() -> Outcome {
     stops(|| raw::labelled(&vec![0; 65_527]))
 }
@@ -355,6 +395,7 @@ pub const CHECKS: &[Check] = &[
     ("over 500 window rows of one contact", long_windows),
     ("window rows not in order", window_order),
     ("two window rows of one key", window_rows_of_one_key),
+    ("a window tag that is tombstoned: request Two", tombstoned_window_tag),
     ("a label over 65,526 bytes", long_labels),
     ("own rows: message numbers and sizes", own_rows),
     ("own rows that have ended", ended_messages_stay_queued),

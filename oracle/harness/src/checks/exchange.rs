@@ -97,20 +97,26 @@ fn tombs_lowest_slot_first() -> Outcome {
     same(replies, vec![Reply::Tomb(tag_in(1, 2), SECRET); 2])
 }
 
+/// The fetched tag has no tombstone: the tombs are of another tag of its prefix, and of another prefix.
 fn fetches_then_tombs_then_offers() -> Outcome {
     let mut source = source();
-    source.put_held(0, &tombstone(tag(1), 100));
+    source.put_held(0, &tombstone(tag_in(1, 9), 100));
     source.put_held(1, &carried(VERIFIED, tag(2), 100, 4));
+    source.put_held(2, &tombstone(tag(3), 100));
     let replies = listed(
         &mut source,
         0,
         VERIFIED,
-        &[prefix(1)],
-        &[window_row(VERIFIED, 0, tag(1))],
+        &[prefix(3), prefix(1)],
+        &[window_row(VERIFIED, 0, tag(1)), window_row(VERIFIED, 1, tag(3))],
     );
     same(
-        replies[..2].to_vec(),
-        vec![Reply::Fetch(tag(1)), Reply::Tomb(tag(1), SECRET)],
+        replies[..3].to_vec(),
+        vec![
+            Reply::Fetch(tag(1)),
+            Reply::Tomb(tag(3), SECRET),
+            Reply::Tomb(tag_in(1, 9), SECRET),
+        ],
     )?;
     same(offers(&replies), vec![(tag(2), 2)])
 }

@@ -4,7 +4,7 @@ use super::bench::*;
 use super::{Check, Outcome, holds, same};
 use crate::drill::{Stopped, run};
 use crate::generate::logs::record;
-use post::{Custody, Dir, Post, Reply, Sizes};
+use post::{Answer, Areas, Call, Custody, Dir, Post, Prefix, Reply, Sizes, Tag, Verification, WindowRow};
 use reference::{Reference, raw};
 use rules::Rules;
 
@@ -116,6 +116,110 @@ fn copies_offered() -> Outcome {
         same(offered, (there > 1).then_some(there / 2))?;
         source.custody_code(0, VERIFIED, tag(1), 0);
         same(copies(&source, tag(1)), Some(there - offered.unwrap_or(0)))?;
+    }
+    Ok(())
+}
+
+/// Lists of up to two of some things, all of them.
+fn up_to_two<T: Copy>(from: &[T]) -> Vec<Vec<T>> {
+    let one = from.iter().map(|item| vec![*item]);
+    let two = from
+        .iter()
+        .flat_map(|item| from.iter().map(|other| vec![*item, *other]));
+    [Vec::new()].into_iter().chain(one).chain(two).collect()
+}
+
+/// What an empty inventory meets.
+struct Met<'a> {
+    window: &'a [Tag],
+    tombstones: &'a [Tag],
+    bad: &'a [Tag],
+    listed: &'a [Prefix],
+}
+
+impl Met<'_> {
+    fn inventory(&self, prefixes: &[Prefix]) -> Call {
+        let row = |(index, tag): (u32, &Tag)| window_row(VERIFIED, index, *tag);
+        let rows: Vec<WindowRow> = (0..).zip(self.window).map(row).collect();
+        Call::Inventory {
+            areas: Areas::enough(&SIZES),
+            window: post::encode_window(&rows),
+            exchange: 0,
+            peer: VERIFIED,
+            prefixes: prefixes.concat().into(),
+        }
+    }
+
+    /// What comes before it on a fresh post.
+    fn calls(&self) -> Vec<Call> {
+        let (areas, peer, verification) = (Areas::enough(&SIZES), VERIFIED, Verification::Verified);
+        let stored = |tag: &Tag| Call::StoredTombstone {
+            areas,
+            tag: *tag,
+            secret: SECRET,
+            expiry: 0,
+        };
+        let failed = |tag: &Tag| Call::Failed { peer, tag: *tag };
+        let mut calls = vec![Call::Contact { id: peer, verification }];
+        calls.push(Call::FreshExchange {
+            areas,
+            exchange: 0,
+            peer,
+        });
+        calls.extend(self.tombstones.iter().map(stored));
+        calls.extend(self.bad.iter().map(failed));
+        calls.extend((!self.listed.is_empty()).then(|| self.inventory(self.listed)));
+        calls
+    }
+
+    fn fetched(&self, mut post: impl Post) -> Vec<Reply> {
+        for call in self.calls() {
+            assert!(!matches!(post.perform(&call), Answer::Refused(_)), "{call:?}");
+        }
+        let Answer::Done { mut replies, .. } = post.perform(&self.inventory(&[])) else {
+            panic!("the empty inventory was not answered");
+        };
+        replies.retain(|reply| matches!(reply, Reply::Fetch(_)));
+        replies
+    }
+
+    /// The first window tag of each listed prefix, unless it is one of those that stop a fetch.
+    fn first_unless(&self, stopped: &[&[Tag]]) -> Vec<Reply> {
+        let first = |prefix: &Prefix| self.window.iter().find(|tag| tag.starts_with(prefix));
+        let met = self.listed.iter().filter_map(first);
+        met.filter(|tag| !stopped.iter().any(|tags| tags.contains(tag)))
+            .map(|tag| Reply::Fetch(*tag))
+            .collect()
+    }
+
+    /// Bad tags alone stop the source as it lies; with request Two's line tombstones do too.
+    fn check(&self) -> Outcome {
+        let (old, new) = (before::Reference::new(SIZES), Reference::new(SIZES));
+        same(self.fetched(old), self.first_unless(&[self.bad]))?;
+        let wanted = self.first_unless(&[self.bad, self.tombstones]);
+        same(&self.fetched(new), &wanted)?;
+        same(self.fetched(Rules::new(SIZES)), wanted)
+    }
+}
+
+/// Window rows, tombstones and listed prefixes, up to two of each, and up to one bad tag; two of the tags have one prefix.
+fn fetches() -> Outcome {
+    let tags = up_to_two(&[tag_in(1, 7), tag_in(1, 8), tag_in(2, 9)]);
+    let prefixes = up_to_two(&[prefix(1), prefix(2)]);
+    for window in &tags {
+        for tombstones in &tags {
+            for bad in tags.iter().filter(|bad| bad.len() < 2) {
+                for listed in &prefixes {
+                    let met = Met {
+                        window,
+                        tombstones,
+                        bad,
+                        listed,
+                    };
+                    met.check()?;
+                }
+            }
+        }
     }
     Ok(())
 }
@@ -284,6 +388,10 @@ pub const CHECKS: &[Check] = &[
     ("labels", labels),
     ("route tags of all generations, and commitments", route_tags),
     ("all numbers of copies", copies_offered),
+    (
+        "fetches of windows, tombstones and lists of up to two, all of them",
+        fetches,
+    ),
     ("all seconds of an hour", seconds),
     ("all counts of skipped keys, all places near a chain's end", windows),
     ("row blobs of all lengths to 2,200", row_blobs),

@@ -1,5 +1,5 @@
-//! Document 01's corners put to the source one by one, each under a name; those of document 02's pages, which the source has not, to the
-//! second and the third statement.
+//! Document 01's corners put to the source one by one, each under a name, and request Two's; those of document 02's pages, which the source
+//! has not, to the second and the third statement.
 
 mod bench;
 mod custody;
@@ -8,6 +8,7 @@ mod drills;
 mod exchange;
 mod exhaustive;
 mod files;
+mod lost;
 mod pages;
 mod plain;
 mod refusals;
@@ -40,10 +41,11 @@ pub fn stops<T>(what: impl FnOnce() -> T) -> Outcome {
     }
 }
 
-const GROUPS: [(&str, &[Check]); 11] = [
+const GROUPS: [(&str, &[Check]); 12] = [
     ("chain, courier, state, kdf, data", plain::CHECKS),
     ("custody", custody::CHECKS),
     ("exchange", exchange::CHECKS),
+    ("tombstoned window tags", lost::CHECKS),
     ("tombs and maintenance", tombs::CHECKS),
     ("rows and files", files::CHECKS),
     ("screen pages", pages::CHECKS),

@@ -1,6 +1,7 @@
 //! The library, or a wrong statement, on areas that no call left. The third statement says what must come out.
 
 mod cells;
+mod fetches;
 mod pages;
 mod reach;
 mod spoil;
@@ -79,11 +80,14 @@ impl Party for library::Library {
 /// A difference: the number of the call in its list, and what it is.
 type Found = (usize, String);
 
-/// Of any kind; some go after a row whose cell does not count.
+/// Of any kind; some go after a row whose cell does not count, and some after a tombstoned window tag.
 fn next_call(generator: &mut Generator, areas: &Areas, rng: &mut Rng) -> Call {
-    if rng.percent(10)
-        && let Some(call) = cells::call_after_one(areas, &generator.sizes, rng)
-    {
+    let wanted = match rng.below(10) {
+        0 => cells::call_after_one(areas, &generator.sizes, rng),
+        1..3 => fetches::call_after_one(areas, &generator.sizes, rng),
+        _ => None,
+    };
+    if let Some(call) = wanted {
         return call;
     }
     generator.of_kind(rng.pick(&Kind::ALL), &decoded(areas))
@@ -105,8 +109,9 @@ fn run_list(seed: u64, count: usize, make: &Maker, reach: &mut Reach) -> Result<
             for _ in 0..rng.between(1, 6) {
                 let call = next_call(&mut generator, party.expected(), &mut rng);
                 made += 1;
+                let met = fetches::met(party.expected(), &call);
                 let outcome = party.call(&call).map_err(|what| (made, format!("{call:?}: {what}")))?;
-                reach.count(party.expected(), &call, &outcome);
+                reach.count(met, party.expected(), &call, &outcome);
             }
             areas = party.into_expected();
         }

@@ -1,7 +1,9 @@
 //! What a run on garbage areas met, and how often.
 
+#[cfg(feature = "library")]
+use super::fetches;
 use super::{cells, pages};
-use lent::{Areas, Outcome};
+use lent::{Areas, Outcome, Said};
 use post::Call;
 use std::collections::BTreeMap;
 
@@ -9,17 +11,24 @@ use std::collections::BTreeMap;
 pub struct Reach {
     cells: BTreeMap<&'static str, u64>,
     pages: BTreeMap<&'static str, u64>,
+    fetches: BTreeMap<&'static str, u64>,
 }
 
-fn add(counts: &mut BTreeMap<&'static str, u64>, met: Vec<(&'static str, bool)>) {
+/// What a call met: each name, and whether.
+pub type Met = Vec<(&'static str, bool)>;
+
+fn add(counts: &mut BTreeMap<&'static str, u64>, met: Met) {
     for (name, met) in met {
         *counts.entry(name).or_default() += u64::from(met);
     }
 }
 
 impl Reach {
-    /// A call; the areas are those after it.
-    pub fn count(&mut self, areas: &Areas, call: &Call, outcome: &Outcome) {
+    /// A call: what it met as to fetches, if it was answered; the areas are those after it.
+    pub fn count(&mut self, fetches: Met, areas: &Areas, call: &Call, outcome: &Outcome) {
+        if outcome.said == Said::Done {
+            add(&mut self.fetches, fetches);
+        }
         add(&mut self.cells, cells::met(areas, call, outcome));
         add(&mut self.pages, pages::met(call, outcome));
     }
@@ -28,10 +37,11 @@ impl Reach {
 #[cfg(feature = "library")]
 impl Reach {
     /// A group of counts: what they are of, the names that should be reached, the counts.
-    fn groups(&self) -> [(&'static str, &'static [&'static str], &BTreeMap<&'static str, u64>); 2] {
+    fn groups(&self) -> [(&'static str, &'static [&'static str], &BTreeMap<&'static str, u64>); 3] {
         [
             ("rows whose cell does not count", &cells::ALL, &self.cells),
             ("pages", &pages::ALL, &self.pages),
+            ("fetches and tombstones", &fetches::ALL, &self.fetches),
         ]
     }
 

@@ -195,10 +195,13 @@ impl Generator {
     fn tomb(&mut self, state: &State) -> Call {
         let carried: Vec<Tag> = state.carried().map(|(_, _, envelope)| envelope.tag).collect();
         let both: Vec<Tag> = carried.iter().filter(|tag| is_own(state, tag)).copied().collect();
+        let empty = state.carried().filter(|(_, _, envelope)| envelope.copies == 0);
+        let empty: Vec<Tag> = empty.map(|(_, _, envelope)| envelope.tag).collect();
         let other = self.tag(state);
         let tag = match self.rng.below(10) {
             0..3 => self.rng.pick_or(&both, other),
-            3..6 => self.rng.pick_or(&carried, other),
+            3..5 => self.rng.pick_or(&carried, other),
+            5 => self.rng.pick_or(&empty, other),
             _ => other,
         };
         Call::Tomb {

@@ -80,9 +80,11 @@ impl Generator {
             .filter(|row| row.tag == *tag)
             .map(|row| row.secret)
             .collect();
+        let carried = state.carried().any(|(_, _, envelope)| envelope.tag == *tag);
         match self.rng.below(10) {
             0 => [0x99; 16],
             1..4 => self.rng.pick_or(&own, secret_of(tag)),
+            4..7 if carried => self.rng.pick_or(&own, secret_of(tag)),
             _ => secret_of(tag),
         }
     }

@@ -2,9 +2,21 @@
 
 use super::Generator;
 use super::pool::{GENERATIONS, INDICES};
-use post::{Bytes, Call, ChainRow, SkippedRow, State, Tag, WindowRow, encode_chains, encode_skipped, encode_window};
+use post::{
+    Bytes, Call, ChainRow, Exchange, SkippedRow, State, Tag, WindowRow, encode_chains, encode_skipped, encode_window,
+};
 
 const DIRECTIONS: [u8; 2] = [b'I', b'R'];
+/// The generations of the rows that go after bad and after tombstoned tags; other rows have none of these.
+const AFTER_BAD: u8 = 4;
+const AFTER_TOMBSTONED: u8 = 5;
+/// So many of an exchange's listed prefixes are of tags that calls have.
+const FEW: usize = 8;
+
+/// The tag's prefix is among the first that the exchange has listed.
+fn lists(open: &Exchange, tag: &Tag) -> bool {
+    open.listed.iter().take(FEW).any(|prefix| tag.starts_with(prefix))
+}
 
 impl Generator {
     fn window_row(&mut self, state: &State) -> WindowRow {
@@ -48,10 +60,8 @@ impl Generator {
         rows
     }
 
-    /// A bad tag and another of its prefix, in two rows of one contact.
-    fn bad_and_another(&mut self, state: &State) -> Vec<WindowRow> {
-        let bad: Vec<Tag> = state.bad.iter().map(|(_, tag)| *tag).collect();
-        let tag = self.rng.pick_or(&bad, self.pool.tags[0]);
+    /// The tag and another of its prefix, mostly, in two rows of one contact.
+    fn and_another(&mut self, state: &State, tag: Tag, generation: u8) -> Vec<WindowRow> {
         let alike: Vec<Tag> = self
             .pool
             .tags
@@ -63,7 +73,7 @@ impl Generator {
         let row = WindowRow {
             contact: self.known(state),
             dir: self.rng.pick(&DIRECTIONS),
-            generation: 4,
+            generation,
             index: 0,
             tag,
         };
@@ -75,6 +85,41 @@ impl Generator {
                 ..row
             },
         ]
+    }
+
+    /// A bad tag, mostly one whose prefix its peer has listed.
+    fn bad_and_another(&mut self, state: &State) -> Vec<WindowRow> {
+        let listed = |(peer, tag): &&(u64, Tag)| {
+            let mut open = state.exchanges.iter().filter(|open| open.peer == Some(*peer));
+            open.any(|open| lists(open, tag))
+        };
+        let bad: Vec<Tag> = state.bad.iter().map(|(_, tag)| *tag).collect();
+        let wanted: Vec<Tag> = state.bad.iter().filter(listed).map(|(_, tag)| *tag).collect();
+        let any = self.rng.pick_or(&bad, self.pool.tags[0]);
+        let tag = if self.rng.percent(70) {
+            self.rng.pick_or(&wanted, any)
+        } else {
+            any
+        };
+        self.and_another(state, tag, AFTER_BAD)
+    }
+
+    /// A tombstoned tag, mostly one whose prefix is listed or that is bad.
+    fn tombstoned_and_another(&mut self, state: &State) -> Vec<WindowRow> {
+        let mut tags: Vec<Tag> = state.tombstones().map(|row| *row.held.tag()).collect();
+        let listed = |tag: &Tag| state.exchanges.iter().any(|open| lists(open, tag));
+        let is_bad = |tag: &Tag| state.bad.iter().any(|(_, bad)| bad == tag);
+        let wanted: &dyn Fn(&Tag) -> bool = match self.rng.below(8) {
+            0..4 => &listed,
+            4..6 => &is_bad,
+            6 => &|tag| listed(tag) && is_bad(tag),
+            _ => &|_| true,
+        };
+        if tags.iter().any(wanted) {
+            tags.retain(wanted);
+        }
+        let tag = self.rng.pick_or(&tags, self.pool.tags[0]);
+        self.and_another(state, tag, AFTER_TOMBSTONED)
     }
 
     fn damage_window(&mut self, rows: &mut [WindowRow]) {
@@ -95,6 +140,9 @@ impl Generator {
         let mut rows: Vec<WindowRow> = (0..count).map(|_| self.window_row(state)).collect();
         if self.rng.percent(15) {
             rows.extend(self.bad_and_another(state));
+        }
+        if self.rng.percent(20) {
+            rows.extend(self.tombstoned_and_another(state));
         }
         if self.rng.below(400) == 0 {
             rows = self.long_window(state);

@@ -178,13 +178,6 @@ pub const CORNERS: &[Corner] = &[
             })
         })
     }),
-    ("a fetch and a tomb for one tag", |seen| {
-        answered(seen, |_, _, _, replies| {
-            replies
-                .iter()
-                .any(|reply| matches!(reply, Reply::Tomb(tag, _) if fetched(replies, tag) > 0))
-        })
-    }),
     ("a row with 1 copy is not offered", |seen| {
         carried_left_out(seen, |envelope, listed| {
             envelope.copies == 1 && !tombstoned(seen.before, &envelope.tag) && !listed.contains(&prefix(&envelope.tag))

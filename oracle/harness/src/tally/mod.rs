@@ -2,8 +2,11 @@
 
 mod envelopes;
 mod exchanges;
+mod lost;
 mod pages;
 mod rows;
+
+pub use lost::CORNERS as LOST_FETCHES;
 
 use crate::compare::pair::Seen;
 use post::{Action, Answer, Custody, Kind, Reply, said};
@@ -69,9 +72,15 @@ fn answer_name(answer: &Answer) -> Option<&'static str> {
 }
 
 fn all_corners() -> impl Iterator<Item = &'static Corner> {
-    [envelopes::CORNERS, exchanges::CORNERS, rows::CORNERS, pages::CORNERS]
-        .into_iter()
-        .flatten()
+    [
+        envelopes::CORNERS,
+        exchanges::CORNERS,
+        lost::CORNERS,
+        rows::CORNERS,
+        pages::CORNERS,
+    ]
+    .into_iter()
+    .flatten()
 }
 
 fn add<K: Ord>(counts: &mut BTreeMap<K, u64>, key: K) {
