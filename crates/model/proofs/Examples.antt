@@ -19,6 +19,7 @@ use Rattle.courier.specs.declared.Custody.the-variants as custody
 use Rattle.courier.specs.Courier as courier
 use Rattle.courier.specs.Tags.{commitmentOf, tombstoneMatches}
 use Rattle.state.specs.Config.{inRange, configDefault}
+use Rattle.rows.specs.declared.Own.{Own}
 use Rattle.rows.specs.declared.Carried.{Carried}
 use Rattle.rows.specs.declared.Tombstone.{Tombstone}
 use Rattle.rows.specs.Rows as encoded
@@ -36,6 +37,7 @@ use Rattle.model.specs.Window
 use Rattle.model.specs.Cells
 use Rattle.model.specs.Custody as model
 use Rattle.model.specs.Exchange
+use Rattle.model.specs.Exchange.{Envelope, envelopes}
 use Rattle.model.specs.Tombs
 use Rattle.model.specs.Maintenance
 use Rattle.model.specs.Before.{fetchForBefore}
@@ -234,6 +236,23 @@ duplicates rs ts = model.duplicate (apply (emptyState 0 configDefault [] [] 4 4)
 tombstone-duplicate : (duplicates [] (tombs 100 1) ≡ true) × (duplicates (rowsFrom 5 3) [] ≡ false)
 unfolding duplicates
 tombstone-duplicate = (refl, refl)
+
+-- ---- what a peer may see
+
+-- an own row of contact n, and a carried row, of one byte's tag
+ownOf : ℕ → ℕ → Own
+unfolding id ofByte
+ownOf n b = record { contact = id n; msgno = b; tag = ofByte b; s = []; «expiry_min» = 0; copies = 1; renewed = 0; len = 0; cell = 0 }
+
+carriedOf : ℕ → Carried
+unfolding id ofByte
+carriedOf b = record { slot = b; depositor = id 5; tag = ofByte b; c = []; «expiry_min» = 0; copies = 1; len = 0; cell = 0 }
+
+-- contact 5 sees the own rows of others in their order, then the carried rows, those that it left too
+seen-by-a-peer : map (λ (e : Envelope). e .head .tag) (envelopes (ownOf 6 1 ∷ ownOf 5 2 ∷ ownOf 7 3 ∷ []) (carriedOf 4 ∷ carriedOf 9 ∷ []) (id 5))
+    ≡ ofByte 1 ∷ ofByte 3 ∷ ofByte 4 ∷ ofByte 9 ∷ []
+unfolding ownOf carriedOf rows-of envelopes Exchange.ownEnvelopeOf Exchange.carriedEnvelopeOf
+seen-by-a-peer = refl
 
 -- ---- a window row that is not fetched
 
