@@ -54,7 +54,7 @@ impl Shape {
         Self { window: 5_000 * rows / 256, ..Self::of(rows) }
     }
 
-    /// With the listed of them tombstoned.
+    /// The same, and the window rows whose prefixes are listed have tombstones.
     pub fn with_delivered(rows: usize) -> Self {
         Self { delivered: true, ..Self::with_window(rows) }
     }

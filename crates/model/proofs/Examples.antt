@@ -19,61 +19,56 @@ use Rattle.courier.specs.declared.Custody.the-variants as custody
 use Rattle.courier.specs.Courier as courier
 use Rattle.courier.specs.Tags.{commitmentOf, tombstoneMatches}
 use Rattle.state.specs.Config.{inRange, configDefault}
-use Rattle.rows.specs.declared.Own.{Own}
 use Rattle.rows.specs.declared.Carried.{Carried}
 use Rattle.rows.specs.declared.Tombstone.{Tombstone}
 use Rattle.rows.specs.Rows as encoded
 use Rattle.rows.specs.Device.{freshDevice, closedExchange}
-use Rattle.rows.specs.declared.BadTag.{BadTag}
-use Rattle.rows.specs.declared.Reachable.{Reachable}
 use Rattle.rows.specs.declared.Reply.{Reply}
 use Rattle.rows.specs.declared.Action.{Action}
 use Rattle.model.specs.Basics.{merge}
 use Rattle.model.specs.State.{State, Session, nobody, now, upd, apply, carriedNow, tombstonesNow, nextSlotNow, _and_}
 use Rattle.model.specs.Calls
-use Rattle.model.specs.Calls.{Call, Result, stepOf, putCourier, deleteCourier, fetchReply, custodyReply}
+use Rattle.model.specs.Calls.{Call, Result, stepOf, putCourier, deleteCourier, custodyReply}
 use Rattle.model.specs.Contacts
 use Rattle.model.specs.Window
 use Rattle.model.specs.Cells
 use Rattle.model.specs.Custody as model
 use Rattle.model.specs.Exchange
-use Rattle.model.specs.Exchange.{Envelope, envelopes}
 use Rattle.model.specs.Tombs
 use Rattle.model.specs.Maintenance
-use Rattle.model.specs.Before.{fetchForBefore}
 use Rattle.model.specs.Areas.{PostAreas, noSessionAreas, view, viewSession, viewPost, store, storeDevice, storeSession, areasFor, afterAreas, runAreas}
 use Rattle.model.specs.Step.{Post, Lent, emptyState, tests, perform, step, stateFor, answerTo, after, run, results}
 
 -- two cells of each kind, R = 4, three sessions
-pub wide : Session
+unfoldable pub wide : Session
 wide = record { exchange = nobody; prefixArea = 4096; offerArea = 8704 }
 
-pub post : Post
+unfoldable pub post : Post
 unfolding wide
 post = record {
   state = emptyState 0 configDefault (replicate 4128 0) (replicate 4128 0) 4 4;
   sessions = wide ∷ wide ∷ wide ∷ [];
 }
 
-pub id : ℕ → ContactId
+unfoldable pub id : ℕ → ContactId
 id n = record { 0 = n }
 
-pub ofByte : ℕ → List ℕ
+unfoldable pub ofByte : ℕ → List ℕ
 ofByte b = replicate 16 b
 
-pub lend : ℕ → Call → Lent
+unfoldable pub lend : ℕ → Call → Lent
 lend i c = record { session = i; call = c }
 
-pub head : ℕ → Header
+unfoldable pub head : ℕ → Header
 unfolding ofByte
 head b = record { tag = ofByte b; c = ofByte 34; «expiry_min» = 100; copies = 9 }
 
-pub send : ℕ → ℕ → Lent
+unfoldable pub send : ℕ → ℕ → Lent
 unfolding lend head id
 send peer b = lend 0 (Calls.envelope 61440 6708 [] (id peer) (head b) (replicate 48 0))
 
 -- the reply and action rows of each call; who unfolds it unfolds all that a run computes with
-pub rows-of : Post → List Lent → List (List Reply × List Action)
+unfoldable pub rows-of : Post → List Lent → List (List Reply × List Action)
 unfolding wide post id ofByte lend head send results run answerTo after stateFor apply step stepOf tests perform Contacts.contactTests Contacts.setContact Contacts.known Contacts.contactPlace Contacts.isVerified Contacts.putContact Contacts.settingTests Contacts.setConfig Contacts.setClock Contacts.openExchangeTests Contacts.openExchanged Contacts.openedFor Contacts.nowMin Contacts.lifetimeEnd inRange lists.any lists.positionFrom lists.countBy lists.filter lists.replaceAt lists.removeAt lists.insertAt table.ragged table.rows table.held table.join codec.tableOf Window.windowRows Window.prefixRows Window.wrongWindow Window.keysRise Window.strangers Window.lookup Window.isBad sameBytes splice part courier.headerBytes courier.envelopeValid courier.carriedLength be model.custodyOf model.duplicate model.full model.deposited model.carriedTotal model.newCarried model.carry model.accepts model.envelopeTests model.answerCustody model.receiveEnvelope Cells.cellLength Cells.cellCount Cells.freeFrom Cells.freeCell Cells.cellsUsed Cells.newCell Exchange.envelopes Exchange.ownEnvelopeOf Exchange.carriedEnvelopeOf Exchange.receiveInventoryTests Exchange.receiveInventory Exchange.tooMany Exchange.answerInventory Exchange.offers Exchange.isOffered Exchange.halved Exchange.insertOffer Exchange.insertOffers Exchange.custodyTests Exchange.receiveCustody Exchange.settle Exchange.handedActions Exchange.handedOver Exchange.lowered Maintenance.maintenanceTests Maintenance.maintainCouriers Maintenance.maintainOwn Maintenance.ownPuts Maintenance.expiredSlots merge
 rows-of p ls = map (λ (r : Result). (r .replies, r .actions)) (results p ls)
 
@@ -82,7 +77,7 @@ unfolding rows-of
 carried-after p ls = run p ls .state .carried
 
 -- contact 5 verified, a fresh exchange, clock 600
-begin : List Lent
+unfoldable pub begin : List Lent
 unfolding lend id
 begin =
     lend 0 (Calls.contact (id 5) verification.Verified) ∷ lend 0 (Calls.openExchange (id 5)) ∷ lend 0 (Calls.clock 600) ∷ []
@@ -236,63 +231,6 @@ duplicates rs ts = model.duplicate (apply (emptyState 0 configDefault [] [] 4 4)
 tombstone-duplicate : (duplicates [] (tombs 100 1) ≡ true) × (duplicates (rowsFrom 5 3) [] ≡ false)
 unfolding duplicates
 tombstone-duplicate = (refl, refl)
-
--- ---- what a peer may see
-
--- an own row of contact n, and a carried row, of one byte's tag
-ownOf : ℕ → ℕ → Own
-unfolding id ofByte
-ownOf n b = record { contact = id n; msgno = b; tag = ofByte b; s = []; «expiry_min» = 0; copies = 1; renewed = 0; len = 0; cell = 0 }
-
-carriedOf : ℕ → Carried
-unfolding id ofByte
-carriedOf b = record { slot = b; depositor = id 5; tag = ofByte b; c = []; «expiry_min» = 0; copies = 1; len = 0; cell = 0 }
-
--- contact 5 sees the own rows of others in their order, then the carried rows, those that it left too
-seen-by-a-peer : map (λ (e : Envelope). e .head .tag) (envelopes (ownOf 6 1 ∷ ownOf 5 2 ∷ ownOf 7 3 ∷ []) (carriedOf 4 ∷ carriedOf 9 ∷ []) (id 5))
-    ≡ ofByte 1 ∷ ofByte 3 ∷ ofByte 4 ∷ ofByte 9 ∷ []
-unfolding ownOf carriedOf rows-of envelopes Exchange.ownEnvelopeOf Exchange.carriedEnvelopeOf
-seen-by-a-peer = refl
-
--- ---- a window row that is not fetched
-
--- a window row of contact n, and two tags of one prefix
-reach : ℕ → List ℕ → Reachable
-unfolding id
-reach n tag = record { contact = id n; dir = 73; generation = 0; idx = 0; tag = tag }
-
-twin : ℕ → List ℕ
-twin b = replicate 8 17 ++ replicate 8 b
-
--- what a prefix that two window rows have brings contact 5, and what it did before request Two
-fetched : List BadTag → List Tombstone → List Reply
-unfolding id reach twin
-fetched bad ts = Exchange.fetchFor bad ts (reach 1 (twin 1) ∷ reach 2 (twin 2) ∷ []) (id 5) (replicate 8 17)
-
-fetchedBefore : List BadTag → List Reply
-unfolding id reach twin
-fetchedBefore bad = fetchForBefore bad (reach 1 (twin 1) ∷ reach 2 (twin 2) ∷ []) (id 5) (replicate 8 17)
-
-badFor : ℕ → List BadTag
-unfolding id twin
-badFor n = (record { peer = id n; tag = twin 1 }) ∷ []
-
-tombOf : ℕ → List Tombstone
-unfolding twin
-tombOf b = (record { slot = 0; tag = twin b; s = []; «expiry_min» = 0 }) ∷ []
-
--- the first row with the prefix is met; if it is bad for the peer, or a tombstone has its tag, there is no fetch, though the next row has
--- the prefix too; a tombstone of another tag with the prefix stops nothing
-first-row-met :
-    (fetched [] [] ≡ fetchReply (twin 1) ∷ []) × (fetched (badFor 5) [] ≡ []) × (fetched (badFor 6) [] ≡ fetchReply (twin 1) ∷ [])
-    × (fetched [] (tombOf 1) ≡ []) × (fetched [] (tombOf 2) ≡ fetchReply (twin 1) ∷ []) × (fetched (badFor 5) (tombOf 1) ≡ [])
-unfolding fetched badFor tombOf rows-of Exchange.fetchFor
-first-row-met = (refl, refl, refl, refl, refl, refl)
-
--- before, tombstones were not asked
-first-row-met-before : (fetchedBefore [] ≡ fetchReply (twin 1) ∷ []) × (fetchedBefore (badFor 5) ≡ []) × (fetchedBefore (badFor 6) ≡ fetchReply (twin 1) ∷ [])
-unfolding fetchedBefore badFor rows-of fetchForBefore
-first-row-met-before = (refl, refl, refl)
 
 -- ---- the worked example on areas of any bytes, through view and store
 

@@ -16,3 +16,4 @@ pub mod Examples
 pub mod SearchLaws
 pub mod ScreenLaws
 pub mod ScreenCorners
+pub mod FetchCorners
