@@ -204,7 +204,8 @@ typedef struct goosetable_answer {
     uint64_t contact;   /* whose envelope it is, where it is ours */
     size_t replies;     /* rows in front of the reply area */
     size_t actions;     /* rows in front of the action area */
-    size_t length;      /* rows or bytes in front of another answer area, or bytes of a fetched ciphertext */
+    size_t length;      /* rows or bytes in front of another answer area; bytes of a fetched ciphertext; of an inventory's end, rows for which the
+                           tombstones were searched */
     uint32_t idx;       /* index and generation of an envelope that is ours */
     uint8_t generation;
     uint8_t said;       /* enum goosetable_said */
@@ -379,13 +380,15 @@ goosetable_answer goosetable_inventory_of_ours(
  * A list of prefixes from a peer, gathered in the exchange; the empty list is the terminator and is answered: fetches for listed prefixes in the
  * window, in listed order, unless the tag of the first such row is bad for this peer or a tombstone has it; then the tombs of listed prefixes;
  * then offers, which are envelopes with half of the copies, own rows before carried rows, but none with copies 1 or 0, of a tombstoned tag or a
- * listed prefix, nor own ones for this peer. goosetable_ciphertext and goosetable_ciphertext_length have the ciphertext of an offer; a fetch would
- * write its own reply, with all of the copies, over the replies that are being read. Rows are looked up in the window for the terminator alone, but
- * all of it is tested (12, 2) with each list, which takes its time: lend an empty window until the terminator. MALFORMED: over 512 prefixes in all,
- * or any list after the terminator.
+ * listed prefix, nor own ones for this peer. The terminator has in length for how many rows the tombstones were searched: for each that would be
+ * offered if no tag were tombstoned (copies above 1, prefix not listed, own ones not for this peer), 512 at most. length is 0 where a list is
+ * gathered, malformed or refused. goosetable_ciphertext and goosetable_ciphertext_length have the ciphertext of an offer; a fetch would write its
+ * own reply, with all of the copies, over the replies that are being read. Rows are looked up in the window for the terminator alone, but all of it
+ * is tested (12, 2) with each list, which takes its time: lend an empty window until the terminator. MALFORMED: over 512 prefixes in all, or any
+ * list after the terminator.
  * Writes: exchange, prefixes, offers, replies.
  * Refused by: 1 (replies, prefixes, offers), 12, 2, 3.
- * Stack: 3,704 bytes.
+ * Stack: 4,216 bytes.
  */
 goosetable_answer goosetable_inventory(
     const uint8_t device[GOOSETABLE_DEVICE_SIZE],
@@ -675,10 +678,10 @@ goosetable_row goosetable_row_read(const uint8_t *blob, size_t blob_len);
 /* ---- the version */
 
 /* Of header and library alike. The first two numbers change whenever a struct, a size, what a number means or a function's parameters do. */
-#define GOOSETABLE_VERSION "0.2.2"
+#define GOOSETABLE_VERSION "0.2.3"
 #define GOOSETABLE_VERSION_MAJOR 0
 #define GOOSETABLE_VERSION_MINOR 2
-#define GOOSETABLE_VERSION_PATCH 2
+#define GOOSETABLE_VERSION_PATCH 3
 
 /*
  * The version of the library: major * 10,000 + minor * 100 + patch. Its name has the first two numbers.

@@ -198,9 +198,10 @@ impl Timed {
     /// Makes an own envelope and holds it.
     pub fn hold_own(&mut self, new: &NewOwn) {
         let ready = self.own(new);
-        let gave = self.run(Ready::Own(ready));
-        let answer = self.answer(gave);
-        assert!(matches!(answer, Answer::Own(_)), "no envelope of message {}", new.message);
+        let Gave(Given::Own(own, Some(made))) = self.run(Ready::Own(ready)) else {
+            panic!("no envelope of message {}", new.message);
+        };
+        self.made(own, made);
     }
 
     pub fn maintain(&mut self) {
@@ -414,11 +415,12 @@ impl Timed {
 
 // ---- what it gave
 
-fn done(malformed: bool, replies: Vec<CourierRecord>, actions: &[Action]) -> Answer {
+fn done(malformed: bool, replies: Vec<CourierRecord>, actions: &[Action], searched: usize) -> Answer {
     Answer::Done {
         malformed,
         replies: replies.into_iter().map(reply_out).collect(),
         actions: actions.iter().filter_map(action_out).collect(),
+        searched,
     }
 }
 
@@ -456,11 +458,33 @@ impl Timed {
         answer
     }
 
-    pub fn answer(&mut self, gave: Gave) -> Answer {
+    /// The envelopes that the same call brings with every tombstone taken out: request Three's count, which the source does not say.
+    fn searched(&mut self, call: &Call) -> usize {
+        let held = self.device().held.clone();
+        self.device_mut().held.retain(|_, held| matches!(held, Held::Carried { .. }));
+        let ready = self.ready(call).expect("a call of the source");
+        let Gave(Given::Record(Ok(false), replies, ..)) = self.run(ready) else {
+            panic!("malformed, or no record, without tombstones");
+        };
+        self.device_mut().held = held;
+        replies.iter().filter(|reply| matches!(reply, CourierRecord::Envelope(_))).count()
+    }
+
+    /// A record that was taken. The end of an inventory, which is the empty list, has the count; it is 0 for all else.
+    fn taken(&mut self, call: &Call, replies: Vec<CourierRecord>, actions: &[Action]) -> Answer {
+        let searched = match call {
+            Call::Inventory { prefixes, .. } if prefixes.is_empty() => self.searched(call),
+            _ => 0,
+        };
+        done(false, replies, actions, searched)
+    }
+
+    pub fn answer(&mut self, call: &Call, gave: Gave) -> Answer {
         match gave.0 {
             Given::Record(Err(_), _, _, asked) => ours(asked.expect("only an opening has a fault")),
-            Given::Record(Ok(malformed), replies, actions, _) => done(malformed, replies, &actions),
-            Given::Actions(actions) => done(false, Vec::new(), &actions),
+            Given::Record(Ok(true), replies, actions, _) => done(true, replies, &actions, 0),
+            Given::Record(Ok(false), replies, actions, _) => self.taken(call, replies, &actions),
+            Given::Actions(actions) => done(false, Vec::new(), &actions, 0),
             Given::Own(_, None) => Answer::NoEnvelope,
             Given::Own(own, Some(made)) => self.made(own, made),
             Given::Lists(lists) => listed(lists),

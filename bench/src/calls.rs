@@ -1,8 +1,8 @@
 //! The calls that are measured, for a pair of posts: what they need is put into both.
 
-use crate::pair::{Pair, envelope, new_own, sixteen};
+use crate::pair::{Pair, Shape, envelope, new_own, sixteen};
 use post::{
-    Call, ChainRow, Custody, Envelope, Held, NewOwn, Prefix, SkippedRow, Tag, Verification, encode_chains,
+    Call, ChainRow, Custody, Envelope, Held, NewOwn, Prefix, SkippedRow, Tag, Verification, array, encode_chains,
     encode_skipped, encode_window,
 };
 use source::raw;
@@ -66,6 +66,26 @@ pub fn list(pair: &mut Pair) -> Call {
 pub fn terminator(pair: &mut Pair) -> Call {
     pair.exchange(vec![pair.listed()]);
     inventory(pair, &[])
+}
+
+/// The end of an inventory of these tags.
+fn end_of(pair: &mut Pair, tags: impl Iterator<Item = Tag>) -> Call {
+    pair.exchange(vec![tags.map(|tag| array(&tag, 0)).collect()]);
+    inventory(pair, &[])
+}
+
+/// As many tags as own and carried rows, of which the post holds none.
+pub fn end_of_others(pair: &mut Pair) -> Call {
+    let rows = pair.shape.own + pair.shape.carried;
+    end_of(pair, (0..rows).map(|number| sixteen(b'P', number)))
+}
+
+/// The tags of all own and carried rows of a full post, also where none of them is held.
+pub fn end_of_every_row(pair: &mut Pair) -> Call {
+    let full = Shape::of(pair.shape.contacts);
+    let own: Vec<Tag> = full.own_rows().iter().map(tag_of).collect();
+    let carried = (0..full.carried).map(|number| envelope(number, LENGTH).tag);
+    end_of(pair, own.into_iter().chain(carried))
 }
 
 /// Everything is offered before.

@@ -13,6 +13,8 @@ pub enum Expected {
     Code(Custody),
     Ours,
     Replies(fn(usize) -> usize),
+    /// The end of an inventory: its replies, and for how many rows the tombstones are searched.
+    Ended(fn(usize) -> usize, fn(usize) -> usize),
     Actions(fn(usize) -> usize),
     Prefixes(fn(usize) -> usize),
     Rows(fn(usize) -> usize),
@@ -72,7 +74,7 @@ fn at_quota(rows: usize) -> Shape {
 
 // ---- the cases
 
-const RECORD: &str = "`courier_record`";
+pub const RECORD: &str = "`courier_record`";
 const OPENING: &str = "`courier_record`, its opening stubbed";
 const OWN: &str = "`own_envelope`";
 const MAINTAIN: &str = "`maintain_couriers`";
@@ -100,10 +102,17 @@ fn envelopes() -> Vec<Case> {
 
 fn exchanges() -> Vec<Case> {
     let list = changes("inventory received: 512 prefixes listed", RECORD, calls::list, Replies(|_| 0));
-    let ended = changes("inventory received: its end", RECORD, calls::terminator, Replies(|rows| 4 * rows));
+    let every_row = |rows| 2 * rows;
+    let ended = changes("inventory received: its end", RECORD, calls::terminator, Ended(|rows| 4 * rows, every_row));
+    let no_row_listed = Case {
+        name: "inventory received: its end, no row listed",
+        call: calls::end_of_others,
+        expected: Ended(every_row, every_row),
+        ..ended
+    };
     let with_window = Case {
         name: "inventory received, 5,000 window rows: its end",
-        expected: Replies(|rows| 6 * rows),
+        expected: Ended(|rows| 6 * rows, every_row),
         ..ended.on(Shape::with_window)
     };
     let delivered = Case {
@@ -114,6 +123,7 @@ fn exchanges() -> Vec<Case> {
         list,
         Case { name: "inventory received, 5,000 window rows: 512 prefixes listed", ..list.on(Shape::with_window) },
         ended,
+        no_row_listed,
         with_window,
         Case { name: "the same, the source's tags computed", ..with_window.forgetting() },
         delivered,
@@ -175,6 +185,9 @@ impl Expected {
                 matches!(replies[..], [Reply::Custody(_, said)] if said == *code)
             }
             (Replies(count), Answer::Done { malformed, replies, .. }) => !malformed && replies.len() == count(rows),
+            (Ended(count, rows_of), Answer::Done { malformed, replies, searched, .. }) => {
+                !malformed && replies.len() == count(rows) && *searched == rows_of(rows)
+            }
             (Actions(count), Answer::Done { malformed, actions, .. }) => !malformed && actions.len() == count(rows),
             (Prefixes(count), Answer::Listed(prefixes)) => prefixes.len() == count(rows),
             (Rows(count), Answer::Window(listed)) => listed.len() == count(rows),

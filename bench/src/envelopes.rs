@@ -54,7 +54,7 @@ fn compare(pair: &mut Pair, flat: &mut Flat, calls: &[Call]) {
         let answer = pair.library.answer(call, &said);
         let ready = pair.source.ready(call).expect("the source has envelopes");
         let gave = pair.source.run(ready);
-        assert!(answer == pair.source.answer(gave), "a code that differs from the source's");
+        assert!(answer == pair.source.answer(call, gave), "a code that differs from the source's");
         let Call::Envelope { peer, envelope, .. } = call else {
             unreachable!("envelopes only");
         };
@@ -63,7 +63,8 @@ fn compare(pair: &mut Pair, flat: &mut Flat, calls: &[Call]) {
         let [(tag, code)] = replies[..] else {
             unreachable!("one code for each");
         };
-        let expected = Answer::Done { malformed: false, replies: vec![Reply::Custody(tag, code)], actions: Vec::new() };
+        let replies = vec![Reply::Custody(tag, code)];
+        let expected = Answer::Done { malformed: false, replies, actions: Vec::new(), searched: 0 };
         assert!(answer == expected, "a code that differs from the plain program's");
         codes[usize::from(code.code())] += 1;
     }

@@ -553,6 +553,14 @@ fn own_row(library: &Library, row: &[u8]) -> OwnRow {
     }
 }
 
+/// For how many rows the tombstones were searched: of an inventory, which has it as its length.
+fn searched(call: &Call, said: &sys::Answer) -> usize {
+    match call {
+        Call::Inventory { .. } => said.length,
+        _ => 0,
+    }
+}
+
 impl Library {
     fn done(&self, call: &Call, said: &sys::Answer) -> Answer {
         let written = |width: usize| self.answer[..said.length * width].chunks_exact(width);
@@ -567,6 +575,7 @@ impl Library {
                 malformed: said.said == sys::MALFORMED,
                 replies: self.replies.chunks_exact(REPLY).take(said.replies).map(|row| reply(self, row)).collect(),
                 actions: self.actions.chunks_exact(ACTION).take(said.actions).map(action).collect(),
+                searched: searched(call, said),
             },
         }
     }

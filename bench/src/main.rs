@@ -7,6 +7,7 @@ mod flat;
 mod hashes;
 mod keys;
 mod library;
+mod listed;
 mod measured;
 mod pages;
 mod pair;
@@ -17,12 +18,13 @@ mod timing;
 use std::env::args;
 use std::process::exit;
 
-const PARTS: [(&str, fn()); 6] = [
+const PARTS: [(&str, fn()); 7] = [
     ("hashes", hashes::run),
     ("keys", keys::run),
     ("tags", tags::run),
     ("envelopes", envelopes::run),
     ("pages", pages::run),
+    ("listed", listed::run),
     ("calls", measured::run),
 ];
 
@@ -31,7 +33,7 @@ fn main() {
     let named: Vec<String> = args().skip(1).collect();
     let known = |name: &String| PARTS.iter().any(|(part, _)| part == name);
     if let Some(name) = named.iter().find(|name| !known(name)) {
-        eprintln!("bench: no part '{name}'; there are hashes, keys, tags, envelopes, pages, calls");
+        eprintln!("bench: no part '{name}'; there are hashes, keys, tags, envelopes, pages, listed, calls");
         exit(2);
     }
     for (part, run) in PARTS {

@@ -9,12 +9,12 @@ use std::time::Duration;
 
 const FEW: usize = 16;
 const MANY: usize = 256;
-const PASSES: usize = 5;
+pub const PASSES: usize = 5;
 /// For the many rows, in one pass.
-const BUDGET: Duration = Duration::from_millis(200);
+pub const BUDGET: Duration = Duration::from_millis(200);
 
 /// Nanoseconds of the library and of the source.
-type Times = [f64; 2];
+pub type Times = [f64; 2];
 
 /// Of the few and the many rows of one case.
 #[derive(Clone, Copy)]
@@ -27,17 +27,18 @@ struct Measured {
 fn compare(case: &Case, pair: &mut Pair, call: &Call, rows: usize) {
     let said = pair.library.run(call);
     let answer = pair.library.answer(call, &said);
-    assert!(case.expected.is(&answer, rows), "{} at {rows} rows: the library answers {answer:?}", case.name);
+    assert!(case.expected.is(&answer, rows), "{} at {rows}: the library answers {answer:?}", case.name);
     if let Some(ready) = pair.source.ready(call) {
         let gave = pair.source.run(ready);
-        assert!(answer.agrees(&pair.source.answer(gave)), "{} at {rows} rows: the answers differ", case.name);
+        assert!(answer.agrees(&pair.source.answer(call, gave)), "{} at {rows}: the answers differ", case.name);
     }
     let held = pair.library.saved() == pair.source.saved();
     let own = pair.library.own_rows() == pair.source.own_rows();
-    assert!(held && own, "{} at {rows} rows: the rows differ after it", case.name);
+    assert!(held && own, "{} at {rows}: the rows differ after it", case.name);
 }
 
-fn time(case: &Case, rows: usize, budget: Duration) -> Times {
+/// On a post of the shape that the case has for so many rows.
+pub fn time(case: &Case, rows: usize, budget: Duration) -> Times {
     let mut pair = Pair::new((case.shape)(rows));
     let call = (case.call)(&mut pair);
     compare(case, &mut pair, &call, rows);
@@ -62,6 +63,11 @@ fn time(case: &Case, rows: usize, budget: Duration) -> Times {
     times.map(|time| time / case.calls as f64)
 }
 
+/// The lesser of each.
+pub fn least(one: Times, two: Times) -> Times {
+    [one[0].min(two[0]), one[1].min(two[1])]
+}
+
 impl Measured {
     const NOTHING: Self = Self { few: [f64::MAX; 2], many: [f64::MAX; 2] };
 
@@ -70,7 +76,6 @@ impl Measured {
     }
 
     fn least(self, other: Self) -> Self {
-        let least = |one: Times, two: Times| [one[0].min(two[0]), one[1].min(two[1])];
         Self { few: least(self.few, other.few), many: least(self.many, other.many) }
     }
 
@@ -83,13 +88,13 @@ impl Measured {
     }
 }
 
-fn microseconds(nanoseconds: f64) -> String {
+pub fn microseconds(nanoseconds: f64) -> String {
     let places = if nanoseconds < 10_000.0 { 2 } else { 0 };
     format!("{:.places$}", nanoseconds / 1_000.0)
 }
 
 /// With two digits that count.
-fn ratio(ratio: f64) -> String {
+pub fn ratio(ratio: f64) -> String {
     let places = if ratio < 0.095 { 3 } else { 2 };
     format!("{ratio:.places$}")
 }

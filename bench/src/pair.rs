@@ -153,7 +153,7 @@ impl Shape {
     }
 
     /// None of them for the peer, who is the last contact.
-    fn own_rows(&self) -> Vec<NewOwn> {
+    pub fn own_rows(&self) -> Vec<NewOwn> {
         let row = |number: usize| {
             let contact = (number % (self.contacts - 1)) as u64 + 1;
             new_own(contact, number, LENGTHS[number % LENGTHS.len()])

@@ -76,10 +76,9 @@ static void action(const struct post *p, size_t i)
     }
 }
 
-void end(const struct post *p, goosetable_answer a)
+static void rows(const struct post *p, goosetable_answer a)
 {
     size_t i;
-    said(a);
     for (i = 0; i < a.replies; i++)
         reply(p->replies, i);
     for (i = 0; i < a.actions; i++)
@@ -87,8 +86,15 @@ void end(const struct post *p, goosetable_answer a)
     putchar('\n');
 }
 
-void end_with(goosetable_answer a, const char *unit)
+void end(const struct post *p, goosetable_answer a)
 {
     said(a);
-    printf(", %s %zu\n", unit, a.length);
+    rows(p, a);
+}
+
+void end_with(const struct post *p, goosetable_answer a, const char *unit)
+{
+    said(a);
+    printf(", %s %zu", unit, a.length);
+    rows(p, a);
 }

@@ -10,8 +10,8 @@ void begin(const struct post *p, const char *what, ...);
 /* Ends the line with what the call says, its replies and its actions. */
 void end(const struct post *p, goosetable_answer a);
 
-/* Ends the line of a call that counts rows or bytes, with their name. */
-void end_with(goosetable_answer a, const char *unit);
+/* The same of a call that counts rows or bytes, with their name and number before its replies. */
+void end_with(const struct post *p, goosetable_answer a, const char *unit);
 
 /* A tag's first bytes, as hex. */
 void tag(const uint8_t *bytes);

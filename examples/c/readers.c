@@ -1,6 +1,7 @@
 /*
  * Tests of the header's readers on what calls left: each value beside the one that the calls were given, or that the call itself says; of tags,
- * secrets and commitments; of screen pages; and of how a window is made. It prints how many were compared, or the first that differs.
+ * secrets and commitments; of screen pages; of how a window is made; and of how many rows an inventory's end searches the tombstones for. It prints
+ * how many were compared, or the first that differs.
  */
 #include "post.h"
 
@@ -230,17 +231,24 @@ static void read_exchange(int opened, int complete, uint64_t peer, size_t listed
     is("offers", goosetable_exchange_offers(exchange.state), offers);
 }
 
+/* A list of the prefix of a tag, or the terminator: what it says, how many replies it has, and for how many rows the tombstones were searched. */
+static void list(uint64_t peer, const uint8_t *tag, uint8_t expected, size_t replies, size_t searched)
+{
+    goosetable_answer a = post_inventory(&post, &exchange, peer, tag ? tag : tags[0], tag ? GOOSETABLE_PREFIX_SIZE : 0);
+    said(tag ? "a list" : "the terminator", a, expected);
+    is("its replies", a.replies, replies);
+    is("rows searched for", a.length, searched);
+}
+
 /* The offers of two own and two carried rows, all read while the replies stand. One is accepted, and one's row goes. */
 static void exchange_all(void)
 {
     goosetable_answer a;
     read_exchange(0, 0, 0, 0, 0);
     said("fresh exchange", post_fresh_exchange(&post, &exchange, PEER), GOOSETABLE_DONE);
-    said("a list", post_inventory(&post, &exchange, PEER, tags[3], GOOSETABLE_PREFIX_SIZE), GOOSETABLE_DONE);
+    list(PEER, tags[3], GOOSETABLE_DONE, 0, 0);
     read_exchange(1, 0, PEER, 1, 0);
-    a = post_inventory(&post, &exchange, PEER, tags[3], 0);
-    said("the terminator", a, GOOSETABLE_DONE);
-    is("four offers", a.replies, 4);
+    list(PEER, NULL, GOOSETABLE_DONE, 4, 4);
     read_exchange(1, 1, PEER, 0, 4);
     read_envelope(0, 0, own_ct, 48, MINUTE + LIFETIME, 4);
     read_envelope(1, 1, own_ct, 80, MINUTE + LIFETIME, 4);
@@ -385,13 +393,36 @@ static void replace_row(void)
     free(tag);
 }
 
+/*
+ * The rows for which the tombstones are searched. Own row 7 comes again, with the tag that has a tombstone by now, and own row 10 with one copy;
+ * own rows 8 and 9 and both carried rows are as before. The own rows are for the other contact.
+ */
+static void search(void)
+{
+    uint8_t *row = area(GOOSETABLE_OWN_ROW);
+    own_envelope(7, 48, row);
+    said("one copy", goosetable_setting(post.device, 1, 1, LIFETIME), GOOSETABLE_DONE);
+    own_envelope(10, 48, row);
+    said("nine copies", goosetable_setting(post.device, 1, 9, LIFETIME), GOOSETABLE_DONE);
+    said("fresh exchange", post_fresh_exchange(&post, &exchange, PEER), GOOSETABLE_DONE);
+    list(PEER, NULL, GOOSETABLE_DONE, 4, 5);
+    said("fresh exchange", post_fresh_exchange(&post, &exchange, PEER), GOOSETABLE_DONE);
+    list(PEER, tags[1], GOOSETABLE_DONE, 0, 0);
+    list(PEER, NULL, GOOSETABLE_DONE, 3, 4);
+    list(PEER, NULL, GOOSETABLE_MALFORMED, 0, 0);
+    list(OTHER, NULL, GOOSETABLE_REFUSED_WRONG_EXCHANGE, 0, 0);
+    said("fresh exchange", post_fresh_exchange(&post, &exchange, OTHER), GOOSETABLE_DONE);
+    list(OTHER, NULL, GOOSETABLE_DONE, 2, 2);
+    free(row);
+}
+
 /* Own rows expire, and are renewed. */
 static void renew(void)
 {
     said("the clock", goosetable_clock(post.device, 60 * (MINUTE + LIFETIME)), GOOSETABLE_DONE);
     said("maintenance", post_maintenance(&post), GOOSETABLE_DONE);
-    read_own(post.own, 8, 80, 1, 1);
-    read_counts(2, 2, 0, 0, 1);
+    read_own(post.own + GOOSETABLE_OWN_ROW, 8, 80, 1, 1);
+    read_counts(2, 4, 0, 0, 1);
 }
 
 /* Counts and cells that no call left: what fits is read. */
@@ -447,6 +478,7 @@ int main(void)
     read_pages(3);
     sort_window();
     replace_row();
+    search();
     renew();
     read_pages(0);
     spoil();

@@ -93,14 +93,14 @@ static void hand_reply(struct post *from, struct post *to, struct exchange *e, c
     }
 }
 
-/* What one side has goes to the other in lists of at most 500, and then the empty one, which is answered. */
+/* What one side has goes to the other in lists of at most 500, and then the empty one, which is answered and says for how many rows it searched. */
 static goosetable_answer list(struct post *answers, struct post *lists, struct exchange *e)
 {
     uint8_t *prefixes = area(GOOSETABLE_PREFIXES_SIZE);
     goosetable_answer a = post_inventory_of_ours(lists, answers->id, prefixes);
     size_t at, count = a.length;
     begin(lists, "inventory of ours for %s", answers->name);
-    end_with(a, "prefixes");
+    end_with(lists, a, "prefixes");
     for (at = 0; at < count; at += LIST) {
         size_t listed = count - at < LIST ? count - at : LIST;
         a = post_inventory(answers, e, lists->id, prefixes + at * GOOSETABLE_PREFIX_SIZE, listed * GOOSETABLE_PREFIX_SIZE);
@@ -109,7 +109,7 @@ static goosetable_answer list(struct post *answers, struct post *lists, struct e
     }
     a = post_inventory(answers, e, lists->id, prefixes, 0);
     begin(answers, "end of the inventory of %s", lists->name);
-    end(answers, a);
+    end_with(answers, a, "searched");
     free(prefixes);
     return a;
 }
@@ -188,7 +188,7 @@ static void expect_messages(void)
     uint8_t *keys = area(GOOSETABLE_KEYS_SIZE);
     goosetable_answer a = goosetable_window(skipped, sizeof skipped, chain, sizeof chain, keys, GOOSETABLE_KEYS_SIZE);
     begin(&recipient, "window of a skipped key and a chain");
-    end_with(a, "keys");
+    end_with(&recipient, a, "keys");
     make_window(&recipient, sender.id, keys, a.length);
     begin(&recipient, "its second row");
     tag(goosetable_window_tag(recipient.window + GOOSETABLE_WINDOW_ROW));
@@ -213,7 +213,7 @@ static void restart(struct post *p, const struct post *first, const struct post 
     goosetable_answer a = post_save(p, file);
     printf("\n%s restarts\n", p->name);
     begin(p, "save");
-    end_with(a, "bytes");
+    end_with(p, a, "bytes");
     post_close(p);
     set_up(p, p->name, p->id);
     begin(p, "load before its contacts are known");
@@ -249,7 +249,7 @@ static void show(const struct post *p)
     do {
         goosetable_answer a = post_page(p, page, screen);
         begin(p, "page %" PRIu64, page);
-        end_with(a, "bytes");
+        end_with(p, a, "bytes");
         fwrite(screen, 1, a.length, stdout);
     } while (++page < pages);
     free(screen);

@@ -3,14 +3,23 @@
 use mathlib.Core.Path.{_≡_, sym, ap, ap₂, _∙_}
 use mathlib.Core.List.{List, _++_, append-assoc}
 use Prim.Native.Nat.{ℕ, _+_}
-use lib.ListN.{length, drop, replicate}
+use native.Mathlib.Omega.{arith}
+use lib.ListN.{length, drop, replicate, length-append}
 use lib.Seq.{take-at, drop-append-add}
-use Rattle.octets.specs.Bytes.{splice}
+use Rattle.octets.specs.Bytes.{splice, be}
+use Rattle.octets.proofs.Numbers.{length-be}
 use Rattle.courier.specs.declared.Header.{Header}
 use Rattle.courier.specs.Tags.{commitmentOf}
 use Rattle.rows.specs.declared.Own.{Own}
+use Rattle.rows.specs.declared.Reply.{Reply}
 use Rattle.rows.specs.Rows.{replyBytes}
 use Rattle.model.specs.Exchange.{ownEnvelopeOf}
+
+-- a reply with its whole body has 40 bytes
+pub length-reply : (r : Reply) → length (r .body) ≡ 37 → length (replyBytes r) ≡ 40
+unfolding replyBytes
+length-reply r h =
+    omega (arith, length-append (be 1 (r .kind) ++ be 2 (r .cell)) (r .body), length-append (be 1 (r .kind)) (be 2 (r .cell)), length-be 1 (r .kind), length-be 2 (r .cell))
 
 -- what is copied in is the bytes of a row
 pub copied : (lent x b r : List ℕ) (at : ℕ) → b ≡ r → x ≡ splice lent at b → x ≡ splice lent at r

@@ -492,11 +492,19 @@ impl Post {
 
 // ---- what the calls answer
 
+// The replies, and for how many rows the tombstones were searched.
+fn show_answered(replies: &[u8; 61440], n: usize, searched: usize) {
+    lines::show_replies(replies, n);
+    text(b"searched");
+    number(searched as u64);
+    end();
+}
+
 fn show_received(said: inventory::Said, replies: &[u8; 61440]) {
     match said {
         inventory::Said::Refused(why) => lines::show_refusal(why),
         inventory::Said::Malformed => text(b"malformed\n"),
-        inventory::Said::Done(n) => lines::show_replies(replies, n),
+        inventory::Said::Done(n, searched) => show_answered(replies, n, searched),
     }
 }
 

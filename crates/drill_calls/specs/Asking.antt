@@ -71,7 +71,7 @@ envelopeTold (answer.Done replies actions) = rowsTold actions replies
 abbrev pub inventoryTold : Received → Summary
 inventoryTold (received.Refused why) = lineTold (last.Refused why)
 inventoryTold received.Malformed = lineTold last.Malformed
-inventoryTold (received.Done replies) = rowsTold 0 replies
+inventoryTold (received.Done replies searched) = rowsTold 0 replies
 
 -- fetch says a number: 0 an envelope, 1 and 2 refusals, another none
 abbrev pub fetchTold : ℕ → Summary

@@ -175,7 +175,7 @@ fn inventory_in(
     match said {
         inventory::Said::Refused(why) => plain(device, exchange, Last::Refused(why)),
         inventory::Said::Malformed => plain(device, exchange, Last::Malformed),
-        inventory::Said::Done(replied) => listed(device, exchange, 0, replied),
+        inventory::Said::Done(replied, _) => listed(device, exchange, 0, replied),
     }
 }
 

@@ -17,7 +17,7 @@ use Rattle.courier.specs.declared.Header.{Header}
 use Rattle.courier.specs.declared.Custody.{Custody}
 use Rattle.model.specs.Basics.{matchSome, find}
 use Rattle.model.specs.State.{State}
-use Rattle.model.specs.Calls.{Call, Result, contact, setting, clock, openExchange, envelope, inventoryReceived, fetch, custodyAnswer, tomb, opened, failed, storedTombstone, addOwn, maintenance, inventoryOfOurs, rowBlob, save, page, refused, only, missing}
+use Rattle.model.specs.Calls.{Call, Result, contact, setting, clock, openExchange, envelope, inventoryReceived, fetch, custodyAnswer, tomb, opened, failed, storedTombstone, addOwn, maintenance, inventoryOfOurs, rowBlob, save, page, refused, only, missing, toldAt}
 use Rattle.model.specs.Contacts.{setContact, setConfig, setClock, openExchanged}
 use Rattle.model.specs.Window.{windowRows, prefixRows, lookup}
 use Rattle.model.specs.Custody.{oursAt, answerCustody, receiveEnvelope}
@@ -95,7 +95,7 @@ hostPage o = pageAnswer (pageSays o)
 
 -- ---- a call by its refusals and what it performs
 
-counts : {r : Answer} {o : Result} → r .replies ≡ length (o .replies) → r .actions ≡ length (o .actions) → Length (o .answer) (r .length) → Counted r o
+counts : {r : Answer} {o : Result} → r .replies ≡ length (o .replies) → r .actions ≡ length (o .actions) → Length (toldAt 0 o) (o .answer) (r .length) → Counted r o
 counts p q l = record { replies = p; actions = q; written = l }
 
 -- what is said of a result has its counts
@@ -220,7 +220,7 @@ unfolding step perform reportFailed
 failed-counts peer tag s = of-step (Replies 0) (tests s (failed peer tag)) (perform s (failed peer tag)) (λ why. refl) refl
 
 -- a fetch of no reply, by the two tests on its number
-no-reply : (a b : Bool) (n : ℕ) (o : Result) → 0 ≡ length (o .replies) → 0 ≡ length (o .actions) → Length (o .answer) 0 → Counted (cond a (answered 0 0 0 0) (cond b (answered 130 0 0 0) (answered n 0 0 0))) o
+no-reply : (a b : Bool) (n : ℕ) (o : Result) → 0 ≡ length (o .replies) → 0 ≡ length (o .actions) → Length (toldAt 0 o) (o .answer) 0 → Counted (cond a (answered 0 0 0 0) (cond b (answered 130 0 0 0) (answered n 0 0 0))) o
 no-reply true b n o p q l = counts p q l
 no-reply false true n o p q l = counts p q l
 no-reply false false n o p q l = counts p q l

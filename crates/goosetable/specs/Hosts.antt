@@ -13,7 +13,7 @@ use Rattle.chain.specs.declared.DirRead.the-variants as dirs
 use Rattle.courier.specs.declared.Header.{Header}
 use Rattle.model.specs.State.{State}
 use Rattle.model.specs.Calls
-use Rattle.model.specs.Calls.{Call, Answer as ModelAnswer, Result, refused, only}
+use Rattle.model.specs.Calls.{Call, Answer as ModelAnswer, Result, toldAt, refused, only}
 use Rattle.model.specs.Step.{step}
 use Rattle.model.specs.Areas.{Areas, AnswerAreas, Written, view}
 use Rattle.model.specs.Lent.{noAnswers}
@@ -38,23 +38,24 @@ pub record IsRefused {D S A : Type 0} (k : Kept D S) (says : Result → A) (r : 
   pub why : Refusal
   pub leaves : LeavesAll k says (refused why) r d x before after lent back
 
--- the length beside an answer: how many prefixes or bytes are written, and 0 where none are; of a fetch that finds an envelope it is that of its part
-abbrev pub Length : ModelAnswer → ℕ → Type 0
-Length (Calls.refused why) len = len ≡ 0
-Length Calls.malformed len = len ≡ 0
-Length Calls.done len = len ≡ 0
-Length (Calls.ours contact generation idx) len = len ≡ 0
-Length (Calls.found cells position n) len = Unit {0}
-Length Calls.missing len = len ≡ 0
-Length (Calls.ownRow row) len = len ≡ 0
-Length Calls.noEnvelope len = len ≡ 0
-Length (Calls.wrote count) len = len ≡ count
+-- the length beside an answer: how many prefixes or bytes are written, the number that a call which is done tells, and 0 where there is neither; of a
+-- fetch that finds an envelope it is that of its part
+abbrev pub Length : (told : ℕ) → ModelAnswer → ℕ → Type 0
+Length told (Calls.refused why) len = len ≡ 0
+Length told Calls.malformed len = len ≡ 0
+Length told Calls.done len = len ≡ told
+Length told (Calls.ours contact generation idx) len = len ≡ 0
+Length told (Calls.found cells position n) len = Unit {0}
+Length told Calls.missing len = len ≡ 0
+Length told (Calls.ownRow row) len = len ≡ 0
+Length told Calls.noEnvelope len = len ≡ 0
+Length told (Calls.wrote count) len = len ≡ count
 
 -- the counts of replies and actions are how many the model's result has, and the length is what its answer says
 pub record Counted (r : Answer) (o : Result) : Type 0 where
   pub replies : r .replies ≡ length (o .replies)
   pub actions : r .actions ≡ length (o .actions)
-  pub written : Length (o .answer) (r .length)
+  pub written : Length (toldAt 0 o) (o .answer) (r .length)
 
 -- Small areas d, which hold the device and the exchange of a call, are x after it. It answers and leaves what `call` gives of the state that all areas hold, and
 -- x has just the bytes of what it holds, put into d. Where the number in its answer (`host` r) is a refusal's nothing changes.

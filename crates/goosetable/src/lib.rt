@@ -66,8 +66,8 @@ use host_answers::stored_answer;
 use host_answers::tomb_answer;
 use host_answers::window_answer;
 
-// 0.2.2 as a number: major * 10,000 + minor * 100 + patch.
-const VERSION: u32 = 202;
+// 0.2.3 as a number: major * 10,000 + minor * 100 + patch.
+const VERSION: u32 = 203;
 
 // ---- what the host sets
 
@@ -311,7 +311,7 @@ pub extern "C" fn goosetable_inventory_of_ours(
     listed_answer(inventory::inventory(d, ContactId(peer), contacts, own, carried, prefixes))
 }
 
-// A list of prefixes from a peer.
+// A list of prefixes from a peer; the length counts the rows for which its end searched the tombstones.
 #[no_mangle]
 pub extern "C" fn goosetable_inventory(
     device: &[u8; 60],

@@ -107,7 +107,7 @@ code i peer said = lend i (Calls.custodyAnswer 6708 (id peer) (ofByte 17) said)
 
 -- the areas after a list of calls; who unfolds it unfolds all that a run computes with
 unfoldable pub ran : ℕ → List Lent → PostAreas
-unfolding areas sessionAreas id ofByte lend committing send sends contact openFor terminator code runAreas afterAreas areasFor view viewSession store storeDevice storeSession apply step stepOf tests perform Contacts.contactTests Contacts.setContact Contacts.known Contacts.contactPlace Contacts.isVerified Contacts.putContact Contacts.settingTests Contacts.setConfig Contacts.openExchangeTests Contacts.openExchanged Contacts.openedFor Contacts.nowMin Contacts.lifetimeEnd inRange lists.any lists.positionFrom lists.countBy lists.filter lists.replaceAt lists.removeAt lists.insertAt table.ragged table.rows table.held table.join table.written codec.tableOf codec.withTable num encoded.carriedOf encoded.carriedBytes encoded.contactOf encoded.contactBytes encoded.offerOf encoded.offerBytes Window.windowRows Window.prefixRows Window.wrongWindow Window.keysRise Window.strangers Window.lookup Window.isBad sameBytes splice part courier.headerBytes courier.headerOf courier.envelopeValid courier.carriedLength be model.custodyOf model.duplicate model.full model.deposited model.carriedTotal model.newCarried model.carry model.accepts model.envelopeTests model.answerCustody model.receiveEnvelope Cells.cellLength Cells.cellCount Cells.freeFrom Cells.freeCell Cells.cellsUsed Cells.newCell Exchange.envelopes Exchange.ownEnvelopeOf Exchange.carriedEnvelopeOf Exchange.receiveInventoryTests Exchange.receiveInventory Exchange.tooMany Exchange.answerInventory Exchange.offers Exchange.isOffered Exchange.halved Exchange.insertOffer Exchange.insertOffers Exchange.custodyTests Exchange.receiveCustody Exchange.settle Exchange.handedActions Exchange.handedOver Exchange.lowered
+unfolding areas sessionAreas id ofByte lend committing send sends contact openFor terminator code runAreas afterAreas areasFor view viewSession store storeDevice storeSession apply step stepOf tests perform Contacts.contactTests Contacts.setContact Contacts.known Contacts.contactPlace Contacts.isVerified Contacts.putContact Contacts.settingTests Contacts.setConfig Contacts.openExchangeTests Contacts.openExchanged Contacts.openedFor Contacts.nowMin Contacts.lifetimeEnd inRange lists.any lists.positionFrom lists.countBy lists.filter lists.replaceAt lists.removeAt lists.insertAt table.ragged table.rows table.held table.join table.written codec.tableOf codec.withTable num encoded.carriedOf encoded.carriedBytes encoded.contactOf encoded.contactBytes encoded.offerOf encoded.offerBytes Window.windowRows Window.prefixRows Window.wrongWindow Window.keysRise Window.strangers Window.lookup Window.isBad sameBytes splice part courier.headerBytes courier.headerOf courier.envelopeValid courier.carriedLength be model.custodyOf model.duplicate model.full model.deposited model.carriedTotal model.newCarried model.carry model.accepts model.envelopeTests model.answerCustody model.receiveEnvelope Cells.cellLength Cells.cellCount Cells.freeFrom Cells.freeCell Cells.cellsUsed Cells.newCell Exchange.envelopes Exchange.ownEnvelopeOf Exchange.carriedEnvelopeOf Exchange.receiveInventoryTests Exchange.receiveInventory Exchange.tooMany Exchange.answerInventory Exchange.offers Exchange.isOffered Exchange.inQuestion Exchange.halved Exchange.insertOffer Exchange.insertOffers Exchange.custodyTests Exchange.receiveCustody Exchange.settle Exchange.handedActions Exchange.handedOver Exchange.lowered
 ran cells ls = runAreas (areas cells) ls
 
 -- what a call answers there

@@ -1,5 +1,5 @@
 -- The answer of each call in the one form that a host gets: document 01's number, or 0 done, 128 malformed, 129 ours, 130 no such row or envelope here, 131 no envelope
--- made; and how many replies, actions, rows or bytes there are.
+-- made; and how many replies, actions, rows or bytes there are, or for how many rows the tombstones were searched.
 -- Assumes nothing.
 use Prim.Native.Nat.{ℕ}
 use mathlib.Core.Bool.{cond}
@@ -110,7 +110,7 @@ listedAnswer (listing.Wrote count) = answered 0 0 0 count
 listedAnswer (listing.Refused why) = refusing why
 
 abbrev pub inventoryAnswer : InventorySaid → Answer
-inventoryAnswer (inventorySaid.Done replies) = answered 0 replies 0 0
+inventoryAnswer (inventorySaid.Done replies searched) = answered 0 replies 0 searched
 inventoryAnswer inventorySaid.Malformed = answered 128 0 0 0
 inventoryAnswer (inventorySaid.Refused why) = refusing why
 

@@ -30,7 +30,8 @@ pub const MISSING: u8 = 130;
 pub const NO_ENVELOPE: u8 = 131;
 
 // The answer of every call: what it says, how many rows lie in front of the reply and action areas, and how many rows or bytes in front
-// of another answer area, or how long a fetched ciphertext is. Contact, generation and index are those of an envelope that is ours.
+// of another answer area, how long a fetched ciphertext is, or for how many rows an inventory's end searched the tombstones. Contact,
+// generation and index are those of an envelope that is ours.
 #[repr(C)]
 pub struct Answer {
     pub contact: u64,
@@ -137,7 +138,7 @@ pub fn inventory_answer(said: inventory::Said) -> Answer
     ensures { λ r. ⌜ r ≡ inventoryAnswer said ⌝ }
 {
     match said {
-        inventory::Said::Done(replies) => answer_of(DONE, replies, 0, 0),
+        inventory::Said::Done(replies, searched) => answer_of(DONE, replies, 0, searched),
         inventory::Said::Malformed => answer_of(MALFORMED, 0, 0, 0),
         inventory::Said::Refused(why) => refused(why),
     }

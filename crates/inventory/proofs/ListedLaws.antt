@@ -8,8 +8,7 @@ use Prim.Native.Nat.{ℕ, _+_, _*_, _/_, _≤_, _<_}
 use native.Mathlib.Omega.{arith}
 use lib.ListN.{length, take, drop, getD, replicate, length-append, length-replicate, drop-of-length-le}
 use lib.Seq.{take-take}
-use Rattle.octets.specs.Bytes.{part, splice, be, sameBytes}
-use Rattle.octets.proofs.Numbers.{length-be}
+use Rattle.octets.specs.Bytes.{part, splice, sameBytes}
 use Rattle.octets.proofs.Parts.{part-part, length-part}
 use Rattle.core.specs.declared.ContactId.{ContactId}
 use Rattle.table.specs.declared.Found.the-variants.{At, Nothing}
@@ -28,15 +27,13 @@ use Rattle.model.specs.Calls.{fetchReply, tombReply}
 use Rattle.model.specs.Window.{noReachable, windowRows, prefixCodec, lookup, isBad}
 use Rattle.model.specs.Exchange.{fetchFor, hasPrefix, tombFor}
 use Rattle.model.specs.Tombs.{tombstoned}
-use Rattle.inventory.specs.Inventory.{Appended, tombOf}
-use Rattle.inventory.proofs.AppendLaws.{append-none, append-one, Filling, filling-start, filling-next, filling-end, map-flat}
+use Rattle.answers.proofs.Laws.{length-reply}
+use Rattle.offers.specs.Appended.{Appended}
+use Rattle.offers.proofs.AppendLaws.{append-none, append-one}
+use Rattle.inventory.specs.Inventory.{tombOf}
+use Rattle.inventory.proofs.FillLaws.{Filling, filling-start, filling-next, filling-end, map-flat}
 
 -- ---- the bytes of a reply
-
-pub length-reply : (r : Reply) → length (r .body) ≡ 37 → length (replyBytes r) ≡ 40
-unfolding replyBytes
-length-reply r h =
-    omega (arith, length-append (be 1 (r .kind) ++ be 2 (r .cell)) (r .body), length-append (be 1 (r .kind)) (be 2 (r .cell)), length-be 1 (r .kind), length-be 2 (r .cell))
 
 length-fetch : (tag : List ℕ) → length tag ≡ 16 → length (replyBytes (fetchReply tag)) ≡ 40
 length-fetch tag h = length-reply (fetchReply tag) (omega (arith, length-append tag (replicate 21 0), length-replicate {A = ℕ} 21 0))

@@ -23,17 +23,20 @@ use Rattle.model.specs.Basics.{trunc8}
 use Rattle.model.specs.State.{nothing}
 use Rattle.model.specs.Calls.{Call, inventoryOfOurs}
 use Rattle.model.specs.Contacts.{known}
-use Rattle.model.specs.Exchange.{Envelope, envelopes, inventory, inventoryTests, listInventory}
+use Rattle.model.specs.Exchange.{Envelope, envelopes, inventory, noCarried, inventoryTests, listInventory}
 use Rattle.model.specs.Step.{tests, perform, step}
 use Rattle.model.specs.Areas.{Areas, Written, view, store, storeDevice, storeSession, answerAreas}
 use Rattle.model.proofs.CallLaws.{refused-here, not-here, no-test, refused-call}
 use Rattle.model.specs.Lent.{bytesLent}
-use Rattle.inventory.specs.declared.Row.{Row}
+use Rattle.offers.specs.declared.Row.{Row}
+use Rattle.offers.specs.Appended.{Appended}
+use Rattle.offers.specs.Entries.{Entry, ownEntry, carriedEntry, entries, entryAt, rowOf}
+use Rattle.offers.proofs.AppendLaws.{append-none, append-one}
+use Rattle.offers.proofs.EntryLaws.{length-held, held-is, sent, envelopes-sent}
 use Rattle.inventory.specs.declared.Listed.{Listed}
 use Rattle.inventory.specs.declared.Listed.the-variants as listed
-use Rattle.inventory.specs.Inventory.{Entry, entries, entryAt, rowOf, Appended, prefixFor, prefixOf, inventorySays, heldIn}
-use Rattle.inventory.proofs.AppendLaws.{map-flat, flat-same, append-none, append-one, Filling, filling-next, filling-end}
-use Rattle.inventory.proofs.EntryLaws.{noEntry, length-entries, entry-is, sent, envelopes-sent}
+use Rattle.inventory.specs.Inventory.{prefixFor, prefixOf, inventorySays, heldIn}
+use Rattle.inventory.proofs.FillLaws.{map-flat, flat-same, Filling, filling-next, filling-end}
 
 -- ---- a row's prefix
 
@@ -58,13 +61,13 @@ module _ (peer : ContactId) (own carried : List ℕ) (n m : ℕ) (lent : List �
 
   module _ (fits-own : n * 54 ≤ length own) (fits-carried : m * 57 ≤ length carried) {i k : ℕ} {x : List ℕ} (L : Listing i k x) where
     total : length E ≡ n + m
-    total = length-entries peer own carried n m fits-own fits-carried
+    total = length-held (ownEntry peer) carriedEntry own carried n m fits-own fits-carried
 
     pub listing-next : {j : ℕ} {y : List ℕ} {row : Row} → i < n + m → j * 8 ≤ length lent → row ≡ rowOf (entryAt peer own n carried i)
         → Appended 8 x k (prefixFor row) j y → j ≤ k + 1 → Listing (i + 1) j y
     listing-next h room e A b =
-        filling-next 8 prefixOf E lent 0 L noEntry (omega (arith, total))
-        (ap prefixFor (ap rowOf (entry-is peer own carried n m fits-own fits-carried i h) ∙ sym e)) A b room
+        filling-next 8 prefixOf E lent 0 L (carriedEntry noCarried) (omega (arith, total))
+        (ap prefixFor (ap rowOf (held-is (ownEntry peer) carriedEntry own carried n m fits-own fits-carried i h) ∙ sym e)) A b room
 
     pub listing-end : n + m ≤ i → Appended 8 lent 0 (flatMap prefixOf E) k x
     listing-end h = filling-end 8 prefixOf E lent 0 L (omega (arith, total))

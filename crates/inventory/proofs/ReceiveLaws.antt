@@ -1,7 +1,7 @@
 -- The call inventory received: each way out is the model's step.
 -- Assumes nothing.
 use mathlib.Core.Path.{_≡_, refl, sym, ap, ap₂, _∙_, subst}
-use mathlib.Core.Bool.{Bool, true, false, cond, _&&_, _||_}
+use mathlib.Core.Bool.{Bool, true, false, _||_}
 use mathlib.Core.List.{List, [], _∷_, _++_, map, map-append, flatMap}
 use Prim.Native.Nat.{ℕ, _+_, _*_, _/_, _%_, _≤_, min}
 use native.Mathlib.Nat.{zero-add}
@@ -13,7 +13,6 @@ use borrow.Author.Tests.{eq-eqb, ne-eqb}
 use Rattle.octets.specs.Bytes.{splice}
 use Rattle.core.specs.declared.ContactId.{ContactId}
 use Rattle.core.specs.declared.Refusal.{Refusal}
-use Rattle.table.specs.Lists.{filter}
 use Rattle.table.specs.Rows.{held, rows, join, written}
 use Rattle.table.specs.Codec.{tableOf, withTable}
 use Rattle.table.proofs.RowLaws.{held-all, length-rows, join-append, join-rows, splice-written, written-splice}
@@ -28,47 +27,30 @@ use Rattle.rows.specs.Rows.{ownCodec, carriedCodec, tombstoneCodec, badTagCodec
 use Rattle.model.specs.State.{State, nothing}
 use Rattle.model.specs.Calls.{Call, inventoryReceived, Result, only, malformed, refused, stepOf}
 use Rattle.model.specs.Window.{windowRows, prefixRows, prefixCodec}
-use Rattle.model.specs.Exchange.{Envelope, envelopes, replyFor, fetchFor, tombFor, halved, isOffered, offers, answerInventory, listMore, tooMany, receiveInventory, receiveInventoryTests}
+use Rattle.model.specs.Exchange.{Envelope, replyFor, fetchFor, tombFor, searchedRows, offers, answerInventory, listMore, tooMany, receiveInventory, receiveInventoryTests}
 use Rattle.model.specs.Step.{tests, perform, step}
 use Rattle.model.specs.Areas.{Areas, Written, view, viewSession, store, storeDevice, storeSession, answerAreas}
 use Rattle.model.proofs.CallLaws.{quiet-call, refused-call}
 use Rattle.model.specs.Lent.{repliesLent}
+use Rattle.offers.specs.Appended.{Appended}
+use Rattle.offers.specs.Entries.{heldEnvelopes, entries}
+use Rattle.offers.specs.Offers.{ListsOffers, halvesOf, WritesOffers}
+use Rattle.offers.proofs.AppendLaws.{append-then}
+use Rattle.offers.proofs.SentLaws.{offers-sent, searched-counted}
 use Rattle.inventory.specs.declared.Received.{Received}
 use Rattle.inventory.specs.declared.Said.the-variants as said
 use Rattle.inventory.specs.declared.Test.{Test}
 use Rattle.inventory.specs.declared.Test.the-variants as test
-use Rattle.inventory.specs.Inventory.{Entry, entries, Appended, offerFor, offersOf, Answered, completedWith, lengthenedTo, Terminated, Lengthened, receivedSays, receivedIn, Reads}
-use Rattle.inventory.proofs.AppendLaws.{map-flat, filter-flat, flat-same, append-then}
-use Rattle.inventory.proofs.EntryLaws.{sent, envelopes-sent}
+use Rattle.inventory.specs.Inventory.{offersOf, searchedOf, repliesFor, completedWith, lengthenedTo, Terminated, Lengthened, receivedSays, receivedIn, Reads}
 use Rattle.inventory.proofs.TestLaws.{first-refused, first-passed, Tests}
-
--- ---- what is offered is what the model offers
-
-module _ (peer : ContactId) (ts : List Tombstone) (ls : List (List ℕ)) where
-  pub offers-are : (own : List Own) (carried : List Carried)
-      → map halved (filter (isOffered ts ls) (envelopes own carried peer)) ≡ offersOf ts ls (entries peer own carried)
-  unfolding filter offerFor
-  offers-are own carried =
-      let E : List Entry = entries peer own carried in
-      ap (λ (l : List Envelope). map halved (filter (isOffered ts ls) l)) (envelopes-sent peer own carried)
-      ∙ ap (map halved) (filter-flat sent (isOffered ts ls) E) ∙ map-flat (λ (e : Entry). filter (isOffered ts ls) (sent e)) halved E
-      ∙ flat-same (λ (e : Entry). map halved (filter (isOffered ts ls) (sent e))) (offerFor ts ls) (λ e. one (e .goes) (e .envelope)) E
-    where
-      two : (b : Bool) (v : Envelope) → map halved (cond b (v ∷ []) []) ≡ cond b (halved v ∷ []) []
-      two true v = refl
-      two false v = refl
-
-      one : (g : Bool) (v : Envelope) → map halved (filter (isOffered ts ls) (cond g (v ∷ []) [])) ≡ cond (g && isOffered ts ls v) (halved v ∷ []) []
-      one true v = two (isOffered ts ls v) v
-      one false v = refl
 
 -- ---- the terminator
 
-module _ (e : Exchange) (fs ms : List Reply) (es : List Envelope) (replies x y z offers w : List ℕ) (f t : ℕ) where
+module _ (e : Exchange) (fs ms : List Reply) (es : List Envelope) (n : ℕ) (replies x y z offers w : List ℕ) (f t : ℕ) where
   -- three lists of replies, one behind the other
   terminated : (r : Received) (k c : ℕ) → Appended 40 replies 0 (map replyBytes fs) f x → Appended 40 x f (map replyBytes ms) t y
-      → Answered es y t offers k z c w → t * 40 ≤ length replies → r .exchange ≡ completedWith e c → r .said ≡ said.Done k
-      → Terminated e (fs ++ ms ++ map replyFor es) es replies offers r z w
+      → WritesOffers es y t offers k z c w → t * 40 ≤ length replies → r .exchange ≡ completedWith e c → r .said ≡ said.Done k n
+      → Terminated e (fs ++ ms ++ map replyFor es) es n replies offers r z w
   unfolding withTable
   terminated r k c F T A h ex sa =
       let s : map replyBytes fs ++ map replyBytes ms ++ map replyBytes (map replyFor es) ≡ map replyBytes (fs ++ ms ++ map replyFor es) =
@@ -78,7 +60,7 @@ module _ (e : Exchange) (fs ms : List Reply) (es : List Envelope) (replies x y z
       rw (sym s) (append-then 40 both (A .rows) (omega (arith, A .room, both .size))) in
       record {
         exchange = ex ∙ ap (completedWith e) (A .table .count);
-        said = sa ∙ ap said.Done (all .count ∙ zero-add _ ∙ length-map (fs ++ ms ++ map replyFor es) replyBytes);
+        said = sa ∙ ap (λ (m : ℕ). said.Done m n) (all .count ∙ zero-add _ ∙ length-map (fs ++ ms ++ map replyFor es) replyBytes);
         rows = all .area ∙ sym (written-splice replies (map replyBytes (fs ++ ms ++ map replyFor es)));
         table = A .table .area;
       }
@@ -93,20 +75,24 @@ module _ (d : Device) (e : Exchange) (peer : ContactId) (own carried tombs bad w
 
   abbrev Ends : Received → List ℕ → List ℕ → List Tombstone → List Own → List Carried → Type 0
   Ends r z w ts os cs =
-      Terminated e (flatMap (Fetch ts) Taken ++ flatMap (tombFor ts) Taken ++ map replyFor (offersOf ts Taken (entries peer os cs))) (offersOf ts Taken (entries peer os cs)) replies offers r z w
+      Terminated e (flatMap (Fetch ts) Taken ++ flatMap (tombFor ts) Taken ++ map replyFor (offersOf peer ts Taken os cs)) (offersOf peer ts Taken os cs) (length (searchedOf peer Taken os cs)) replies offers r z w
 
-  pub ended : {r : Received} {x y z w : List ℕ} (n m g : ℕ) {f t k c : ℕ} → n ≡ held (length own) 54 (d .own) → m ≡ held (length carried) 57 (d .carried)
+  pub ended : {r : Received} {x y z w : List ℕ} (n m g : ℕ) {f t k c a : ℕ} {flags fs : List Bool} → n ≡ held (length own) 54 (d .own) → m ≡ held (length carried) 57 (d .carried)
       → g ≡ held (length tombs) 44 (d .tombstones) → Appended 40 replies 0 (map replyBytes (flatMap (Fetch (tableOf tombstoneCodec g tombs)) Taken)) f x
       → Appended 40 x f (map replyBytes (flatMap (tombFor (tableOf tombstoneCodec g tombs)) Taken)) t y
-      → Answered (offersOf (tableOf tombstoneCodec g tombs) Taken (entries peer (tableOf ownCodec n own) (tableOf carriedCodec m carried))) y t offers k z c w
-      → t * 40 ≤ length replies → r .exchange ≡ completedWith e c → r .said ≡ said.Done k
+      → ListsOffers (tableOf tombstoneCodec g tombs) Taken (entries peer (tableOf ownCodec n own) (tableOf carriedCodec m carried)) flags a fs
+      → WritesOffers (halvesOf fs (heldEnvelopes (tableOf ownCodec n own) (tableOf carriedCodec m carried))) y t offers k z c w
+      → t * 40 ≤ length replies → r .exchange ≡ completedWith e c → r .said ≡ said.Done k a
       → Ends r z w (tableOf tombstoneCodec (d .tombstones) tombs) (tableOf ownCodec (d .own) own) (tableOf carriedCodec (d .carried) carried)
-  ended {r} {x} {y} {z} {w} n m g {f} {t} {k} {c} en em eg F T A h ex sa =
-      subst (λ (ts : List Tombstone). Ends r z w ts (tableOf ownCodec (d .own) own) (tableOf carriedCodec (d .carried) carried)) (table-held tombstoneCodec (d .tombstones) _ tombs (omega arith) eg)
-      (subst (λ (os : List Own). Ends r z w (tableOf tombstoneCodec g tombs) os (tableOf carriedCodec (d .carried) carried)) (table-held ownCodec (d .own) _ own (omega arith) en)
-      (subst (λ (cs : List Carried). Ends r z w (tableOf tombstoneCodec g tombs) (tableOf ownCodec n own) cs) (table-held carriedCodec (d .carried) _ carried (omega arith) em)
-      (terminated e (flatMap (Fetch (tableOf tombstoneCodec g tombs)) Taken) (flatMap (tombFor (tableOf tombstoneCodec g tombs)) Taken)
-      (offersOf (tableOf tombstoneCodec g tombs) Taken (entries peer (tableOf ownCodec n own) (tableOf carriedCodec m carried))) replies x y z offers w f t r k c F T A h ex sa)))
+  ended {r} {x} {y} {z} {w} n m g {f} {t} {k} {c} {a} {flags} {fs} en em eg F T L W h ex sa =
+      let ts : List Tombstone = tableOf tombstoneCodec g tombs in
+      let os : List Own = tableOf ownCodec n own in
+      let cs : List Carried = tableOf carriedCodec m carried in
+      subst (λ (q : List Tombstone). Ends r z w q (tableOf ownCodec (d .own) own) (tableOf carriedCodec (d .carried) carried)) (table-held tombstoneCodec (d .tombstones) _ tombs (omega arith) eg)
+      (subst (λ (q : List Own). Ends r z w ts q (tableOf carriedCodec (d .carried) carried)) (table-held ownCodec (d .own) _ own (omega arith) en)
+      (subst (λ (q : List Carried). Ends r z w ts os q) (table-held carriedCodec (d .carried) _ carried (omega arith) em)
+      (terminated e (flatMap (Fetch ts) Taken) (flatMap (tombFor ts) Taken) (offersOf peer ts Taken os cs) (length (searchedOf peer Taken os cs)) replies x y z offers w f t r k c F T
+      (subst (λ (es : List Envelope). WritesOffers es y t offers k z c w) (offers-sent peer os cs ts Taken a fs L) W) h ex (sa ∙ ap (said.Done k) (searched-counted peer os cs ts Taken a fs L)))))
 
 -- ---- more prefixes
 
@@ -129,7 +115,7 @@ module _ (e : Exchange) (prefixes : List ℕ) (l : ℕ) (v : List ℕ) (whole : 
   joined : Ls ≡ rows 8 l prefixes ++ rows 8 (length v / 8) v
   joined = ap₂ (λ (x y : List (List ℕ)). x ++ y) (prefixes-are prefixes l l (held-all (length prefixes) 8 l (omega arith) (omega arith))) (more-listed v)
 
-  pub lengthens : (r : Received) (k : ℕ) (x : List ℕ) → k ≡ l + length v / 8 → r .exchange ≡ lengthenedTo e k → r .said ≡ said.Done 0
+  pub lengthens : (r : Received) (k : ℕ) (x : List ℕ) → k ≡ l + length v / 8 → r .exchange ≡ lengthenedTo e k → r .said ≡ said.Done 0 0
       → x ≡ splice prefixes (l * 8) v → Lengthened e Ls prefixes r x
   unfolding withTable
   lengthens r k x ek ex sa h =
@@ -195,22 +181,22 @@ module _ (d : Device) (peer : ContactId) (own carried tombs bad window v : List 
       abbrev Tombs : List Tombstone
       Tombs = tableOf tombstoneCodec (d .tombstones) tombs
 
-      abbrev E : List Entry
-      E = entries peer (tableOf ownCodec (d .own) own) (tableOf carriedCodec (d .carried) carried)
+      abbrev Os : List Own
+      Os = tableOf ownCodec (d .own) own
 
-      -- the terminator is answered, with these prefixes and these envelopes
-      abbrev Ended : Received → List ℕ → List ℕ → List (List ℕ) → List Envelope → Type 0
-      Ended r os back ls es =
-          Terminated e (flatMap (fetchFor (tableOf badTagCodec (d .«bad_tags») bad) Tombs (windowRows window) peer) ls ++ flatMap (tombFor Tombs) ls ++ map replyFor es) es lent area r back os
+      abbrev Cs : List Carried
+      Cs = tableOf carriedCodec (d .carried) carried
 
-      pub says-answered : (r : Received) (os back : List ℕ) → length v / 8 ≡ 0 → Ended r os back Before (offersOf Tombs Before E) → Says O r prefixes os back
-      unfolding answerInventory offers view viewSession store storeDevice storeSession answerAreas withTable written join splice
+      -- the terminator is answered, with these prefixes
+      abbrev Ended : Received → List ℕ → List ℕ → List (List ℕ) → Type 0
+      Ended r os back ls =
+          Terminated e (repliesFor (tableOf badTagCodec (d .«bad_tags») bad) (windowRows window) peer Tombs ls (offersOf peer Tombs ls Os Cs)) (offersOf peer Tombs ls Os Cs)
+          (length (searchedOf peer ls Os Cs)) lent area r back os
+
+      pub says-answered : (r : Received) (os back : List ℕ) → length v / 8 ≡ 0 → Ended r os back Before → Says O r prefixes os back
+      unfolding answerInventory offers searchedRows view viewSession store storeDevice storeSession answerAreas withTable written join splice
       says-answered r os back z T =
-          let F : Ended r os back (S .session .exchange .listed) (offersOf Tombs (S .session .exchange .listed) E) =
-          subst (λ (ls : List (List ℕ)). Ended r os back ls (offersOf Tombs ls E)) before-is T in
-          let G : Ended r os back (S .session .exchange .listed) (offers S peer) =
-          subst (λ (es : List Envelope). Ended r os back (S .session .exchange .listed) es)
-          (sym (offers-are peer Tombs (S .session .exchange .listed) (tableOf ownCodec (d .own) own) (tableOf carriedCodec (d .carried) carried))) F in
+          let G : Ended r os back (S .session .exchange .listed) = subst (Ended r os back) before-is T in
           rw (answers z) (record {
             answer = G .said;
             areas = ap₂ (λ (x : Exchange) (o : List ℕ). B x prefixes o) (G .exchange) (G .table);

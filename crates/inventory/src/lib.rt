@@ -1,6 +1,6 @@
 // Inventories: the prefixes of what is held here, and what a peer's list of prefixes is answered with.
 ghost use mathlib.Core.Path.{_≡_};
-ghost use mathlib.Core.Bool.{not, _&&_, _||_};
+ghost use mathlib.Core.Bool.{not, _||_};
 ghost use mathlib.Core.List.{_++_, map, flatMap};
 ghost use Prim.Native.Nat.{_+_, _*_, _/_, _%_, _≤_, _<_, min};
 ghost use lib.ListN.{length, take};
@@ -15,55 +15,22 @@ ghost use Rattle.model.specs.State.{State};
 ghost use Rattle.model.specs.Calls.{inventoryOfOurs, inventoryReceived};
 ghost use Rattle.model.specs.Contacts.{known, isFor};
 ghost use Rattle.model.specs.Window.{windowRows, prefixRows, prefixCodec, wrongWindow, strangers};
-ghost use Rattle.model.specs.Exchange.{ownEnvelopeOf, carriedEnvelopeOf, fetchFor, tombFor, halved, receiveInventoryTests};
+ghost use Rattle.model.specs.Exchange.{fetchFor, tombFor, receiveInventoryTests};
 ghost use Rattle.model.specs.Lent.{Does, repliesLent, bytesLent};
-ghost use Rattle.inventory.specs.Inventory.{ownEntry, carriedEntry, entries, entryAt, rowOf, Appended, prefixFor, prefixOf, inventorySays, heldIn, halfOf, offeredOf, tombOf, offersOf, Inserted, Handed, Answered, repliesFor, completedWith, lengthenedTo, Terminated, Lengthened, receivedSays, receivedIn, Performs, Reads};
+ghost use Rattle.offers.specs.Appended.{Appended};
+ghost use Rattle.offers.specs.Entries.{entries};
+ghost use Rattle.inventory.specs.Inventory.{prefixFor, prefixOf, inventorySays, heldIn, tombOf, offersOf, searchedOf, repliesFor, completedWith, lengthenedTo, Terminated, Lengthened, receivedSays, receivedIn, Performs, Reads};
 ghost use Rattle.inventory.specs.declared.Test.the-variants.{Refused, Passed};
 use core::ContactId;
 use core::Refusal;
-use courier::Header;
-use rows::Carried;
+use offers::Row;
 use rows::Device;
 use rows::Exchange;
-use rows::Offer;
-use rows::Own;
 use rows::Peer;
 use table::Found;
 
-// ---- the held rows, own rows first, then carried ones
+// ---- how many rows there are, by counts that may be anything
 
-// What is asked of a held row: may it go to the peer, its tag, its copies.
-struct Row {
-    goes: bool,
-    tag: [u8; 16],
-    copies: u8,
-}
-
-// An own row that is for the peer does not go there.
-fn own_row(row: Own, peer: ContactId) -> Row
-    ensures { λ r. ⌜ r ≡ rowOf (ownEntry peer row) ⌝ }
-{
-    let contact = row.contact;
-    let tag = row.tag;
-    Row {
-        goes: contact.0 != peer.0,
-        tag,
-        copies: row.copies,
-    }
-}
-
-fn carried_row(row: Carried) -> Row
-    ensures { λ r. ⌜ r ≡ rowOf (carriedEntry row) ⌝ }
-{
-    let tag = row.tag;
-    Row {
-        goes: true,
-        tag,
-        copies: row.copies,
-    }
-}
-
-// How many rows there are by a count that may be anything.
 fn own_count(own: &[u8], count: usize) -> usize
     ensures { λ r. ⌜ Fits (length (now (own .entry))) 54 count r ⌝ }
 {
@@ -76,15 +43,10 @@ fn carried_count(carried: &[u8], count: usize) -> usize
     table::fit(carried.len(), rows::CARRIED_WIDTH, count)
 }
 
-// The row at i, where there are n own rows.
-fn row_at(own: &[u8], n: usize, carried: &[u8], i: usize, peer: ContactId) -> Row
-    requires { ⌜ (n * 54 ≤ length (now own)) × (i < n + length (now carried) / 57) ⌝ }
-    ensures { λ r. ⌜ r ≡ rowOf (entryAt peer (now (own .entry)) n (now (carried .entry)) i) ⌝ }
+fn tombstone_count(tombstones: &[u8], count: usize) -> usize
+    ensures { λ r. ⌜ Fits (length (now (tombstones .entry))) 44 count r ⌝ }
 {
-    if i < n {
-        return own_row(rows::own_at(own, i * rows::OWN_WIDTH), peer);
-    }
-    carried_row(rows::carried_at(carried, (i - n) * rows::CARRIED_WIDTH))
+    table::fit(tombstones.len(), rows::TOMBSTONE_WIDTH, count)
 }
 
 // ---- inventory of ours
@@ -133,7 +95,7 @@ fn list_prefixes(
     let mut k = 0;
     let mut i = 0;
     while i < n + m {
-        let row = row_at(own, n, carried, i, peer);
+        let row = offers::row_at(own, n, carried, i, peer);
         k = push_prefix(prefixes, k, row);
         i += 1;
     }
@@ -296,185 +258,13 @@ fn push_tombs(
     k
 }
 
-// ---- what is offered
-
-// An envelope as a reply offers it: with half of its copies.
-struct Offered {
-    cell: u16,
-    head: Header,
-}
-
-fn half(head: Header) -> Header
-    ensures { λ r. ⌜ r ≡ halfOf head ⌝ }
-{
-    let tag = head.tag;
-    let c = head.c;
-    Header {
-        tag,
-        c,
-        expiry_min: head.expiry_min,
-        copies: head.copies / 2,
-    }
-}
-
-fn own_offered(row: Own) -> Offered
-    ensures { λ r. ⌜ r ≡ offeredOf (ownEnvelopeOf row) ⌝ }
-{
-    Offered {
-        cell: answers::own_cell(row.cell),
-        head: half(answers::own_header(row)),
-    }
-}
-
-fn carried_offered(row: Carried) -> Offered
-    ensures { λ r. ⌜ r ≡ offeredOf (carriedEnvelopeOf row) ⌝ }
-{
-    Offered {
-        cell: answers::carried_cell(row.cell),
-        head: half(answers::carried_header(row)),
-    }
-}
-
-// The row at i.
-fn offered_at(own: &[u8], n: usize, carried: &[u8], i: usize) -> Offered
-    requires { ⌜ (n * 54 ≤ length (now own)) × (i < n + length (now carried) / 57) ⌝ }
-    ensures { λ r. ⌜ ((peer : ContactId) → r ≡ offeredOf (entryAt peer (now (own .entry)) n (now (carried .entry)) i .envelope)) ⌝ }
-{
-    if i < n {
-        return own_offered(rows::own_at(own, i * rows::OWN_WIDTH));
-    }
-    carried_offered(rows::carried_at(carried, (i - n) * rows::CARRIED_WIDTH))
-}
-
-// `BTreeMap::insert`: puts an offer in the place of the one with its tag, or behind the k that are there; answers how many there are.
-fn insert_offer(offers: &mut [u8], k: usize, row: Offer) -> usize
-    requires { ⌜ k * 17 + 17 ≤ length (now offers) ⌝ }
-    ensures { λ r. ⌜ Inserted (now (offers .entry)) k row r (now (offers .exit)) ⌝ }
-{
-    let tag = row.tag;
-    let b = rows::offer_bytes(row);
-    match table::find(offers, rows::OFFER_WIDTH, k, 0, &tag) {
-        Found::At(i) => {
-            table::replace(offers, rows::OFFER_WIDTH, k, i, &b);
-            k
-        }
-        Found::Nothing => table::push(offers, rows::OFFER_WIDTH, k, &b),
-    }
-}
-
-// Offers the row at i: writes its reply behind k others, and its tag and copies among the c offers; answers how many offers there are.
-fn offer_row(
-    own: &[u8],
-    n: usize,
-    carried: &[u8],
-    i: usize,
-    replies: &mut [u8],
-    k: usize,
-    offers: &mut [u8],
-    c: usize,
-) -> usize
-    requires { ⌜ (n * 54 ≤ length (now own)) × (i < n + length (now carried) / 57) ⌝ }
-    requires { ⌜ (k * 40 + 40 ≤ length (now replies)) × (c * 17 + 17 ≤ length (now offers)) ⌝ }
-    ensures { λ r. ⌜ ((peer : ContactId) → Handed (halved (entryAt peer (now (own .entry)) n (now (carried .entry)) i .envelope))
-        (now (replies .entry)) k (now (offers .entry)) c (now (replies .exit)) r (now (offers .exit))) ⌝ }
-{
-    let it = offered_at(own, n, carried, i);
-    let head = it.head;
-    let tag = head.tag;
-    answers::put_envelope(replies, k * rows::REPLY_WIDTH, it.cell, head);
-    insert_offer(
-        offers,
-        c,
-        Offer {
-            tag,
-            copies: head.copies,
-        },
-    )
-}
-
-// Copies 1 are never offered.
-fn may_offer(row: Row) -> bool
-    ensures { λ r. ⌜ r ≡ (row .goes && ltb 1 (row .copies)) ⌝ }
-{
-    if row.goes {
-        return 1 < row.copies;
-    }
-    false
-}
-
-// How many replies and offers there are.
-struct Counts {
-    replies: usize,
-    offers: usize,
-}
-
-// Offers every row that may be offered and has no listed prefix and no tombstoned tag, behind the first replies. (The labelled loop
-// is a block that is left at the first match: it goes round once.)
-fn push_offers(
-    own: &[u8],
-    n: usize,
-    carried: &[u8],
-    m: usize,
-    peer: ContactId,
-    listed: &[u8],
-    l: usize,
-    tombstones: &[u8],
-    g: usize,
-    replies: &mut [u8],
-    first: usize,
-    offers: &mut [u8],
-) -> Counts
-    requires { ⌜ (n * 54 ≤ length (now own)) × (m * 57 ≤ length (now carried)) ⌝ }
-    requires { ⌜ (l * 8 ≤ length (now listed)) × (g * 44 ≤ length (now tombstones)) ⌝ }
-    requires { ⌜ ((first + (n + m)) * 40 ≤ length (now replies)) × ((n + m) * 17 ≤ length (now offers)) ⌝ }
-    ensures { λ r. ⌜ Answered (offersOf (tableOf tombstoneCodec g (now (tombstones .entry))) (tableOf prefixCodec l (now (listed .entry)))
-        (entries peer (tableOf ownCodec n (now (own .entry))) (tableOf carriedCodec m (now (carried .entry)))))
-        (now (replies .entry)) first (now (offers .entry)) (r .replies) (now (replies .exit)) (r .offers) (now (offers .exit)) ⌝ }
-{
-    let mut k = first;
-    let mut c = 0;
-    let mut i = 0;
-    while i < n + m {
-        let at = i;
-        let row = row_at(own, n, carried, at, peer);
-        i += 1;
-        'row: loop {
-            if !may_offer(row) {
-                break 'row;
-            }
-            let tag = row.tag;
-            let mut j = 0;
-            while j < l {
-                if octets::same(listed, j * 8, &tag, 0, 8) {
-                    break 'row;
-                }
-                j += 1;
-            }
-            let mut t = 0;
-            while t < g {
-                if octets::same(tombstones, t * rows::TOMBSTONE_WIDTH + 8, &tag, 0, 16) {
-                    break 'row;
-                }
-                t += 1;
-            }
-            c = offer_row(own, n, carried, at, replies, k, offers, c);
-            k += 1;
-            break 'row;
-        }
-    }
-    Counts {
-        replies: k,
-        offers: c,
-    }
-}
-
 // ---- inventory received
 
-// What the call says: a refusal, malformed, or how many replies there are.
+// What the call says: a refusal, malformed, or how many replies there are and for how many rows the tombstones were searched.
 pub enum Said {
     Refused(Refusal),
     Malformed,
-    Done(usize),
+    Done(usize, usize),
 }
 
 // The exchange after the call, and what the call says.
@@ -509,12 +299,6 @@ fn lengthened(exchange: Exchange, listed: usize) -> Exchange
     }
 }
 
-fn tombstone_count(tombstones: &[u8], count: usize) -> usize
-    ensures { λ r. ⌜ Fits (length (now (tombstones .entry))) 44 count r ⌝ }
-{
-    table::fit(tombstones.len(), rows::TOMBSTONE_WIDTH, count)
-}
-
 // Answers the terminator: fetches and tombs for the l listed prefixes, then offers.
 fn answer_inventory(
     device: Device,
@@ -536,9 +320,12 @@ fn answer_inventory(
     ensures { λ r. ⌜ Terminated exchange
         (repliesFor (tableOf badTagCodec (device .«bad_tags») (now («bad_tags» .entry))) (windowRows (now (window .entry))) peer
         (tableOf tombstoneCodec (device .tombstones) (now (tombstones .entry))) (tableOf prefixCodec l (now (prefixes .entry)))
-        (entries peer (tableOf ownCodec (device .own) (now (own .entry))) (tableOf carriedCodec (device .carried) (now (carried .entry)))))
-        (offersOf (tableOf tombstoneCodec (device .tombstones) (now (tombstones .entry))) (tableOf prefixCodec l (now (prefixes .entry)))
-        (entries peer (tableOf ownCodec (device .own) (now (own .entry))) (tableOf carriedCodec (device .carried) (now (carried .entry)))))
+        (offersOf peer (tableOf tombstoneCodec (device .tombstones) (now (tombstones .entry))) (tableOf prefixCodec l (now (prefixes .entry)))
+        (tableOf ownCodec (device .own) (now (own .entry))) (tableOf carriedCodec (device .carried) (now (carried .entry)))))
+        (offersOf peer (tableOf tombstoneCodec (device .tombstones) (now (tombstones .entry))) (tableOf prefixCodec l (now (prefixes .entry)))
+        (tableOf ownCodec (device .own) (now (own .entry))) (tableOf carriedCodec (device .carried) (now (carried .entry))))
+        (length (searchedOf peer (tableOf prefixCodec l (now (prefixes .entry)))
+        (tableOf ownCodec (device .own) (now (own .entry))) (tableOf carriedCodec (device .carried) (now (carried .entry)))))
         (now (replies .entry)) (now (offers .entry)) r (now (replies .exit)) (now (offers .exit)) ⌝ }
 {
     let n = own_count(own, device.own);
@@ -556,7 +343,8 @@ fn answer_inventory(
         peer,
     );
     let t = push_tombs(replies, f, prefixes, l, tombstones, g);
-    let sent = push_offers(
+    let mut flags = [false; 512];
+    let searched = offers::list_offers(
         own,
         n,
         carried,
@@ -566,13 +354,12 @@ fn answer_inventory(
         l,
         tombstones,
         g,
-        replies,
-        t,
-        offers,
+        &mut flags,
     );
+    let sent = offers::write_offers(own, n, carried, m, &flags, replies, t, offers);
     Received {
         exchange: completed(exchange, sent.offers),
-        said: Said::Done(sent.replies),
+        said: Said::Done(sent.replies, searched),
     }
 }
 
@@ -584,7 +371,7 @@ fn list_more(exchange: Exchange, prefixes: &mut [u8], l: usize, listed: &[u8]) -
     octets::copy_in(prefixes, l * 8, listed);
     Received {
         exchange: lengthened(exchange, l + listed.len() / 8),
-        said: Said::Done(0),
+        said: Said::Done(0, 0),
     }
 }
 

@@ -31,7 +31,7 @@ use Rattle.model.specs.Basics.{matchFound, find, trunc8}
 use Rattle.model.specs.State.{State, now, upd}
 use Rattle.model.specs.Contacts.{isVerified}
 use Rattle.model.specs.Custody.{ownOfTag, carriedOfTag, tombstoneOfTag, maxCarriedBytes, quota, envelopeHeader, carriedTotal, deposited, duplicate, full}
-use Rattle.model.specs.Exchange.{Envelope, envelopes, replyFor, isOffered, halved, offers, offerOfTag, noOffer, insertOffer, insertOffers, fetchFor, tombFor, answerInventory}
+use Rattle.model.specs.Exchange.{Envelope, envelopes, replyFor, inQuestion, isOffered, halved, offers, offerOfTag, noOffer, insertOffer, insertOffers, fetchFor, tombFor, answerInventory}
 use Rattle.model.specs.Tombs.{noTombstone, leastExpiry, insertBySlot}
 use Rattle.model.proofs.Laws.{carried-total, expiryAt, Least, least-expiry}
 use Rattle.model.proofs.KeepRows.{or-false}
@@ -273,7 +273,7 @@ insert-append (e ∷ x) y os = insert-append x y (insertOffer e os)
 -- copies above 1, no tombstone of the tag, its prefix not listed
 pub is-offered : (ts : List Tombstone) (listed : List (List ℕ)) (e : Envelope) → 1 < e .head .copies → (TombstonesHave ts (e .head .tag) → ⊥)
     → (Has (λ (b : List ℕ). b) (trunc8 (e .head .tag)) listed → ⊥) → isOffered ts listed e ≡ true
-unfolding isOffered
+unfolding isOffered inQuestion
 is-offered ts listed e c t l =
     rw (lt-ltb 1 (e .head .copies) c, has-none (λ (r : Tombstone). r .tag) (e .head .tag) ts t, has-none (λ (b : List ℕ). b) (trunc8 (e .head .tag)) listed l)
 

@@ -29,7 +29,7 @@ use Rattle.model.specs.Calls.{Result, result, only, done, malformed, put
 use Rattle.model.specs.Contacts.{minuteOf, isVerified}
 use Rattle.model.specs.Window.{lookup}
 use Rattle.model.specs.Custody.{quota, carriedTotal, deposited, duplicate, full, custodyOf, isAccepted, answerCustody, receiveEnvelope}
-use Rattle.model.specs.Exchange.{Envelope, noCarried, noOwn, noOffer, envelopes, isOffered, answerInventory, listMore, maxInventory, tooMany, receiveInventory, lowered, ownLowered, offerOfTag, handedOver, settle, receiveCustody}
+use Rattle.model.specs.Exchange.{Envelope, noCarried, noOwn, noOffer, envelopes, inQuestion, isOffered, answerInventory, listMore, maxInventory, tooMany, receiveInventory, lowered, ownLowered, offerOfTag, handedOver, settle, receiveCustody}
 use Rattle.model.specs.Tombs.{tombstoned, leastExpiry, remaining, evicted, storeTombstone, storeActions, carriedAt, meets, insertBySlot, turned, turn, receiveTomb, noRowToMeet, noSlotToMeet}
 use Rattle.model.proofs.Examples.{ThreePeers, three-peers}
 use Rattle.model.proofs.Laws.{carried-total}
@@ -222,7 +222,7 @@ unfolding tombstoned
 one-of-tag ts tag = has-any (λ (t : Tombstone). t .tag) tag ts
 
 pub couriering-corners : CourieringCorners
-unfolding receiveInventory answerInventory listMore tooMany isOffered receiveCustody settle handedOver custodyOf answerCustody receiveEnvelope turned turn receiveTomb noRowToMeet noSlotToMeet storeActions evicted storeTombstone remaining apply
+unfolding receiveInventory answerInventory listMore tooMany isOffered inQuestion receiveCustody settle handedOver custodyOf answerCustody receiveEnvelope turned turn receiveTomb noRowToMeet noSlotToMeet storeActions evicted storeTombstone remaining apply
 couriering-corners = record {
   listed-512 = λ s window peer tags h k l.
       rw (h, le-ltb maxInventory (length (s .session .exchange .listed) + length tags) (omega arith), ne-eqb (length tags) 0 (omega arith));

@@ -69,7 +69,7 @@ send peer b = lend 0 (Calls.envelope 61440 6708 [] (id peer) (head b) (replicate
 
 -- the reply and action rows of each call; who unfolds it unfolds all that a run computes with
 unfoldable pub rows-of : Post → List Lent → List (List Reply × List Action)
-unfolding wide post id ofByte lend head send results run answerTo after stateFor apply step stepOf tests perform Contacts.contactTests Contacts.setContact Contacts.known Contacts.contactPlace Contacts.isVerified Contacts.putContact Contacts.settingTests Contacts.setConfig Contacts.setClock Contacts.openExchangeTests Contacts.openExchanged Contacts.openedFor Contacts.nowMin Contacts.lifetimeEnd inRange lists.any lists.positionFrom lists.countBy lists.filter lists.replaceAt lists.removeAt lists.insertAt table.ragged table.rows table.held table.join codec.tableOf Window.windowRows Window.prefixRows Window.wrongWindow Window.keysRise Window.strangers Window.lookup Window.isBad sameBytes splice part courier.headerBytes courier.envelopeValid courier.carriedLength be model.custodyOf model.duplicate model.full model.deposited model.carriedTotal model.newCarried model.carry model.accepts model.envelopeTests model.answerCustody model.receiveEnvelope Cells.cellLength Cells.cellCount Cells.freeFrom Cells.freeCell Cells.cellsUsed Cells.newCell Exchange.envelopes Exchange.ownEnvelopeOf Exchange.carriedEnvelopeOf Exchange.receiveInventoryTests Exchange.receiveInventory Exchange.tooMany Exchange.answerInventory Exchange.offers Exchange.isOffered Exchange.halved Exchange.insertOffer Exchange.insertOffers Exchange.custodyTests Exchange.receiveCustody Exchange.settle Exchange.handedActions Exchange.handedOver Exchange.lowered Maintenance.maintenanceTests Maintenance.maintainCouriers Maintenance.maintainOwn Maintenance.ownPuts Maintenance.expiredSlots merge
+unfolding wide post id ofByte lend head send results run answerTo after stateFor apply step stepOf tests perform Contacts.contactTests Contacts.setContact Contacts.known Contacts.contactPlace Contacts.isVerified Contacts.putContact Contacts.settingTests Contacts.setConfig Contacts.setClock Contacts.openExchangeTests Contacts.openExchanged Contacts.openedFor Contacts.nowMin Contacts.lifetimeEnd inRange lists.any lists.positionFrom lists.countBy lists.filter lists.replaceAt lists.removeAt lists.insertAt table.ragged table.rows table.held table.join codec.tableOf Window.windowRows Window.prefixRows Window.wrongWindow Window.keysRise Window.strangers Window.lookup Window.isBad sameBytes splice part courier.headerBytes courier.envelopeValid courier.carriedLength be model.custodyOf model.duplicate model.full model.deposited model.carriedTotal model.newCarried model.carry model.accepts model.envelopeTests model.answerCustody model.receiveEnvelope Cells.cellLength Cells.cellCount Cells.freeFrom Cells.freeCell Cells.cellsUsed Cells.newCell Exchange.envelopes Exchange.ownEnvelopeOf Exchange.carriedEnvelopeOf Exchange.receiveInventoryTests Exchange.receiveInventory Exchange.tooMany Exchange.answerInventory Exchange.offers Exchange.isOffered Exchange.inQuestion Exchange.searchedRows Exchange.halved Exchange.insertOffer Exchange.insertOffers Exchange.custodyTests Exchange.receiveCustody Exchange.settle Exchange.handedActions Exchange.handedOver Exchange.lowered Maintenance.maintenanceTests Maintenance.maintainCouriers Maintenance.maintainOwn Maintenance.ownPuts Maintenance.expiredSlots merge
 rows-of p ls = map (λ (r : Result). (r .replies, r .actions)) (results p ls)
 
 pub carried-after : Post → List Lent → List Carried

@@ -1,12 +1,10 @@
--- What a peer may see and what its terminator is answered with, computed: document 01's rules for fetches and tombs, and what request Two changes.
+-- What a terminator is answered with for what is listed, computed: document 01's rules for fetches and tombs, and what request Two changes.
 -- Assumes nothing.
 use mathlib.Core.Path.{_≡_, refl}
-use mathlib.Core.List.{List, [], _∷_, _++_, map, flatMap}
+use mathlib.Core.List.{List, [], _∷_, _++_, flatMap}
 use Prim.Native.Nat.{ℕ}
 use lib.ListN.{replicate}
 use Rattle.octets.specs.Bytes.{be, num}
-use Rattle.rows.specs.declared.Own.{Own}
-use Rattle.rows.specs.declared.Carried.{Carried}
 use Rattle.rows.specs.declared.Tombstone.{Tombstone}
 use Rattle.rows.specs.declared.BadTag.{BadTag}
 use Rattle.rows.specs.declared.Reachable.{Reachable}
@@ -18,29 +16,12 @@ use Rattle.model.specs.Calls
 use Rattle.model.specs.Calls.{ofCarried, fetchReply, envelopeReply, tombReply}
 use Rattle.model.specs.Window
 use Rattle.model.specs.Exchange
-use Rattle.model.specs.Exchange.{Envelope, envelopes, fetchFor}
+use Rattle.model.specs.Exchange.{fetchFor}
 use Rattle.model.specs.Tombs
 use Rattle.model.specs.Step.{Lent, step, stateFor, run}
 use Rattle.model.specs.Before
-use Rattle.model.specs.Before.{fetchForBefore, stepBefore}
+use Rattle.model.specs.Before.{fetchForBeforeTwo, stepBeforeTwo}
 use Rattle.model.proofs.Examples.{post, id, ofByte, lend, send, rows-of, begin}
-
--- ---- what a peer may see
-
--- an own row of contact n, and a carried row, of one byte's tag
-ownOf : ℕ → ℕ → Own
-unfolding id ofByte
-ownOf n b = record { contact = id n; msgno = b; tag = ofByte b; s = []; «expiry_min» = 0; copies = 1; renewed = 0; len = 0; cell = 0 }
-
-carriedOf : ℕ → Carried
-unfolding id ofByte
-carriedOf b = record { slot = b; depositor = id 5; tag = ofByte b; c = []; «expiry_min» = 0; copies = 1; len = 0; cell = 0 }
-
--- contact 5 sees the own rows of others in their order, then the carried rows, those that it left too
-seen-by-a-peer : map (λ (e : Envelope). e .head .tag) (envelopes (ownOf 6 1 ∷ ownOf 5 2 ∷ ownOf 7 3 ∷ []) (carriedOf 4 ∷ carriedOf 9 ∷ []) (id 5))
-    ≡ ofByte 1 ∷ ofByte 3 ∷ ofByte 4 ∷ ofByte 9 ∷ []
-unfolding ownOf carriedOf rows-of envelopes Exchange.ownEnvelopeOf Exchange.carriedEnvelopeOf
-seen-by-a-peer = refl
 
 -- ---- a window row that is not fetched
 
@@ -59,7 +40,7 @@ fetched bad ts = fetchFor bad ts (reach 1 (twin 1) ∷ reach 2 (twin 2) ∷ []) 
 
 fetchedBefore : List BadTag → List Reply
 unfolding id reach twin
-fetchedBefore bad = fetchForBefore bad (reach 1 (twin 1) ∷ reach 2 (twin 2) ∷ []) (id 5) (replicate 8 17)
+fetchedBefore bad = fetchForBeforeTwo bad (reach 1 (twin 1) ∷ reach 2 (twin 2) ∷ []) (id 5) (replicate 8 17)
 
 -- a tag that is bad for contact n, and a tombstone of a tag
 badFor : ℕ → ℕ → List BadTag
@@ -89,7 +70,7 @@ first-row-met-before :
     × (fetchedBefore (badFor 5 1) ≡ [])
     × (fetchedBefore (badFor 5 2) ≡ fetchReply (twin 1) ∷ [])
     × (fetchedBefore (badFor 6 1) ≡ fetchReply (twin 1) ∷ [])
-unfolding fetchedBefore badFor rows-of fetchForBefore
+unfolding fetchedBefore badFor rows-of fetchForBeforeTwo
 first-row-met-before = (refl, refl, refl, refl)
 
 -- ---- a terminator
@@ -131,6 +112,6 @@ others =
 -- the fetches of the tombstoned tag are lost, each listed time; the rest is in its place
 two-fetches-lost :
     (step listed (inventory [] .call) .replies ≡ fetchReply (ofByte 33) ∷ others)
-    × (stepBefore listed (inventory [] .call) .replies ≡ fetchReply (twin 1) ∷ fetchReply (ofByte 33) ∷ fetchReply (twin 1) ∷ others)
-unfolding rows-of listed others inventory window windowRow num encoded.reachableOf fetchFor Exchange.tombFor find Before.fetchForBefore Before.answerInventoryBefore Before.receiveInventoryBefore Before.performBefore Before.stepBefore Window.wrongDirection Window.keyBelow Tombs.noRowToStore Tombs.tombstoned Tombs.remaining Tombs.noSlotToStore flatMap
+    × (stepBeforeTwo listed (inventory [] .call) .replies ≡ fetchReply (twin 1) ∷ fetchReply (ofByte 33) ∷ fetchReply (twin 1) ∷ others)
+unfolding rows-of listed others inventory window windowRow num encoded.reachableOf fetchFor Exchange.tombFor find Before.fetchForBeforeTwo Before.answerInventoryBeforeTwo Before.receiveInventoryBefore Before.performBefore Before.stepBefore Window.wrongDirection Window.keyBelow Tombs.noRowToStore Tombs.tombstoned Tombs.remaining Tombs.noSlotToStore flatMap
 two-fetches-lost = (refl, refl)

@@ -1,16 +1,13 @@
 -- Request Two: which answers lose a fetch, which fetches, and that nothing else of any answer is another than before.
 -- Assumes nothing.
-use mathlib.Core.Path.{_≡_, refl, sym, ap, ap₂, _∙_, subst}
-use mathlib.Core.Logic.{_⊎_, inl, inr, ⊎-elim, _↔_}
+use mathlib.Core.Path.{_≡_, refl, sym, ap, ap₂, _∙_}
+use mathlib.Core.Logic.{⊎-elim, _↔_}
 use mathlib.Core.Bool.{Bool, true, false, cond, not, _&&_, _||_, false≢true}
 use mathlib.Core.List.{List, [], _∷_, _++_, map, flatMap}
 use Prim.Native.Nat.{ℕ, suc, _+_}
 use native.Mathlib.Omega.{arith}
-use lib.ListN.{length, take, drop, getD, set, length-append}
-use lib.Dec.{eqb}
-use borrow.Author.Tests.{eqb-true}
+use lib.ListN.{length, take, drop, getD, length-append}
 use Rattle.core.specs.declared.ContactId.{ContactId}
-use Rattle.core.specs.declared.Refusal.{Refusal}
 use Rattle.table.specs.declared.Found.{Found}
 use Rattle.table.specs.declared.Found.the-variants.{At, Nothing}
 use Rattle.table.specs.Lists.{All, none, more, any, filter, countBy}
@@ -20,14 +17,14 @@ use Rattle.rows.specs.declared.Tombstone.{Tombstone}
 use Rattle.rows.specs.declared.Reply.{Reply}
 use Rattle.rows.specs.declared.Reachable.{Reachable}
 use Rattle.model.specs.Basics.{matchFound}
-use Rattle.model.specs.State.{State, Change, apply}
-use Rattle.model.specs.Calls
-use Rattle.model.specs.Calls.{Call, Result, result, only, done, malformed, refused, fetchReply, stepOf}
-use Rattle.model.specs.Window.{noReachable, windowRows, prefixRows, lookup, isBad}
+use Rattle.model.specs.State.{State}
+use Rattle.model.specs.Calls.{Call, Result, result, telling, done, fetchReply}
+use Rattle.model.specs.Window.{noReachable, windowRows, lookup, isBad}
 use Rattle.model.specs.Custody.{tombstoneOfTag}
-use Rattle.model.specs.Exchange.{replyFor, notFetched, fetchFor, tombFor, offers, answerInventory, tooMany, receiveInventory}
-use Rattle.model.specs.Step.{Post, Lent, tests, perform, step, stateFor, answerTo, after, run}
-use Rattle.model.specs.Before.{fetchForBefore, answerInventoryBefore, receiveInventoryBefore, performBefore, stepBefore, afterBefore, runBefore}
+use Rattle.model.specs.Exchange.{replyFor, notFetched, fetchFor, tombFor, offers, answerInventory}
+use Rattle.model.specs.Step.{Post, Lent, step, after, run}
+use Rattle.model.specs.Before.{fetchForBeforeTwo, answerInventoryBeforeTwo, stepBeforeTwo, runBeforeTwo}
+use Rattle.model.proofs.BeforeLaws.{Terminator, either, terminator-answers, same-run}
 use Rattle.model.proofs.CornerLaws.{FirstOf, first-place, first-row, has-any, any-has, place-first, or-right, TombstonesHave}
 
 -- ---- the words
@@ -42,18 +39,8 @@ pub record LosesFetch (s : State) (window : List Reachable) (peer : ContactId) (
   pub row : Reachable
   pub later : List Reachable
   pub first : FirstRow window prefix earlier row later
-  pub fetched : fetchForBefore (s .badTags) window peer prefix ≡ fetchReply (row .tag) ∷ []
+  pub fetched : fetchForBeforeTwo (s .badTags) window peer prefix ≡ fetchReply (row .tag) ∷ []
   pub tombstoned : TombstonesHave (s .tombstones) (row .tag)
-
--- an empty inventory that is answered
-pub record Terminator (s : State) (c : Call) : Type 0 where
-  pub replies : ℕ
-  pub window : List ℕ
-  pub peer : ContactId
-  pub listed : List ℕ
-  pub call : c ≡ Calls.inventoryReceived replies window peer listed
-  pub empty : prefixRows listed ≡ []
-  pub answered : step s c .answer ≡ done
 
 -- fetches, and behind them the tombs and the offers of a terminator's answer
 abbrev pub repliesWith : State → ContactId → List Reply → List Reply
@@ -63,14 +50,15 @@ repliesWith s peer fetches = fetches ++ flatMap (tombFor (s .tombstones)) (s .se
 -- listed time, and the rest is the same and in its place.
 pub record OneFetchLess (s : State) (window : List Reachable) (peer : ContactId) (now before : Result) : Type 0 where
   pub loses : List ℕ → Bool
-  pub told : (prefix : List ℕ) → loses prefix ≡ true ↔ LosesFetch s window peer prefix
+  pub means : (prefix : List ℕ) → loses prefix ≡ true ↔ LosesFetch s window peer prefix
   pub replies : now .replies
-      ≡ repliesWith s peer (flatMap (fetchForBefore (s .badTags) window peer) (filter (λ (prefix : List ℕ). not (loses prefix)) (s .session .exchange .listed)))
-  pub repliesBefore : before .replies ≡ repliesWith s peer (flatMap (fetchForBefore (s .badTags) window peer) (s .session .exchange .listed))
+      ≡ repliesWith s peer (flatMap (fetchForBeforeTwo (s .badTags) window peer) (filter (λ (prefix : List ℕ). not (loses prefix)) (s .session .exchange .listed)))
+  pub repliesBefore : before .replies ≡ repliesWith s peer (flatMap (fetchForBeforeTwo (s .badTags) window peer) (s .session .exchange .listed))
   pub fewer : length (before .replies) ≡ length (now .replies) + countBy loses (s .session .exchange .listed)
   pub answer : now .answer ≡ before .answer
   pub actions : now .actions ≡ before .actions
   pub bytes : now .bytes ≡ before .bytes
+  pub told : now .told ≡ before .told
   pub change : now .change ≡ before .change
   pub exactly : now ≡ before ↔ All (λ (prefix : List ℕ). LosesFetch s window peer prefix → ⊥) (s .session .exchange .listed)
 
@@ -79,9 +67,9 @@ pub record OneFetchLess (s : State) (window : List Reachable) (peer : ContactId)
 pub record OnlyFetchesLost : Type 0 where
   pub no-fetch : (bad : List BadTag) (ts : List Tombstone) (window : List Reachable) (peer : ContactId) (prefix : List ℕ) (x y : List Reachable) (r : Reachable)
       → FirstRow window prefix x r y → TombstonesHave ts (r .tag) → fetchFor bad ts window peer prefix ≡ []
-  pub terminator : (s : State) (c : Call) (t : Terminator s c) → OneFetchLess s (windowRows (t .window)) (t .peer) (step s c) (stepBefore s c)
-  pub others : (s : State) (c : Call) → (Terminator s c → ⊥) → step s c ≡ stepBefore s c
-  pub holdings : (p : Post) (ls : List Lent) → run p ls ≡ runBefore p ls
+  pub terminator : (s : State) (c : Call) (t : Terminator s c) → OneFetchLess s (windowRows (t .window)) (t .peer) (step s c) (stepBeforeTwo s c)
+  pub others : (s : State) (c : Call) → (Terminator s c → ⊥) → step s c ≡ stepBeforeTwo s c
+  pub holdings : (p : Post) (ls : List Lent) → run p ls ≡ runBeforeTwo p ls
 
 -- ---- one prefix, and all that are listed
 
@@ -107,7 +95,7 @@ module _ (bad : List BadTag) (ts : List Tombstone) (window : List Reachable) (pe
   losesFetch prefix = matchFound (lookup window prefix) lostAt false
 
   abbrev before : List ℕ → List Reply
-  before = fetchForBefore bad window peer
+  before = fetchForBeforeTwo bad window peer
 
   abbrev now : List ℕ → List Reply
   now = fetchFor bad ts window peer
@@ -117,7 +105,7 @@ module _ (bad : List BadTag) (ts : List Tombstone) (window : List Reachable) (pe
   Less b was is = (is ≡ cond b [] was) × (length was ≡ length is + cond b 1 0)
 
   one-prefix : (prefix : List ℕ) → Less (losesFetch prefix) (before prefix) (now prefix)
-  unfolding fetchFor fetchForBefore
+  unfolding fetchFor fetchForBeforeTwo
   one-prefix prefix = go (lookup window prefix)
     where
       by : (b t : Bool) (r : Reply) → Less (not b && t) (cond b [] (r ∷ [])) (cond (b || t) [] (r ∷ []))
@@ -179,7 +167,7 @@ module _ (s : State) (window : List Reachable) (peer : ContactId) (prefix : List
   loses-it = losesFetch (s .badTags) (s .tombstones) window peer prefix
 
   loses-told : loses-it ≡ true → LosesFetch s window peer prefix
-  unfolding lookup fetchForBefore
+  unfolding lookup fetchForBeforeTwo
   loses-told e = go (lookup window prefix) refl e
     where
       go : (f : Found) → lookup window prefix ≡ f → matchFound f loses-at false ≡ true → LosesFetch s window peer prefix
@@ -197,7 +185,7 @@ module _ (s : State) (window : List Reachable) (peer : ContactId) (prefix : List
       go Nothing q h = absurd (false≢true h)
 
   told-loses : LosesFetch s window peer prefix → loses-it ≡ true
-  unfolding lookup fetchForBefore
+  unfolding lookup fetchForBeforeTwo
   told-loses l = go (isBad (s .badTags) peer (l .row .tag)) refl
     where
       at-row : loses-it ≡ (not (isBad (s .badTags) peer (l .row .tag)) && any (tombstoneOfTag (l .row .tag)) (s .tombstones))
@@ -207,7 +195,7 @@ module _ (s : State) (window : List Reachable) (peer : ContactId) (prefix : List
 
       go : (b : Bool) → isBad (s .badTags) peer (l .row .tag) ≡ b → loses-it ≡ true
       go true h =
-          let e : fetchForBefore (s .badTags) window peer prefix ≡ [] = rw (first-place (l .first), first-row (l .first) noReachable, h) in
+          let e : fetchForBeforeTwo (s .badTags) window peer prefix ≡ [] = rw (first-place (l .first), first-row (l .first) noReachable, h) in
           absurd (omega (arith, ap length (sym (l .fetched) ∙ e)))
       go false h = at-row ∙ rw h (has-any (λ (t : Tombstone). t .tag) (l .row .tag) (s .tombstones) (l .tombstoned))
 
@@ -233,11 +221,11 @@ module _ (s : State) (window : List Reachable) (peer : ContactId) where
       go true e = absurd (k (loses-told s window peer prefix e))
       go false e = refl
 
-  one-less : OneFetchLess s window peer (answerInventory s window peer) (answerInventoryBefore s window peer)
-  unfolding answerInventory answerInventoryBefore
+  one-less : OneFetchLess s window peer (answerInventory s window peer) (answerInventoryBeforeTwo s window peer)
+  unfolding answerInventory answerInventoryBeforeTwo
   one-less =
       let is : List Reply = flatMap (fetchFor (s .badTags) (s .tombstones) window peer) listed in
-      let was : List Reply = flatMap (fetchForBefore (s .badTags) window peer) listed in
+      let was : List Reply = flatMap (fetchForBeforeTwo (s .badTags) window peer) listed in
       let tombs : List Reply = flatMap (tombFor (s .tombstones)) listed in
       let sent : List Reply = map replyFor (offers s peer) in
       let all = all-prefixes (s .badTags) (s .tombstones) window peer listed in
@@ -245,126 +233,32 @@ module _ (s : State) (window : List Reachable) (peer : ContactId) where
       omega (arith, length-append (was ++ tombs) sent, length-append was tombs, length-append (is ++ tombs) sent, length-append is tombs, all .1) in
       record {
         loses = test;
-        told = λ prefix. (loses-told s window peer prefix, told-loses s window peer prefix);
+        means = λ prefix. (loses-told s window peer prefix, told-loses s window peer prefix);
         replies = ap (repliesWith s peer) (all .0);
         repliesBefore = refl;
         fewer = few;
         answer = refl;
         actions = refl;
         bytes = refl;
+        told = refl;
         change = refl;
         exactly = (
           λ e. all-imp keeps listed (count-zero test listed (omega (arith, ap (λ (o : Result). length (o .replies)) e, few))),
-          λ k. ap (λ (rs : List Reply). result done (repliesWith s peer rs) [] (answerInventory s window peer .change)) (none-lost (s .badTags) (s .tombstones) window peer listed (all-imp keeps-test listed k)),
+          λ k. ap (λ (rs : List Reply). telling (answerInventory s window peer .told) (result done (repliesWith s peer rs) [] (answerInventory s window peer .change))) (none-lost (s .badTags) (s .tombstones) window peer listed (all-imp keeps-test listed k)),
         );
       }
 
 -- ---- every call
 
--- tests in order: one refuses whatever is performed, or none does
-data Tested (ts : List (Bool × Refusal)) : Type 0 where
-  refuses : (why : Refusal) → ((o : Result) → stepOf ts o ≡ only (refused why)) → Tested ts
-  passes : ((o : Result) → stepOf ts o ≡ o) → Tested ts
-
-tested : (ts : List (Bool × Refusal)) → Tested ts
-unfolding stepOf
-tested [] = passes (λ o. refl)
-tested ((true, why) ∷ ts) = refuses why (λ o. refl)
-tested ((false, why) ∷ ts) = go (tested ts)
-  where
-    go : Tested ts → Tested ((false, why) ∷ ts)
-    go (refuses w h) = refuses w h
-    go (passes h) = passes h
-
-no-prefixes : (ps : List (List ℕ)) → eqb (length ps) 0 ≡ true → ps ≡ []
-no-prefixes [] e = refl
-no-prefixes (p ∷ ps) e = absurd (omega (arith, eqb-true (length (p ∷ ps)) 0 e))
-
-module _ (s : State) (replies : ℕ) (window : List ℕ) (peer : ContactId) (listed : List ℕ) where
-  abbrev C : Call
-  C = Calls.inventoryReceived replies window peer listed
-
-  abbrev tags : List (List ℕ)
-  tags = prefixRows listed
-
-  inventory-either : (step s C ≡ stepBefore s C) ⊎ Terminator s C
-  unfolding step stepBefore tests perform performBefore receiveInventory receiveInventoryBefore answerInventory
-  inventory-either = go (tooMany (s .session .exchange) (length tags)) refl (eqb (length tags) 0) refl (tested (tests s C))
-    where
-      go : (many : Bool) → tooMany (s .session .exchange) (length tags) ≡ many → (ends : Bool) → eqb (length tags) 0 ≡ ends → Tested (tests s C)
-          → (step s C ≡ stepBefore s C) ⊎ Terminator s C
-      go true m ends e t = inl (rw m)
-      go false m false e t = inl (rw (m, e))
-      go false m true e (refuses why h) = inl (h _ ∙ sym (h _))
-      go false m true e (passes h) = inr (record {
-        replies = replies;
-        window = window;
-        peer = peer;
-        listed = listed;
-        call = refl;
-        empty = no-prefixes tags e;
-        answered = ap (λ (o : Result). o .answer) (h _) ∙ rw (m, e);
-      })
-
-  terminator-is : tags ≡ [] → step s C .answer ≡ done → (step s C ≡ answerInventory s (windowRows window) peer) × (stepBefore s C ≡ answerInventoryBefore s (windowRows window) peer)
-  unfolding step stepBefore tests perform performBefore receiveInventory receiveInventoryBefore
-  terminator-is n d = go (tested (tests s C)) (tooMany (s .session .exchange) 0) refl
-    where
-      go : Tested (tests s C) → (many : Bool) → tooMany (s .session .exchange) 0 ≡ many
-          → (step s C ≡ answerInventory s (windowRows window) peer) × (stepBefore s C ≡ answerInventoryBefore s (windowRows window) peer)
-      go (refuses why h) many m = let e = sym d ∙ ap (λ (o : Result). o .answer) (h _) in let z : _≡_ {A = ℕ} 0 1 = cc in absurd (omega arith)
-      go (passes h) true m =
-          let e : done ≡ malformed = sym d ∙ ap (λ (o : Result). o .answer) (h _) ∙ rw (n, m) in
-          let z : _≡_ {A = ℕ} 0 1 = cc in
-          absurd (omega arith)
-      go (passes h) false m = (h _ ∙ rw (n, m), h _ ∙ rw (n, m))
-
--- every call's answer is the same, or the call is a terminator
-either : (s : State) (c : Call) → (step s c ≡ stepBefore s c) ⊎ Terminator s c
-unfolding step stepBefore performBefore
-either s (Calls.contact id v) = inl refl
-either s (Calls.setting enabled copies lifetime) = inl refl
-either s (Calls.clock seconds) = inl refl
-either s (Calls.openExchange peer) = inl refl
-either s (Calls.envelope replies actions window peer head ct) = inl refl
-either s (Calls.inventoryReceived replies window peer listed) = inventory-either s replies window peer listed
-either s (Calls.fetch replies peer tag) = inl refl
-either s (Calls.custodyAnswer actions peer tag code) = inl refl
-either s (Calls.tomb actions peer tag secret) = inl refl
-either s (Calls.opened replies actions peer tag secret expiry) = inl refl
-either s (Calls.failed peer tag) = inl refl
-either s (Calls.storedTombstone actions tag secret expiry) = inl refl
-either s (Calls.addOwn id msgno key dir generation idx secret ct) = inl refl
-either s (Calls.maintenance actions) = inl refl
-either s (Calls.inventoryOfOurs prefixes peer) = inl refl
-either s (Calls.rowBlob blob slot) = inl refl
-either s (Calls.save file) = inl refl
-either s (Calls.page area number) = inl refl
-
-terminator-less : (s : State) (c : Call) (t : Terminator s c) → OneFetchLess s (windowRows (t .window)) (t .peer) (step s c) (stepBefore s c)
+terminator-less : (s : State) (c : Call) (t : Terminator s c) → OneFetchLess s (windowRows (t .window)) (t .peer) (step s c) (stepBeforeTwo s c)
 terminator-less s c t =
-    let d = subst (λ (z : Call). step s z .answer ≡ done) (t .call) (t .answered) in
-    let e = terminator-is s (t .replies) (t .window) (t .peer) (t .listed) (t .empty) d in
-    rw (t .call, e .0, e .1) (one-less s (windowRows (t .window)) (t .peer))
-
-same-change : (s : State) (c : Call) → step s c .change ≡ stepBefore s c .change
-same-change s c = ⊎-elim (ap (λ (o : Result). o .change)) (λ t. terminator-less s c t .change) (either s c)
-
-same-after : (p : Post) (l : Lent) → after p l ≡ afterBefore p l
-unfolding after answerTo afterBefore
-same-after p l =
-    ap (λ (c : Change). let s : State = apply (stateFor p l) c in record { state = s; sessions = set (p .sessions) (l .session) (s .session) })
-    (same-change (stateFor p l) (l .call))
-
-same-run : (p : Post) (ls : List Lent) → run p ls ≡ runBefore p ls
-unfolding run runBefore
-same-run p [] = refl
-same-run p (l ∷ ls) = ap (λ (q : Post). run q ls) (same-after p l) ∙ same-run (afterBefore p l) ls
+    let e = terminator-answers answerInventoryBeforeTwo s c t in
+    rw (e .0, e .1) (one-less s (windowRows (t .window)) (t .peer))
 
 pub only-fetches-lost : OnlyFetchesLost
 only-fetches-lost = record {
   no-fetch = tombstone-stops;
   terminator = terminator-less;
-  others = λ s c n. ⊎-elim (λ e. e) (λ t. absurd (n t)) (either s c);
-  holdings = same-run;
+  others = λ s c n. ⊎-elim (λ e. e) (λ t. absurd (n t)) (either answerInventoryBeforeTwo s c);
+  holdings = same-run answerInventoryBeforeTwo (λ s window peer. one-less s window peer .change);
 }

@@ -140,7 +140,7 @@ module _ (s : State) (g : Good s) (peer : ContactId) where
       (all-imp (λ o p. (p .tag, p .copies)) (filter (notFor peer) (s .own)) (all-filter (notFor peer) (s .own) (g .own))))
       (all-map carriedEnvelopeOf (s .carried) (all-imp (λ r p. (p .tag, p .copies)) (s .carried) (g .carried)))
 
-  envelopes-few : length (envelopes (s .own) (s .carried) peer) ≤ 512
+  pub envelopes-few : length (envelopes (s .own) (s .carried) peer) ≤ 512
   unfolding envelopes
   envelopes-few =
       omega (

@@ -9,11 +9,14 @@ pub mod KeepCalls
 pub mod RunLaws
 pub mod CallLaws
 pub mod CornerLaws
+pub mod BeforeLaws
 pub mod FetchLaws
 pub mod RefusalLaws
+pub mod TombstoneSearchLaws
 pub mod Corners
 pub mod Examples
 pub mod SearchLaws
 pub mod ScreenLaws
 pub mod ScreenCorners
 pub mod FetchCorners
+pub mod OfferCorners

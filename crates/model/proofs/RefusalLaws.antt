@@ -1,12 +1,14 @@
 -- "Exactly if", and "Nothing changes on a refusal": a call is refused with the first of its tests that holds, and then leaves every byte.
 -- Assumes nothing.
 use mathlib.Core.Path.{_≡_, refl, sym, ap, _∙_}
+use mathlib.Core.Logic.{_⊎_, inl, inr, ⊎-elim}
 use mathlib.Core.Bool.{Bool, true, false, cond, false≢true}
 use mathlib.Core.List.{List, [], _∷_, _++_}
 use mathlib.Core.Option.{Option, none, some}
 use Prim.Native.Nat.{ℕ}
 use lib.ListN.{length}
 use lib.Dec.{eqb}
+use Rattle.core.specs.declared.ContactId.{ContactId}
 use Rattle.core.specs.declared.Refusal.{Refusal}
 use Rattle.octets.specs.Bytes.{splice}
 use Rattle.table.specs.declared.Found.{Found}
@@ -106,39 +108,64 @@ module _ (P : Result → Type 0) where
   by-found (some a) p q = p a
   by-found none p q = q
 
+-- ---- what every call performs
+
+-- no refusal, and no number beside the answer
+pub record Plain (o : Result) : Type 0 where
+  pub answers : isRefused (o .answer) ≡ false
+  pub untold : o .told ≡ []
+
+pub record IsInventory (c : Call) : Type 0 where
+  pub replies : ℕ
+  pub window : List ℕ
+  pub peer : ContactId
+  pub listed : List ℕ
+  pub call : c ≡ Calls.inventoryReceived replies window peer listed
+
+plain : {o : Result} → isRefused (o .answer) ≡ false → o .told ≡ [] → Plain o
+plain a t = record { answers = a; untold = t }
+
+by-meeting : (s : State) (tag secret : List ℕ) (m : Met) → Plain (receiveTomb s tag secret m)
+unfolding receiveTomb turn endOwn
+by-meeting s tag secret (carriedAt i) = plain refl refl
+by-meeting s tag secret (ownAt i) = plain refl refl
+by-meeting s tag secret wrong = plain refl refl
+by-meeting s tag secret unknown = plain refl refl
+
+-- an inventory alone may tell a number
+pub by-call : (s : State) (c : Call) → Plain (perform s c) ⊎ IsInventory c
+unfolding perform setContact setConfig setClock openExchanged receiveEnvelope oursAt answerCustody receiveFetch fetched receiveCustody settle reportOpened reportFailed stored ownEnvelope makeOwn maintainCouriers listInventory rowBlobOf saveHeld showPage
+by-call s (Calls.contact id v) = inl (plain refl refl)
+by-call s (Calls.setting enabled copies lifetime) = inl (plain refl refl)
+by-call s (Calls.clock seconds) = inl (plain refl refl)
+by-call s (Calls.openExchange peer) = inl (plain refl refl)
+by-call s (Calls.envelope replies actions window peer head ct) =
+    inl (by-place Plain (lookup (windowRows window) (head .tag)) (λ i. plain refl refl) (plain refl refl))
+by-call s (Calls.inventoryReceived replies window peer listed) =
+    inr (record { replies = replies; window = window; peer = peer; listed = listed; call = refl })
+by-call s (Calls.fetch replies peer tag) =
+    inl (by-found Plain (find (envelopeOfTag tag) (envelopes (s .own) (s .carried) peer)) (λ e. plain refl refl) (plain refl refl))
+by-call s (Calls.custodyAnswer actions peer tag code) =
+    inl (by-place Plain (position (offerOfTag tag) (s .session .exchange .offered)) (λ i. plain refl refl) (plain refl refl))
+by-call s (Calls.tomb actions peer tag secret) = inl (by-meeting s tag secret (meets (s .own) (s .carried) tag secret))
+by-call s (Calls.opened replies actions peer tag secret expiry) = inl (plain refl refl)
+by-call s (Calls.failed peer tag) = inl (plain refl refl)
+by-call s (Calls.storedTombstone actions tag secret expiry) = inl (plain refl refl)
+by-call s (Calls.addOwn id msgno key dir generation idx secret ct) = inl (by-test Plain (noneMade (s .own) (length ct)) (plain refl refl) (plain refl refl))
+by-call s (Calls.maintenance actions) = inl (plain refl refl)
+by-call s (Calls.inventoryOfOurs prefixes peer) = inl (plain refl refl)
+by-call s (Calls.rowBlob blob slot) = inl (by-found Plain (find (λ (h : Slotted). eqb (h .slot) slot) (heldRows s)) (λ h. plain refl refl) (plain refl refl))
+by-call s (Calls.save file) = inl (plain refl refl)
+by-call s (Calls.page area number) = inl (plain refl refl)
+
 -- ---- no call is refused but by a test
 
-by-meeting : (s : State) (tag secret : List ℕ) (m : Met) → Performed (receiveTomb s tag secret m)
-unfolding receiveTomb turn endOwn
-by-meeting s tag secret (carriedAt i) = says refl
-by-meeting s tag secret (ownAt i) = says refl
-by-meeting s tag secret wrong = says refl
-by-meeting s tag secret unknown = says refl
-
 performed : (s : State) (c : Call) → Performed (perform s c)
-unfolding perform setContact setConfig setClock openExchanged receiveEnvelope oursAt answerCustody receiveInventory answerInventory listMore receiveFetch fetched receiveCustody settle reportOpened reportFailed stored ownEnvelope makeOwn maintainCouriers listInventory rowBlobOf saveHeld showPage
-performed s (Calls.contact id v) = says refl
-performed s (Calls.setting enabled copies lifetime) = says refl
-performed s (Calls.clock seconds) = says refl
-performed s (Calls.openExchange peer) = says refl
-performed s (Calls.envelope replies actions window peer head ct) =
-    by-place Performed (lookup (windowRows window) (head .tag)) (λ i. says refl) (says refl)
-performed s (Calls.inventoryReceived replies window peer listed) =
-    by-test Performed (tooMany (s .session .exchange) (length (prefixRows listed))) (says refl) (by-test Performed (eqb (length (prefixRows listed)) 0) (says refl) (says refl))
-performed s (Calls.fetch replies peer tag) =
-    by-found Performed (find (envelopeOfTag tag) (envelopes (s .own) (s .carried) peer)) (λ e. says refl) (says refl)
-performed s (Calls.custodyAnswer actions peer tag code) =
-    by-place Performed (position (offerOfTag tag) (s .session .exchange .offered)) (λ i. says refl) (says refl)
-performed s (Calls.tomb actions peer tag secret) = by-meeting s tag secret (meets (s .own) (s .carried) tag secret)
-performed s (Calls.opened replies actions peer tag secret expiry) = says refl
-performed s (Calls.failed peer tag) = says refl
-performed s (Calls.storedTombstone actions tag secret expiry) = says refl
-performed s (Calls.addOwn id msgno key dir generation idx secret ct) = by-test Performed (noneMade (s .own) (length ct)) (says refl) (says refl)
-performed s (Calls.maintenance actions) = says refl
-performed s (Calls.inventoryOfOurs prefixes peer) = says refl
-performed s (Calls.rowBlob blob slot) = by-found Performed (find (λ (h : Slotted). eqb (h .slot) slot) (heldRows s)) (λ h. says refl) (says refl)
-performed s (Calls.save file) = says refl
-performed s (Calls.page area number) = says refl
+unfolding perform receiveInventory answerInventory listMore
+performed s c =
+    ⊎-elim (λ p. says (p .answers)) (λ i. rw (i .call)
+    (by-test Performed (tooMany (s .session .exchange) (length (prefixRows (i .listed)))) (says refl) (by-test Performed (eqb (length (prefixRows (i .listed))) 0) (says refl) (says refl))))
+    (by-call s c)
 
 pub refused-exactly : (s : State) (c : Call) → RefusedExactly (tests s c) (step s c)
 unfolding step

@@ -3,7 +3,7 @@
 use Prim.Native.Nat.{ℕ, _+_, _*_}
 use mathlib.Core.Bool.{Bool, cond, _||_}
 use mathlib.Core.List.{List, [], _∷_, _++_}
-use lib.ListN.{replicate}
+use lib.ListN.{getD, replicate}
 use lib.Dec.{ltb}
 use Rattle.core.specs.Core.{firstOf}
 use Rattle.core.specs.declared.ContactId.{ContactId}
@@ -57,17 +57,26 @@ pub data Answer : Type 0 where
   wrote : (count : ℕ) → Answer  -- prefixes of an inventory, bytes of a blob, a file or a page
 
 -- what a call answers, the rows that it writes to the reply and action areas, the bytes that it writes to the area of prefixes, blob,
--- file or page, and what it changes
+-- file or page, the numbers that it tells beside its answer, and what it changes
 pub record Result : Type 0 where
   pub answer : Answer
   pub replies : List Reply
   pub actions : List Action
   pub bytes : List ℕ
+  pub told : List ℕ
   pub change : Change
 
--- a result without bytes
+-- a result without bytes and numbers
 abbrev pub result : Answer → List Reply → List Action → Change → Result
-result a rs acts c = record { answer = a; replies = rs; actions = acts; bytes = []; change = c }
+result a rs acts c = record { answer = a; replies = rs; actions = acts; bytes = []; told = []; change = c }
+
+-- the same with these numbers
+abbrev pub telling : List ℕ → Result → Result
+telling ns o = record { answer = o .answer; replies = o .replies; actions = o .actions; bytes = o .bytes; told = ns; change = o .change }
+
+-- the number at i, 0 where none is told
+abbrev pub toldAt : ℕ → Result → ℕ
+toldAt i o = getD (o .told) i 0
 
 -- an answer that changes nothing and lists nothing
 abbrev pub only : Answer → Result

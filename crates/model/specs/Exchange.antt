@@ -24,7 +24,7 @@ use Rattle.rows.specs.declared.Action.{Action}
 use Rattle.rows.specs.declared.Reachable.{Reachable}
 use Rattle.model.specs.Basics.{matchFound, matchSome, find, sameContact, trunc8}
 use Rattle.model.specs.State.{State, OpenExchange, Change, nothing, ownNow, carriedNow, completeNow, listedNow, offeredNow, _and_}
-use Rattle.model.specs.Calls.{Cells, ofOwn, ofCarried, Result, result, only, done, malformed, found, missing, wrote, shortReplies, shortActions, shortExchange, putCourier, putQueued, fetchReply, envelopeReply, tombReply}
+use Rattle.model.specs.Calls.{Cells, ofOwn, ofCarried, Result, result, telling, toldAt, only, done, malformed, found, missing, wrote, shortReplies, shortActions, shortExchange, putCourier, putQueued, fetchReply, envelopeReply, tombReply}
 use Rattle.model.specs.Contacts.{known, isFor}
 use Rattle.model.specs.Window.{noReachable, windowRows, wrongWindow, strangers, lookup, isBad}
 use Rattle.model.specs.Cells.{cellStart, cellLength}
@@ -79,6 +79,7 @@ listInventory s peer = record {
   replies = [];
   actions = [];
   bytes = join (inventory s peer);
+  told = [];
   change = nothing;
 }
 
@@ -133,11 +134,17 @@ hasPrefix prefix t = sameBytes (trunc8 (t .tag)) prefix
 unfoldable pub tombFor : List Tombstone → List ℕ → List Reply
 tombFor ts prefix = matchSome (find (hasPrefix prefix) ts) (λ t. tombReply (t .tag) (t .s) ∷ []) []
 
--- copies 1 are never offered; a tombstoned tag or a listed prefix is not offered
+-- copies 1 are never offered, and a listed prefix is not; any other row is in question
+unfoldable pub inQuestion : List (List ℕ) → Envelope → Bool
+inQuestion listed e = ltb 1 (e .head .copies) && not (any (λ (p : List ℕ). sameBytes p (trunc8 (e .head .tag))) listed)
+
+-- a row in question is offered if its tag is not tombstoned
 unfoldable pub isOffered : List Tombstone → List (List ℕ) → Envelope → Bool
-isOffered ts listed e =
-    ltb 1 (e .head .copies) && not (any (tombstoneOfTag (e .head .tag)) ts)
-    && not (any (λ (p : List ℕ). sameBytes p (trunc8 (e .head .tag))) listed)
+isOffered ts listed e = inQuestion listed e && not (any (tombstoneOfTag (e .head .tag)) ts)
+
+-- the rows for which the tombstones are searched: those in question
+unfoldable pub searchedRows : State → ContactId → List Envelope
+searchedRows s peer = filter (inQuestion (s .session .exchange .listed)) (envelopes (s .own) (s .carried) peer)
 
 -- half of the copies is offered
 unfoldable pub halved : Envelope → Envelope
@@ -168,13 +175,21 @@ unfoldable pub insertOffers : List Envelope → List Offer → List Offer
 insertOffers [] os = os
 insertOffers (e ∷ es) os = insertOffers es (insertOffer e os)
 
--- the terminator: fetches and tombs for what was listed, then offers; the listed prefixes are taken out
-unfoldable pub answerInventory : State → List Reachable → ContactId → Result
-answerInventory s window peer =
+-- the terminator, by what is fetched for a prefix: fetches and tombs for what was listed, then offers, and for how many rows the tombstones
+-- are searched; the listed prefixes are taken out
+abbrev pub answerListed : (List ℕ → List Reply) → State → ContactId → Result
+answerListed fetches s peer =
     let e : OpenExchange = s .session .exchange in
-    result done
-    (flatMap (fetchFor (s .badTags) (s .tombstones) window peer) (e .listed) ++ flatMap (tombFor (s .tombstones)) (e .listed) ++ map replyFor (offers s peer)) []
-    (completeNow true and listedNow [] and offeredNow (insertOffers (offers s peer) []))
+    telling (length (searchedRows s peer) ∷ [])
+    (result done (flatMap fetches (e .listed) ++ flatMap (tombFor (s .tombstones)) (e .listed) ++ map replyFor (offers s peer)) []
+    (completeNow true and listedNow [] and offeredNow (insertOffers (offers s peer) [])))
+
+unfoldable pub answerInventory : State → List Reachable → ContactId → Result
+answerInventory s window peer = answerListed (fetchFor (s .badTags) (s .tombstones) window peer) s peer
+
+-- for how many rows an inventory tells that the tombstones are searched; 0 of a list that is gathered, malformed or refused
+abbrev pub searchedCount : Result → ℕ
+searchedCount = toldAt 0
 
 unfoldable pub listMore : OpenExchange → List (List ℕ) → Result
 listMore e tags =

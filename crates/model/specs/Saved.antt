@@ -37,7 +37,7 @@ tombstoneHeld t = record { slot = t .slot; held = held.tombstone (record { tag =
 
 -- a result that writes bytes to the area that was lent for them
 abbrev pub writes : List ℕ → Result
-writes b = record { answer = wrote (length b); replies = []; actions = []; bytes = b; change = nothing }
+writes b = record { answer = wrote (length b); replies = []; actions = []; bytes = b; told = []; change = nothing }
 
 -- ---- row blob
 

@@ -43,7 +43,7 @@ pub const PREFIXES: usize = 4_200;
 
 pub const OFFERS: usize = 8_900;
 
-// What a call said, and how many replies, actions and bytes it wrote.
+// What a call said, how many replies, actions and bytes it wrote, and for how many rows an inventory's end searched the tombstones.
 pub struct Answer {
     pub said: u8,
     pub generation: u8,
@@ -52,6 +52,7 @@ pub struct Answer {
     pub replies: usize,
     pub actions: usize,
     pub length: usize,
+    pub searched: usize,
 }
 
 pub struct Outcome {
@@ -69,6 +70,7 @@ pub fn answer_of(said: u8, replies: usize, actions: usize, length: usize) -> Ans
         replies,
         actions,
         length,
+        searched: 0,
     }
 }
 
@@ -194,6 +196,7 @@ fn enveloped(a: envelope::Answer) -> Answer {
             replies: 0,
             actions: 0,
             length: 0,
+            searched: 0,
         },
         envelope::Answer::Done(replies, actions) => answer_of(DONE, replies, actions, 0),
         envelope::Answer::Refused(why) => refused(why),
@@ -362,7 +365,16 @@ fn call_own_envelope(
 
 fn received(said: inventory::Said) -> Answer {
     match said {
-        inventory::Said::Done(n) => answer_of(DONE, n, 0, 0),
+        inventory::Said::Done(replies, searched) => Answer {
+            said: DONE,
+            generation: 0,
+            index: 0,
+            contact: 0,
+            replies,
+            actions: 0,
+            length: 0,
+            searched,
+        },
         inventory::Said::Malformed => answer_of(MALFORMED, 0, 0, 0),
         inventory::Said::Refused(why) => refused(why),
     }

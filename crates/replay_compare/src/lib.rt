@@ -34,6 +34,7 @@ fn same_answer(r: &[u8], a: Answer) -> bool {
         && a.contact == replay_log::long(r, replay_log::SAID_CONTACT)
         && a.replies == replay_log::half(r, replay_log::REPLIES) as usize
         && a.actions == replay_log::half(r, replay_log::ACTIONS) as usize
+        && a.searched == replay_log::half(r, replay_log::SEARCHED) as usize
 }
 
 // The ciphertext in an own cell: the length is that of the row which names the cell.

@@ -1,8 +1,8 @@
 // The records of a sample: the calls of lists, each with what it is made with and what it must answer. Numbers are big-endian.
 //
-//   sample   "SAMPLE 2", the lists, then `E`, how many lists (2 bytes) and how many calls (4)
+//   sample   "SAMPLE 3", the lists, then `E`, how many lists (2 bytes) and how many calls (4)
 //   list     `L`, carried cells (2), own cells (2), tombstone rows (2), bad-tag rows (2), calls (2); then the calls
-//   call     a head of 110 bytes at the places below, and five runs of bytes:
+//   call     a head of 112 bytes at the places below, and five runs of bytes:
 //            the front (window rows, skipped rows, or a route key), the rest (ciphertext, prefixes, chain rows, blob, or file),
 //            reply rows of 40 bytes, with the length of the ciphertext in the place of the cell,
 //            action rows of 15 bytes: the library's 13, and the length of the blob of a row that was put,
@@ -74,7 +74,10 @@ pub const ACTIONS: usize = 104;
 
 pub const BYTES: usize = 106;
 
-pub const HEAD: usize = 110;
+// For how many rows the end of an inventory searched the tombstones.
+pub const SEARCHED: usize = 110;
+
+pub const HEAD: usize = 112;
 
 // ---- kinds of calls, and what they say, in the library's numbers (crates/host_answers)
 
@@ -358,7 +361,7 @@ pub fn walked(s: &[u8]) -> Walk {
         left: 0,
         said: 0,
     };
-    if !same(cut(s, 0, 8), b"SAMPLE 2") {
+    if !same(cut(s, 0, 8), b"SAMPLE 3") {
         return wrong(w);
     }
     let mut turns = s.len();

@@ -16,7 +16,8 @@ pub fn meet(one: &mut Party, other: &mut Party) -> Result<(), Problem> {
 }
 
 /// One sends its inventory in lists, an empty one last, and the other's replies are carried out. The
-/// empty list alone needs the window; to test its rows with the others takes time.
+/// empty list alone needs the window; to test its rows with the others takes time. It alone is answered
+/// with replies, and says for how many rows the tombstones were searched.
 fn inventory(sending: &mut Party, answering: &mut Party) -> Result<(), Problem> {
     let mut area = [[0; 8]; MAX_LISTED];
     let prefixes = sending.post.inventory_of_ours(answering.id, &mut area)?;
@@ -33,6 +34,15 @@ fn inventory(sending: &mut Party, answering: &mut Party) -> Result<(), Problem> 
         else {
             return Err("an inventory is malformed".into());
         };
+        if list.is_empty() {
+            println!(
+                "  {} answers the inventory of {}: replies {}, searched {}",
+                answering.name,
+                sending.name,
+                replies.len(),
+                replies.searched()
+            );
+        }
         let back = replied(sending, answering.id, replies)?;
         for (tag, code) in back.codes {
             answering.answered(&mut exchange, sending.id, tag, code)?;

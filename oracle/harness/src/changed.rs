@@ -15,15 +15,18 @@ struct Counts {
     /// Answers in which a fetch is lost.
     changed: usize,
     lost: usize,
+    /// Of these answers, those that count rows (request Three).
+    counted: usize,
 }
 
-/// The answer of the source as it lies less the lost fetches, each in its place, and how many they are.
+/// The answer of the source as it lies less the lost fetches, each in its place, and how many they are. Its count stays.
 fn without_lost(old: &Answer, met: Option<Ending>) -> Result<(Answer, usize), String> {
     let (
         Answer::Done {
             malformed: false,
             replies,
             actions,
+            searched,
         },
         Some(ending),
     ) = (old, met)
@@ -43,6 +46,7 @@ fn without_lost(old: &Answer, met: Option<Ending>) -> Result<(Answer, usize), St
         malformed: false,
         replies: stays.map(|place| replies[place].clone()).collect(),
         actions: actions.clone(),
+        searched: *searched,
     };
     let lost = fetches.iter().filter(|(_, lost)| *lost).count();
     Ok((answer, lost))
@@ -82,6 +86,7 @@ fn wanted(old: &mut before::Reference, seen: &Seen, counts: &mut Counts) -> Resu
         let (answer, lost) = without_lost(&answer, Ending::of(seen.before, seen.call))?;
         counts.changed += usize::from(lost > 0);
         counts.lost += lost;
+        counts.counted += usize::from(lost > 0 && matches!(answer, Answer::Done { searched: 1.., .. }));
         answer
     } else {
         counts.not_in_source += 1;
@@ -157,11 +162,14 @@ pub fn main(arguments: &[String]) -> Option<ExitCode> {
         }
     }
     println!(
-        "request Two: {} calls, {} of them not the source's; {} answers changed, {} fetches lost; all else is the same",
-        counts.calls, counts.not_in_source, counts.changed, counts.lost
+        "request Two: {} calls, {} of them not the source's; {} answers changed, {} fetches lost, {} of these answers count rows; \
+         all else is the same",
+        counts.calls, counts.not_in_source, counts.changed, counts.lost, counts.counted
     );
     if counts.lost == 0 {
         println!("request Two: no fetch was lost, so that nothing was shown");
+    } else if counts.counted == 0 {
+        println!("request Two: no answer that lost a fetch counts a row, so that nothing was shown of the count");
     }
-    Some(crate::status(counts.lost > 0))
+    Some(crate::status(counts.lost > 0 && counts.counted > 0))
 }

@@ -223,10 +223,12 @@ impl<P: Post> Drill<P> {
         match answer {
             Answer::Refused(13) => self.stop(Stopped::Contact),
             Answer::Refused(number) => self.line(format_args!("refused {number}")),
+            // Document 01's lines have no place for request Three's count.
             Answer::Done {
                 malformed,
                 replies,
                 actions,
+                searched: _,
             } => {
                 actions.iter().for_each(|action| self.action(action));
                 replies.iter().for_each(|reply| self.reply(reply));

@@ -3,8 +3,8 @@
 use crate::compare::maker;
 use crate::compare::pair::{self, Pair, Seen};
 use crate::generate::{Generator, Profile};
-use crate::tally::LOST_FETCHES;
-use post::{Action, Answer, Areas, Call, Envelope, Held, Kind, NewOwn, Reply, Sizes, State, Verification, said};
+use crate::tally::{COUNTS, Corner, LOST_FETCHES};
+use post::{Action, Answer, Areas, Call, Dir, Envelope, Held, Kind, NewOwn, Reply, Sizes, State, Verification, said};
 use std::collections::BTreeSet;
 use std::io::Write;
 use std::process::ExitCode;
@@ -147,6 +147,8 @@ struct Expected {
     generation: u8,
     index: u32,
     contact: u64,
+    /// At the end of an inventory, for how many rows the tombstones were searched; at most 512.
+    searched: u16,
     replies: Vec<[u8; 40]>,
     actions: Vec<[u8; 15]>,
     /// The ciphertexts of the replies, the blobs of the puts, then what the call wrote or read.
@@ -289,6 +291,15 @@ fn done(seen: &Seen, malformed: bool, replies: &[Reply]) -> u8 {
     }
 }
 
+/// Direction, generation, index.
+fn key_rows(keys: &[(Dir, u8, u32)]) -> Vec<u8> {
+    let row = |(dir, generation, index): &(Dir, u8, u32)| {
+        let [a, b, c, d] = index.to_be_bytes();
+        [dir.label(), *generation, a, b, c, d]
+    };
+    keys.iter().flat_map(row).collect()
+}
+
 fn expected(seen: &Seen) -> Expected {
     match seen.answer {
         Answer::Refused(number) => only(*number),
@@ -296,8 +307,10 @@ fn expected(seen: &Seen) -> Expected {
             malformed,
             replies,
             actions,
+            searched,
         } => Expected {
             said: done(seen, *malformed, replies),
+            searched: *searched as u16,
             ..listed(seen, replies, actions)
         },
         Answer::Ours {
@@ -313,14 +326,7 @@ fn expected(seen: &Seen) -> Expected {
         Answer::NoEnvelope => only(said::NO_ENVELOPE),
         Answer::Own(row) => wrote(own_row(row)),
         Answer::Listed(prefixes) => wrote(prefixes.concat()),
-        Answer::Window(keys) => wrote(
-            keys.iter()
-                .flat_map(|(dir, generation, index)| {
-                    let [a, b, c, d] = index.to_be_bytes();
-                    [dir.label(), *generation, a, b, c, d]
-                })
-                .collect(),
-        ),
+        Answer::Window(keys) => wrote(key_rows(keys)),
         Answer::Blob(None) | Answer::Row(None) => only(said::MISSING),
         Answer::Blob(Some(bytes)) | Answer::Saved(bytes) => wrote(bytes.to_vec()),
         Answer::Row(Some(held)) => wrote(read_row(held)),
@@ -362,6 +368,7 @@ fn write_call(seen: &Seen, out: &mut Vec<u8>) {
     out.extend((expected.replies.len() as u16).to_be_bytes());
     out.extend((expected.actions.len() as u16).to_be_bytes());
     out.extend((expected.bytes.len() as u32).to_be_bytes());
+    out.extend(expected.searched.to_be_bytes());
     out.extend(inputs.front);
     out.extend(inputs.rest);
     out.extend(expected.replies.concat());
@@ -399,7 +406,12 @@ fn page_of(expected: &Expected) -> &'static str {
     }
 }
 
-/// What the sample must have: every call, number, answer, custody code, reply and action, and every corner of request Two.
+/// The corners of requests Two and Three, which the sample must have.
+fn corners() -> impl Iterator<Item = &'static Corner> {
+    LOST_FETCHES.iter().chain(COUNTS)
+}
+
+/// What the sample must have: every call, number, answer, custody code, reply and action, and the corners.
 fn reached(seen: &Seen, found: &mut BTreeSet<String>) {
     found.insert(format!("{:?}", seen.call.kind()));
     if let Call::CustodyCode { code, .. } = seen.call {
@@ -419,8 +431,8 @@ fn reached(seen: &Seen, found: &mut BTreeSet<String>) {
     if seen.call.kind() == Kind::Page {
         found.insert(page_of(&expected).into());
     }
-    let corners = LOST_FETCHES.iter().filter(|(_, met)| met(seen));
-    found.extend(corners.map(|(name, _)| name.to_string()));
+    let met = corners().filter(|(_, met)| met(seen));
+    found.extend(met.map(|(name, _)| name.to_string()));
 }
 
 fn wanted() -> impl Iterator<Item = String> {
@@ -438,14 +450,14 @@ fn wanted() -> impl Iterator<Item = String> {
     let numbers = (1..=said::LAST_REFUSAL).chain(numbers);
     let said = numbers.map(|number| format!("said {number}"));
     let pages = PAGES.map(String::from).into_iter();
-    let lost = LOST_FETCHES.iter().map(|(name, _)| name.to_string());
+    let corners = corners().map(|(name, _)| name.to_string());
     kinds
         .chain(codes)
         .chain(replies)
         .chain(actions)
         .chain(said)
         .chain(pages)
-        .chain(lost)
+        .chain(corners)
 }
 
 /// The generator's next call. Where the list has its long calls already, it is drawn again until it is short.
@@ -493,15 +505,16 @@ fn list(seed: u64, calls: usize, found: &mut BTreeSet<String>) -> Result<Vec<u8>
 
 fn sample(seeds: &[u64], calls: usize) -> Result<Vec<u8>, String> {
     let mut found = BTreeSet::new();
-    let mut out = b"SAMPLE 2".to_vec();
+    let mut out = b"SAMPLE 3".to_vec();
     for seed in seeds {
         out.extend(list(*seed, calls, &mut found)?);
     }
     out.push(b'E');
     out.extend((seeds.len() as u16).to_be_bytes());
     out.extend(((seeds.len() * calls) as u32).to_be_bytes());
-    if let Some(missing) = wanted().find(|name| !found.contains(name)) {
-        return Err(format!("not in the sample: {missing}"));
+    let missing: Vec<String> = wanted().filter(|name| !found.contains(name)).collect();
+    if !missing.is_empty() {
+        return Err(format!("not in the sample: {}", missing.join("; ")));
     }
     if out.len() > LONGEST {
         return Err(format!("{} bytes, more than {LONGEST}", out.len()));

@@ -1,7 +1,7 @@
 //! How areas that no call left are read. The cells of ciphertexts: which of them count, what lies in one, and how a reply names one.
-//! Held rows of one slot: which comes first on a page. Tombstone rows: which of them stop a fetch.
+//! Held rows of one slot: which comes first on a page. Tombstone rows: which of them stop a fetch. Rows to offer: which of them are counted.
 
-use crate::rows::{Tombstone, table};
+use crate::rows::{Carried, Tombstone, table};
 
 pub const CELL: usize = 2_064;
 
@@ -17,7 +17,8 @@ pub fn cell_count(cells: &[u8]) -> usize {
 }
 
 /// Which cells are read as cells that count: the first so many, for each thing that is read of them; whether a tombstone comes before
-/// a carried row of its slot; and whether a tombstone behind the count stops a fetch.
+/// a carried row of its slot; whether a tombstone behind the count stops a fetch; and, of the rows for which the tombstones are searched,
+/// whether one behind the count is counted, and which by their cell.
 #[derive(Debug, Clone, Copy, PartialEq, Eq)]
 pub struct Reading {
     ciphertexts: u16,
@@ -25,6 +26,8 @@ pub struct Reading {
     carried_replies: u16,
     pub(crate) tombstones_first: bool,
     stops_behind_the_count: bool,
+    searches_behind_the_count: bool,
+    searched_cells: u16,
 }
 
 fn replied(count: u16, first: u16, cell: u16) -> u16 {
@@ -45,6 +48,8 @@ impl Reading {
             carried_replies: count,
             tombstones_first: false,
             stops_behind_the_count: false,
+            searches_behind_the_count: false,
+            searched_cells: u16::MAX,
         }
     }
 
@@ -58,6 +63,20 @@ impl Reading {
     /// The tombstones that stop a fetch: so many rows of the area as count.
     pub(crate) fn stopping(self, area: &[u8], count: usize) -> Vec<Tombstone> {
         table(area, if self.stops_behind_the_count { usize::MAX } else { count })
+    }
+
+    /// The tombstones are searched for a row whatever its cell.
+    pub(crate) fn is_searched(self, cell: u16) -> bool {
+        cell <= self.searched_cells
+    }
+
+    /// The carried rows behind the count for which the tombstones are searched: none.
+    pub(crate) fn searched_behind(self, area: &[u8], count: usize) -> Vec<Carried> {
+        if self.searches_behind_the_count {
+            table(area, usize::MAX).split_off(count)
+        } else {
+            Vec::new()
+        }
     }
 
     /// The cell of an own row as a reply says it.
@@ -81,10 +100,12 @@ pub enum Wrong {
     CarriedReplyWraps,
     TombstoneFirst,
     StopsBehindTheCount,
+    SearchesBehindTheCount,
+    SearchesForCountedCells,
 }
 
 impl Wrong {
-    pub const ALL: [Self; 7] = [
+    pub const ALL: [Self; 9] = [
         Self::Counts255Cells,
         Self::Counts257Cells,
         Self::AnyCellHasACiphertext,
@@ -92,6 +113,8 @@ impl Wrong {
         Self::CarriedReplyWraps,
         Self::TombstoneFirst,
         Self::StopsBehindTheCount,
+        Self::SearchesBehindTheCount,
+        Self::SearchesForCountedCells,
     ];
 
     pub fn says(self) -> &'static str {
@@ -103,6 +126,8 @@ impl Wrong {
             Self::CarriedReplyWraps => "the reply of a carried row has 256 and its cell, modulo 2^16",
             Self::TombstoneFirst => "on a page a tombstone comes before a carried row of its slot",
             Self::StopsBehindTheCount => "a tombstone behind the count stops a fetch",
+            Self::SearchesBehindTheCount => "a carried row behind the count is counted as searched",
+            Self::SearchesForCountedCells => "a row of cell 256 or more is not counted as searched",
         }
     }
 
@@ -129,6 +154,14 @@ impl Wrong {
             },
             Self::StopsBehindTheCount => Reading {
                 stops_behind_the_count: true,
+                ..right
+            },
+            Self::SearchesBehindTheCount => Reading {
+                searches_behind_the_count: true,
+                ..right
+            },
+            Self::SearchesForCountedCells => Reading {
+                searched_cells: COUNTED - 1,
                 ..right
             },
         }

@@ -27,10 +27,6 @@ impl Sent {
         .concat();
         reply(1, self.cell, &head)
     }
-
-    fn prefix(&self) -> Prefix {
-        array(&self.tag, 0)
-    }
 }
 
 impl State<'_> {
@@ -56,16 +52,20 @@ impl State<'_> {
         }
     }
 
-    /// Own rows that are not for the peer, then carried rows.
-    fn envelopes(&self, peer: u64, wanted: impl Fn(&Tag, u8) -> bool) -> Vec<Sent> {
-        let own = self
-            .own
-            .iter()
-            .filter(|row| row.contact != peer && wanted(&row.tag, row.copies));
-        let carried = self.carried.iter().filter(|row| wanted(&row.tag, row.copies));
-        own.map(|row| self.own_sent(row))
-            .chain(carried.map(|row| self.carried_sent(row)))
-            .collect()
+    /// Of the own rows that are not for the peer, then of the carried rows, those that are wanted by tag, copies and cell.
+    fn envelopes(&self, peer: u64, mut wanted: impl FnMut(&Tag, u8, u16) -> bool) -> Vec<Sent> {
+        let mut sent = Vec::new();
+        for row in &self.own {
+            if row.contact != peer && wanted(&row.tag, row.copies, row.cell) {
+                sent.push(self.own_sent(row));
+            }
+        }
+        for row in &self.carried {
+            if wanted(&row.tag, row.copies, row.cell) {
+                sent.push(self.carried_sent(row));
+            }
+        }
+        sent
     }
 
     pub fn inventory_of_ours(&self, lent: &Lent, peer: u64) -> Step {
@@ -88,7 +88,7 @@ impl State<'_> {
         if !self.knows(peer) {
             return refused(2);
         }
-        let Some(sent) = self.envelopes(peer, |other, _| other == tag).into_iter().next() else {
+        let Some(sent) = self.envelopes(peer, |other, _, _| other == tag).into_iter().next() else {
             return said(Said::Missing);
         };
         let mut outcome = Outcome::only(Said::Found { length: sent.length });
@@ -110,21 +110,36 @@ impl State<'_> {
             .collect()
     }
 
+    /// What is offered, and for how many rows the tombstones are searched. Tested are whom a row is for, its copies, the listing and then the
+    /// tombstones; the count rises where their search begins.
+    fn offers(&self, peer: u64) -> (Vec<Sent>, usize) {
+        let in_question =
+            |tag: &Tag, copies: u8| copies > 1 && !self.listed.iter().any(|prefix| tag.starts_with(prefix));
+        let mut searched = 0;
+        let sent = self.envelopes(peer, |tag, copies, cell| {
+            if !in_question(tag, copies) {
+                return false;
+            }
+            searched += usize::from(self.reading.is_searched(cell));
+            !self.tombstones.iter().any(|row| row.tag == *tag)
+        });
+        let behind = self.reading.searched_behind(self.carried_area, self.carried.len());
+        searched += behind.iter().filter(|row| in_question(&row.tag, row.copies)).count();
+        (sent, searched)
+    }
+
     /// Fetches for listed prefixes, tombs, then offers.
     fn answered(&self, window: &[WindowRow], peer: u64) -> Step {
-        let mut outcome = Outcome::only(Said::Done);
+        let (sent, searched) = self.offers(peer);
+        let mut outcome = Outcome::only(Said::Ended { searched });
         outcome.replies = self.fetches(window, peer);
         for prefix in &self.listed {
             if let Some(row) = self.tombstones.iter().find(|row| row.tag.starts_with(prefix)) {
                 outcome.replies.push(tomb_reply(&row.tag, &row.secret));
             }
         }
-        let tombstoned = |tag: &Tag| self.tombstones.iter().any(|row| row.tag == *tag);
         let mut offered: Vec<Offer> = Vec::new();
-        for mut sent in self.envelopes(peer, |tag, copies| copies > 1 && !tombstoned(tag)) {
-            if self.listed.contains(&sent.prefix()) {
-                continue;
-            }
+        for mut sent in sent {
             sent.copies /= 2;
             outcome.replies.push(sent.reply());
             let (tag, copies) = (sent.tag, sent.copies);

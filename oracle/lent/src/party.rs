@@ -202,7 +202,16 @@ impl Outcome {
                 malformed: *said == Said::Malformed,
                 replies: self.replies.iter().map(|row| reply(row, areas)).collect(),
                 actions: self.actions.iter().map(action).collect(),
+                searched: self.searched(),
             },
+        }
+    }
+
+    /// At the end of an inventory, for how many rows the tombstones were searched; 0 for all else.
+    pub fn searched(&self) -> usize {
+        match self.said {
+            Said::Ended { searched } => searched,
+            _ => 0,
         }
     }
 

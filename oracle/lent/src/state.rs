@@ -17,8 +17,9 @@ pub struct State<'a> {
     pub next_slot: u64,
     pub own_cells: &'a [u8],
     pub carried_cells: &'a [u8],
-    /// All of the area, the rows behind the count too.
+    /// All of an area, the rows behind the count too.
     pub tombstone_area: &'a [u8],
+    pub carried_area: &'a [u8],
     pub reading: Reading,
     pub tombstone_rows: usize,
     pub bad_rows: usize,
@@ -35,6 +36,10 @@ pub enum Said {
     Refused(u8),
     Malformed,
     Done,
+    /// The end of an inventory: for how many rows the tombstones were searched.
+    Ended {
+        searched: usize,
+    },
     Ours {
         contact: u64,
         generation: u8,
@@ -156,6 +161,7 @@ impl<'a> State<'a> {
             own_cells: &areas.own_cells,
             carried_cells: &areas.carried_cells,
             tombstone_area: &areas.tombstones,
+            carried_area: &areas.carried,
             reading,
             tombstone_rows: areas.tombstones.len() / Tombstone::WIDTH,
             bad_rows: areas.bad_tags.len() / BadTag::WIDTH,

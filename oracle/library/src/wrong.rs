@@ -22,6 +22,8 @@ pub enum Spoiled {
     /// A byte of what a call wrote to its answer area, and one behind it.
     AnswerByte,
     ByteBehindTheAnswer,
+    /// The count at the end of an inventory.
+    SearchedCount,
     /// A byte read past the end of an area: it ends the program.
     ReadsOutside,
 }
@@ -33,7 +35,7 @@ impl Spoiled {
     }
 
     /// Those that leave or say something wrong.
-    pub const ALL: [Self; 14] = [
+    pub const ALL: [Self; 15] = [
         Self::RefusalNumber,
         Self::ReplyByte,
         Self::ActionByte,
@@ -48,6 +50,7 @@ impl Spoiled {
         Self::ClosedPeer,
         Self::AnswerByte,
         Self::ByteBehindTheAnswer,
+        Self::SearchedCount,
     ];
 }
 
@@ -75,6 +78,11 @@ impl Library {
             Spoiled::RefusalNumber => {
                 if let Said::Refused(number) = &mut outcome.said {
                     *number += 1;
+                }
+            }
+            Spoiled::SearchedCount => {
+                if let Said::Ended { searched } = &mut outcome.said {
+                    *searched ^= 1;
                 }
             }
             Spoiled::ReplyByte if !outcome.replies.is_empty() => turn(self.replies.bytes_mut().get_mut(20)),

@@ -18,11 +18,13 @@ pub enum Action {
 #[derive(Debug, Clone, PartialEq, Eq)]
 pub enum Answer {
     Refused(u8),
-    /// The word "malformed", replies and actions; the counts are the lengths of the lists.
+    /// The word "malformed", replies and actions; their counts are the lengths of the lists. At the end of an inventory that is done, for how
+    /// many rows the tombstones were searched (request Three); 0 for all else.
     Done {
         malformed: bool,
         replies: Vec<Reply>,
         actions: Vec<Action>,
+        searched: usize,
     },
     Ours {
         contact: u64,
@@ -45,6 +47,7 @@ impl Answer {
             malformed: false,
             replies: Vec::new(),
             actions: Vec::new(),
+            searched: 0,
         }
     }
 

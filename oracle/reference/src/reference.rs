@@ -3,7 +3,7 @@
 use crate::core::source::Raw;
 use crate::refusals::{rows, window_rows};
 use crate::{Source, raw};
-use post::{Answer, Call, ChainRow, Custody, Exchange, NewOwn, Post, Prefix, Reply, Sizes, SkippedRow, State, Tag};
+use post::{Answer, Call, ChainRow, Custody, Exchange, NewOwn, Post, Prefix, Sizes, SkippedRow, State, Tag};
 use std::borrow::Cow;
 use std::collections::BTreeSet;
 
@@ -17,10 +17,16 @@ pub struct Reference {
 }
 
 fn done(raw: Raw) -> Answer {
+    done_after(raw, 0)
+}
+
+/// With the count of rows for which the tombstones were searched.
+fn done_after(raw: Raw, searched: usize) -> Answer {
     Answer::Done {
         malformed: raw.malformed,
         replies: raw.replies,
         actions: raw.actions,
+        searched,
     }
 }
 
@@ -58,25 +64,22 @@ impl Reference {
     fn inventory(&mut self, exchange: usize, peer: u64, prefixes: &[u8], window: &[u8]) -> Answer {
         let prefixes: Vec<Prefix> = prefixes.as_chunks::<8>().0.to_vec();
         let ends = prefixes.is_empty();
-        let raw = self
-            .source
-            .inventory(exchange, peer, prefixes.clone(), &window_rows(window));
+        let rows = window_rows(window);
+        let raw = self.source.inventory(exchange, peer, prefixes.clone(), &rows);
         let shown = &mut self.exchanges[exchange];
-        if !raw.malformed && ends {
-            shown.complete = true;
-            shown.listed.clear();
-            shown.offered = raw
-                .replies
-                .iter()
-                .filter_map(|reply| match reply {
-                    Reply::Envelope(envelope) => Some((envelope.tag, envelope.copies)),
-                    _ => None,
-                })
-                .collect();
-        } else if !raw.malformed {
-            shown.listed.extend(prefixes);
+        if raw.malformed {
+            return done(raw);
         }
-        done(raw)
+        if !ends {
+            shown.listed.extend(prefixes);
+            return done(raw);
+        }
+        let listed = std::mem::take(&mut shown.listed);
+        let offers = raw.offers();
+        shown.complete = true;
+        shown.offered = offers.iter().copied().collect();
+        let searched = self.source.searched(peer, &listed, &rows, &offers);
+        done_after(raw, searched)
     }
 
     fn own_envelope(&mut self, new: &NewOwn) -> Answer {

@@ -1,7 +1,7 @@
 //! Inventories, fetches, custody codes.
 
 use crate::custody::rows_of;
-use crate::{Rules, Wrong, commitment, done, malformed};
+use crate::{Rules, Wrong, commitment, counted, done};
 use post::{Action, Answer, Custody, Envelope, Held, Prefix, Reply, Tag, WindowRow};
 
 const MOST_LISTED: usize = 512;
@@ -10,7 +10,7 @@ fn starts(tag: &Tag, prefix: &Prefix) -> bool {
     tag[..8] == prefix[..]
 }
 
-fn prefix_of(tag: &Tag) -> Prefix {
+pub(crate) fn prefix_of(tag: &Tag) -> Prefix {
     tag[..8].try_into().expect("8 of 16")
 }
 
@@ -159,6 +159,7 @@ impl Rules {
     fn answered(&mut self, window: &[u8], exchange: usize, peer: u64) -> Answer {
         let listed = std::mem::take(&mut self.state.exchanges[exchange].listed);
         let offers = self.offers(peer, &listed);
+        let searched = self.searched(peer, &listed);
         let rows = rows_of(window);
         let fetches = self.fetches(&rows, peer, &listed);
         let tombs = self.tombs(&rows, &listed);
@@ -183,7 +184,14 @@ impl Rules {
             }
         }
         replies.extend(offers.into_iter().map(Reply::Envelope));
-        done(replies, Vec::new())
+        let searched = self.unless(Wrong::CountsAllReplies, searched, replies.len());
+        counted(false, replies, searched)
+    }
+
+    /// Of a list that is gathered or malformed the count is 0. The switch counts all the same.
+    fn not_searched(&self, wrong: Wrong, exchange: usize, peer: u64) -> usize {
+        let listed = &self.state.exchanges[exchange].listed;
+        self.unless(wrong, 0, self.searched(peer, listed))
     }
 
     pub(crate) fn inventory(&mut self, window: &[u8], exchange: usize, peer: u64, prefixes: &[u8]) -> Answer {
@@ -200,16 +208,18 @@ impl Rules {
         };
         let after_end = open.complete && !(self.is(Wrong::EmptyAfterTheEndIsFine) && prefixes.is_empty());
         if over || after_end {
+            let searched = self.not_searched(Wrong::CountWhenMalformed, exchange, peer);
             if self.is(Wrong::MalformedClosesTheExchange) {
                 self.state.exchanges[exchange] = Default::default();
             }
-            return malformed();
+            return counted(true, Vec::new(), searched);
         }
         if prefixes.is_empty() {
             return self.answered(window, exchange, peer);
         }
         self.state.exchanges[exchange].listed.extend(prefixes);
-        done(Vec::new(), Vec::new())
+        let searched = self.not_searched(Wrong::CountOnAListing, exchange, peer);
+        counted(false, Vec::new(), searched)
     }
 
     /// The code clears the offer; only Accepted takes the handed copies off.

@@ -6,6 +6,7 @@ mod exchange;
 mod file;
 mod page;
 mod refusals;
+mod searched;
 mod tags;
 mod tombs;
 mod upkeep;
@@ -35,15 +36,22 @@ fn done(replies: Vec<Reply>, actions: Vec<Action>) -> Answer {
         malformed: false,
         replies,
         actions,
+        searched: 0,
+    }
+}
+
+/// An inventory, with its count.
+fn counted(malformed: bool, replies: Vec<Reply>, searched: usize) -> Answer {
+    Answer::Done {
+        malformed,
+        replies,
+        actions: Vec::new(),
+        searched,
     }
 }
 
 fn malformed() -> Answer {
-    Answer::Done {
-        malformed: true,
-        replies: Vec::new(),
-        actions: Vec::new(),
-    }
+    counted(true, Vec::new(), 0)
 }
 
 impl Rules {

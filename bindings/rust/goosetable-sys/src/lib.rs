@@ -100,7 +100,7 @@ pub struct Answer {
     pub replies: usize,
     /// Rows in front of the action area.
     pub actions: usize,
-    /// Rows or bytes in front of another answer area, or bytes of a fetched ciphertext.
+    /// Rows or bytes in front of another answer area; bytes of a fetched ciphertext; of an inventory's end, rows for which the tombstones were searched.
     pub length: usize,
     /// Index and generation of an envelope that is ours.
     pub idx: u32,

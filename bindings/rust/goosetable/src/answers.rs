@@ -4,7 +4,7 @@
 use crate::{ContactId, Custody, Envelope, Header, Post, Secret, Slot, Tag, rows::Fields};
 use alloc::vec::Vec;
 use core::{fmt, iter::FusedIterator, slice};
-use goosetable_sys::{ACTION_ROW, REPLY_ROW};
+use goosetable_sys::{ACTION_ROW, Answer, REPLY_ROW};
 
 /// What a call made of a peer's record.
 #[derive(Clone, Debug)]
@@ -164,6 +164,7 @@ where
 pub struct Replies<'a> {
     post: &'a Post,
     rows: slice::Iter<'a, [u8; REPLY_ROW]>,
+    searched: usize,
 }
 
 impl<'a> Replies<'a> {
@@ -172,12 +173,31 @@ impl<'a> Replies<'a> {
         Replies {
             post,
             rows: rows[..count].iter(),
+            searched: 0,
+        }
+    }
+
+    /// Those of the inventory call, whose answer has a count more.
+    pub(crate) fn to_list(post: &'a Post, answer: &Answer) -> Replies<'a> {
+        Replies {
+            searched: answer.length,
+            ..Replies::new(post, answer.replies)
         }
     }
 
     /// The post as the call left it.
     pub fn post(&self) -> &'a Post {
         self.post
+    }
+
+    /// For how many rows the tombstones were searched: of the end of an inventory; 0 of every other answer. It stays
+    /// when replies are taken.
+    ///
+    /// These are the rows that would be offered if no tag were tombstoned, at most 512: with 2 copies or more, a prefix
+    /// that the peer did not list, and, of own rows, another contact than the peer. The count less the offers is the
+    /// number of rows that a tombstone alone holds back.
+    pub fn searched(&self) -> usize {
+        self.searched
     }
 
     fn read(&self, row: &[u8; REPLY_ROW]) -> Reply<'a> {

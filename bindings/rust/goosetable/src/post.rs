@@ -357,7 +357,7 @@ impl Post {
     ///
     /// Offered are rows with 2 copies or more whose tag has no tombstone and whose prefix the peer did not list, each
     /// with half of its copies, rounded down: own rows first, but for those whose contact is the peer, then carried
-    /// ones by slot.
+    /// ones by slot. [`Replies::searched`] has how many would be offered if no tag had a tombstone.
     ///
     /// # Errors
     ///
@@ -373,7 +373,7 @@ impl Post {
         let answer = calls::inventory(self, exchange, peer, window, listed)?;
         Ok(match answer.said {
             sys::MALFORMED => Record::Malformed,
-            _ => Record::Taken(Replies::new(self, answer.replies)),
+            _ => Record::Taken(Replies::to_list(self, &answer)),
         })
     }
 

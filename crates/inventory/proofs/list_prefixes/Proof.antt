@@ -1,7 +1,7 @@
 -- The rows seen so far have their prefixes written.
 use Prim.Native.Nat.{_+_, _-_}
 use Rattle.inventory.specs.Inventory.{prefixOf}
-use Rattle.inventory.proofs.AppendLaws.{filling-start}
+use Rattle.inventory.proofs.FillLaws.{filling-start}
 use Rattle.inventory.proofs.OursLaws.{Listing, listing-next, listing-end}
 use borrow.Author.Needs.{needs}
 use native.Mathlib.Omega.{arith}

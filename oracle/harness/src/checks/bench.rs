@@ -4,7 +4,7 @@ use crate::compare::maker;
 use crate::compare::pair::{Judge, difference};
 use post::{
     Action, Answer, Areas, Call, Custody, Dir, Envelope, Held, NewOwn, Post, Prefix, Reply, Sizes, State, Tag,
-    Verification, WindowRow,
+    Verification, WindowRow, encode_window,
 };
 use reference::{Raw, Source};
 
@@ -221,6 +221,7 @@ impl Bench {
             } else {
                 Vec::new()
             },
+            searched: 0,
         }
     }
 
@@ -254,4 +255,31 @@ impl Bench {
             secret,
         }
     }
+
+    /// A fresh exchange with the verified contact.
+    pub fn open(&mut self) {
+        self.call(Call::FreshExchange {
+            areas: self.areas,
+            exchange: 0,
+            peer: VERIFIED,
+        });
+    }
+
+    /// A list of prefixes in that exchange, with a window of these rows.
+    pub fn inventory(&mut self, prefixes: &[Prefix], rows: &[WindowRow]) -> Answer {
+        self.call(Call::Inventory {
+            areas: self.areas,
+            window: encode_window(rows),
+            exchange: 0,
+            peer: VERIFIED,
+            prefixes: prefixes.concat().into(),
+        })
+    }
+}
+
+/// A post with an exchange open with the verified contact.
+pub fn opened(sizes: Sizes) -> Bench {
+    let mut bench = Bench::new(sizes);
+    bench.open();
+    bench
 }

@@ -293,6 +293,7 @@ fn tombstoned_window_tag() -> Outcome {
         malformed: false,
         replies: vec![tomb],
         actions: Vec::new(),
+        searched: 0,
     };
     same(bench.call(inventory(&[])), answer)
 }

@@ -392,6 +392,10 @@ pub const CHECKS: &[Check] = &[
         "fetches of windows, tombstones and lists of up to two, all of them",
         fetches,
     ),
+    (
+        "counts of up to three rows, their copies, listed prefixes and tombstones, all of them",
+        super::counts::counts,
+    ),
     ("all seconds of an hour", seconds),
     ("all counts of skipped keys, all places near a chain's end", windows),
     ("row blobs of all lengths to 2,200", row_blobs),

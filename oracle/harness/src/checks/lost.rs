@@ -11,31 +11,6 @@ const ROOM: Sizes = Sizes {
     ..SIZES
 };
 
-/// An exchange is open with the verified contact.
-fn opened() -> Bench {
-    let mut bench = Bench::new(ROOM);
-    open(&mut bench);
-    bench
-}
-
-fn open(bench: &mut Bench) {
-    bench.call(Call::FreshExchange {
-        areas: bench.areas,
-        exchange: 0,
-        peer: VERIFIED,
-    });
-}
-
-fn inventory(bench: &mut Bench, prefixes: &[Prefix], rows: &[WindowRow]) -> Answer {
-    bench.call(Call::Inventory {
-        areas: bench.areas,
-        window: encode_window(rows),
-        exchange: 0,
-        peer: VERIFIED,
-        prefixes: prefixes.concat().into(),
-    })
-}
-
 /// A window of the verified contact, its tags by rising index.
 fn window(tags: &[Tag]) -> Vec<WindowRow> {
     (0..)
@@ -46,12 +21,13 @@ fn window(tags: &[Tag]) -> Vec<WindowRow> {
 
 /// The prefixes listed, then the empty list with this window: its replies.
 fn ended(bench: &mut Bench, prefixes: &[Prefix], tags: &[Tag]) -> Vec<Reply> {
-    inventory(bench, prefixes, &[]);
-    match inventory(bench, &[], &window(tags)) {
+    bench.inventory(prefixes, &[]);
+    match bench.inventory(&[], &window(tags)) {
         Answer::Done {
             malformed: false,
             replies,
             actions,
+            ..
         } if actions.is_empty() => replies,
         other => panic!("{other:?}"),
     }
@@ -75,23 +51,23 @@ fn tomb(tag: Tag) -> Reply {
 }
 
 fn no_second_look() -> Outcome {
-    let mut bench = opened();
+    let mut bench = opened(ROOM);
     store(&mut bench, tag_in(1, 7), 100);
     let replies = ended(&mut bench, &[prefix(1)], &[tag_in(1, 7), tag_in(1, 8)]);
     same(replies, vec![tomb(tag_in(1, 7))])?;
-    open(&mut bench);
+    bench.open();
     let replies = ended(&mut bench, &[prefix(1)], &[tag_in(1, 8), tag_in(1, 7)]);
     same(replies, vec![Reply::Fetch(tag_in(1, 8)), tomb(tag_in(1, 7))])
 }
 
 /// The tomb is that of the lowest slot with the prefix, and need not be of the window's tag.
 fn tomb_of_another_tag() -> Outcome {
-    let mut bench = opened();
+    let mut bench = opened(ROOM);
     store(&mut bench, tag_in(1, 9), 100);
     let replies = ended(&mut bench, &[prefix(1)], &[tag_in(1, 7)]);
     same(replies, vec![Reply::Fetch(tag_in(1, 7)), tomb(tag_in(1, 9))])?;
     store(&mut bench, tag_in(1, 7), 100);
-    open(&mut bench);
+    bench.open();
     let replies = ended(&mut bench, &[prefix(1)], &[tag_in(1, 7)]);
     same(replies, vec![tomb(tag_in(1, 9))])
 }
@@ -100,14 +76,14 @@ fn tomb_of_another_tag() -> Outcome {
 fn last_byte() -> Outcome {
     let mut near = tag(1);
     near[15] ^= 1;
-    let mut bench = opened();
+    let mut bench = opened(ROOM);
     store(&mut bench, near, 100);
     let replies = ended(&mut bench, &[prefix(1)], &[tag(1)]);
     same(replies, vec![Reply::Fetch(tag(1)), tomb(near)])
 }
 
 fn repeats() -> Outcome {
-    let mut bench = opened();
+    let mut bench = opened(ROOM);
     store(&mut bench, tag(1), 100);
     let listed = [prefix(1), prefix(2), prefix(1), prefix(2), prefix(1)];
     let replies = ended(&mut bench, &listed, &[tag(1), tag(2)]);
@@ -119,13 +95,13 @@ fn repeats() -> Outcome {
 }
 
 fn bad_and_tombstoned() -> Outcome {
-    let mut bench = opened();
+    let mut bench = opened(ROOM);
     fail(&mut bench, tag_in(1, 7));
     store(&mut bench, tag_in(1, 7), 100);
     let replies = ended(&mut bench, &[prefix(1)], &[tag_in(1, 7), tag_in(1, 8)]);
     same(replies, vec![tomb(tag_in(1, 7))])?;
     // A bad first row ends the look, also where the second is the tombstoned one.
-    open(&mut bench);
+    bench.open();
     store(&mut bench, tag_in(2, 8), 100);
     let replies = ended(
         &mut bench,
@@ -140,7 +116,7 @@ fn bad_and_tombstoned() -> Outcome {
 
 /// Expiry 5 at minute 10: the tombstone counts until maintenance takes it; then the fetch comes back.
 fn expired_until_maintenance() -> Outcome {
-    let mut bench = opened();
+    let mut bench = opened(ROOM);
     store(&mut bench, tag(1), 5);
     same(ended(&mut bench, &[prefix(1)], &[tag(1)]), vec![tomb(tag(1))])?;
     let areas = bench.areas;
@@ -148,26 +124,27 @@ fn expired_until_maintenance() -> Outcome {
         malformed: false,
         replies: Vec::new(),
         actions: vec![Action::Delete { slot: 0 }],
+        searched: 0,
     };
     same(bench.call(Call::Maintenance { areas }), gone)?;
-    open(&mut bench);
+    bench.open();
     same(ended(&mut bench, &[prefix(1)], &[tag(1)]), vec![Reply::Fetch(tag(1))])
 }
 
 /// While a row is carried its tag is fetched, if it stands in the window; once a tomb has turned the row, it is not.
 fn turned_row() -> Outcome {
-    let mut bench = opened();
+    let mut bench = opened(ROOM);
     bench.deposit(1);
     same(ended(&mut bench, &[prefix(1)], &[tag(1)]), vec![Reply::Fetch(tag(1))])?;
     let turning = bench.tomb_call(tag(1), SECRET);
     bench.call(turning);
-    open(&mut bench);
+    bench.open();
     same(ended(&mut bench, &[prefix(1)], &[tag(1)]), vec![tomb(tag(1))])
 }
 
 /// A tombstone that a report stored, and one that a load brought.
 fn reported_and_loaded() -> Outcome {
-    let mut bench = opened();
+    let mut bench = opened(ROOM);
     bench.call(Call::Opened {
         areas: bench.areas,
         peer: VERIFIED,
@@ -179,14 +156,14 @@ fn reported_and_loaded() -> Outcome {
     let Answer::Saved(file) = bench.call(Call::Save { areas: bench.areas }) else {
         return Err("no file".into());
     };
-    let mut bench = opened();
+    let mut bench = opened(ROOM);
     bench.call(Call::Load { file });
     same(ended(&mut bench, &[prefix(1)], &[tag(1)]), vec![tomb(tag(1))])
 }
 
 /// An envelope of the tag is ours as before, though its tag is tombstoned.
 fn ours_as_before() -> Outcome {
-    let mut bench = opened();
+    let mut bench = opened(ROOM);
     store(&mut bench, tag(1), 100);
     let call = Call::Envelope {
         areas: bench.areas,

@@ -1,7 +1,8 @@
-//! Document 01's corners put to the source one by one, each under a name, and request Two's; those of document 02's pages, which the source
-//! has not, to the second and the third statement.
+//! Document 01's corners put to the source one by one, each under a name, and those of requests Two and Three; those of document 02's pages,
+//! which the source has not, to the second and the third statement.
 
 mod bench;
+mod counts;
 mod custody;
 mod differences;
 mod drills;
@@ -13,6 +14,7 @@ mod pages;
 mod plain;
 mod refusals;
 mod restored;
+mod searched;
 mod tombs;
 
 use crate::compare::pair::caught;
@@ -41,11 +43,12 @@ pub fn stops<T>(what: impl FnOnce() -> T) -> Outcome {
     }
 }
 
-const GROUPS: [(&str, &[Check]); 12] = [
+const GROUPS: [(&str, &[Check]); 13] = [
     ("chain, courier, state, kdf, data", plain::CHECKS),
     ("custody", custody::CHECKS),
     ("exchange", exchange::CHECKS),
     ("tombstoned window tags", lost::CHECKS),
+    ("the count of an inventory's end", searched::CHECKS),
     ("tombs and maintenance", tombs::CHECKS),
     ("rows and files", files::CHECKS),
     ("screen pages", pages::CHECKS),

@@ -1,6 +1,7 @@
 //! The library, or a wrong statement, on areas that no call left. The third statement says what must come out.
 
 mod cells;
+mod counts;
 mod fetches;
 mod pages;
 mod reach;
@@ -109,7 +110,10 @@ fn run_list(seed: u64, count: usize, make: &Maker, reach: &mut Reach) -> Result<
             for _ in 0..rng.between(1, 6) {
                 let call = next_call(&mut generator, party.expected(), &mut rng);
                 made += 1;
-                let met = fetches::met(party.expected(), &call);
+                let met = (
+                    fetches::met(party.expected(), &call),
+                    counts::Before::of(party.expected(), &call),
+                );
                 let outcome = party.call(&call).map_err(|what| (made, format!("{call:?}: {what}")))?;
                 reach.count(met, party.expected(), &call, &outcome);
             }

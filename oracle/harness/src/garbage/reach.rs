@@ -2,7 +2,7 @@
 
 #[cfg(feature = "library")]
 use super::fetches;
-use super::{cells, pages};
+use super::{cells, counts, pages};
 use lent::{Areas, Outcome, Said};
 use post::Call;
 use std::collections::BTreeMap;
@@ -12,6 +12,7 @@ pub struct Reach {
     cells: BTreeMap<&'static str, u64>,
     pages: BTreeMap<&'static str, u64>,
     fetches: BTreeMap<&'static str, u64>,
+    counts: BTreeMap<&'static str, u64>,
 }
 
 /// What a call met: each name, and whether.
@@ -24,10 +25,14 @@ fn add(counts: &mut BTreeMap<&'static str, u64>, met: Met) {
 }
 
 impl Reach {
-    /// A call: what it met as to fetches, if it was answered; the areas are those after it.
-    pub fn count(&mut self, fetches: Met, areas: &Areas, call: &Call, outcome: &Outcome) {
-        if outcome.said == Said::Done {
+    /// A call: what it met as to fetches, if it was answered, and what an inventory met as to counts; the areas are those after it.
+    pub fn count(&mut self, before: (Met, Option<counts::Before>), areas: &Areas, call: &Call, outcome: &Outcome) {
+        let (fetches, counted) = before;
+        if matches!(outcome.said, Said::Ended { .. }) {
             add(&mut self.fetches, fetches);
+        }
+        if let Some(counted) = counted {
+            add(&mut self.counts, counted.met(outcome));
         }
         add(&mut self.cells, cells::met(areas, call, outcome));
         add(&mut self.pages, pages::met(call, outcome));
@@ -37,11 +42,12 @@ impl Reach {
 #[cfg(feature = "library")]
 impl Reach {
     /// A group of counts: what they are of, the names that should be reached, the counts.
-    fn groups(&self) -> [(&'static str, &'static [&'static str], &BTreeMap<&'static str, u64>); 3] {
+    fn groups(&self) -> [(&'static str, &'static [&'static str], &BTreeMap<&'static str, u64>); 4] {
         [
             ("rows whose cell does not count", &cells::ALL, &self.cells),
             ("pages", &pages::ALL, &self.pages),
             ("fetches and tombstones", &fetches::ALL, &self.fetches),
+            ("counts", &counts::ALL, &self.counts),
         ]
     }
 

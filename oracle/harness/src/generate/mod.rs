@@ -36,6 +36,8 @@ const EACH: usize = 31;
 const LOADED_TOMBSTONES: usize = 1020;
 /// As many as a stored tombstone leaves.
 const TOMBSTONES: usize = 1024;
+/// Own rows of a full list, so that its inventory counts more than 255 rows.
+const OWN: usize = 128;
 
 pub const VERIFICATIONS: [Verification; 3] = [
     Verification::Unverified,
@@ -130,7 +132,7 @@ impl Generator {
     }
 
     /// After the load of a full list: one row more of each of its depositors, which makes 256 carried rows, and one of another contact; tombstones up
-    /// to 1,024 and one more; a save, and an inventory of all.
+    /// to 1,024 and one more; own rows; a save, and an inventory of all.
     fn fill_up(&mut self, state: &State) {
         let (areas, none) = (Areas::enough(&self.sizes), || Vec::new().into());
         for place in 0..=DEPOSITORS {
@@ -150,6 +152,10 @@ impl Generator {
                 secret: secret_of(&tag),
                 expiry: u32::MAX,
             });
+        }
+        for _ in 0..OWN {
+            let call = self.numbered_own(state);
+            self.opening.push_back(call);
         }
         let (exchange, peer) = (0, self.pool.contacts[0]);
         self.opening.extend([

@@ -22,7 +22,7 @@ pub enum Profile {
     Contacts,
     /// The window call.
     Windows,
-    /// All that a post can hold at once: 256 carried rows and 1,024 tombstones.
+    /// 256 carried rows, 1,024 tombstones and many own rows at once.
     Full,
 }
 
@@ -107,6 +107,7 @@ impl Profile {
             },
             Self::Full => Sizes {
                 carried_cells: 256,
+                own_cells: super::OWN + few.own_cells,
                 tombstone_rows: rng.pick(&[1024, 1025]),
                 ..few
             },

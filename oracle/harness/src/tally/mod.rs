@@ -5,8 +5,10 @@ mod exchanges;
 mod lost;
 mod pages;
 mod rows;
+mod searched;
 
 pub use lost::CORNERS as LOST_FETCHES;
+pub use searched::CORNERS as COUNTS;
 
 use crate::compare::pair::Seen;
 use post::{Action, Answer, Custody, Kind, Reply, said};
@@ -76,6 +78,7 @@ fn all_corners() -> impl Iterator<Item = &'static Corner> {
         envelopes::CORNERS,
         exchanges::CORNERS,
         lost::CORNERS,
+        searched::CORNERS,
         rows::CORNERS,
         pages::CORNERS,
     ]

@@ -2,7 +2,7 @@
 
 use super::Corner;
 use crate::compare::pair::Seen;
-use post::{Action, Answer, Call, ChainRow, Held, Kind, State, Tag};
+use post::{Action, Answer, Call, ChainRow, Held, Kind, Reply, State, Tag};
 
 const CARRIED: usize = 256;
 const TOMBSTONES: usize = 1024;
@@ -26,6 +26,15 @@ fn malformed_tomb(seen: &Seen, holds: impl Fn(&Tag, &[u8; 16]) -> bool) -> bool 
 
 fn carried(state: &State, tag: &Tag) -> bool {
     state.carried().any(|(_, _, envelope)| envelope.tag == *tag)
+}
+
+/// How many envelopes of carried tags were sent.
+fn carried_offers(seen: &Seen) -> usize {
+    let Answer::Done { replies, .. } = seen.answer else {
+        return 0;
+    };
+    let is_carried = |reply: &&Reply| matches!(reply, Reply::Envelope(envelope) if carried(seen.before, &envelope.tag));
+    replies.iter().filter(is_carried).count()
 }
 
 fn ended(seen: &Seen) -> bool {
@@ -157,7 +166,7 @@ pub const CORNERS: &[Corner] = &[
         matches!(seen.answer, Answer::Saved(_)) && full(seen.before)
     }),
     ("an inventory that offers most of 256 carried rows", |seen| {
-        matches!(seen.answer, Answer::Done { replies, .. } if replies.len() > CARRIED / 2) && full(seen.before)
+        full(seen.before) && carried_offers(seen) > CARRIED / 2
     }),
     ("nothing is stored at 1,024, the tag has a tombstone", |seen| {
         stored(seen, 0) && tombstones(seen.before) >= TOMBSTONES

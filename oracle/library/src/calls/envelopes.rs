@@ -102,6 +102,7 @@ impl Library {
         self.answered(answer, Said::Found { length })
     }
 
+    /// The empty list that is done has its count in `length`; a list that is gathered has 0 there.
     pub(super) fn inventory(&mut self, exchange: usize, peer: u64, window: &[u8], listed: &[u8]) -> Outcome {
         let lengths = (window.len(), listed.len());
         let (window, listed) = (self.input(0, window), self.input(1, listed));
@@ -134,7 +135,10 @@ impl Library {
                 replies.len(),
             )
         };
-        self.answered(answer, Said::Done)
+        let ended = Said::Ended {
+            searched: answer.length,
+        };
+        self.answered(answer, if lengths.1 == 0 { ended } else { Said::Done })
     }
 
     /// With any byte as its code.

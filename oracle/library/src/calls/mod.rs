@@ -56,7 +56,9 @@ fn numbers(outcome: &Outcome) -> Answer {
         Said::Ours { .. } => sys::OURS,
         Said::Missing => sys::MISSING,
         Said::NoEnvelope => sys::NO_ENVELOPE,
-        Said::Done | Said::Found { .. } | Said::Own(_) | Said::Wrote(_) | Said::Row(_) => sys::DONE,
+        Said::Done | Said::Ended { .. } | Said::Found { .. } | Said::Own(_) | Said::Wrote(_) | Said::Row(_) => {
+            sys::DONE
+        }
     };
     let answer = Answer {
         replies: outcome.replies.len(),
@@ -74,7 +76,7 @@ fn numbers(outcome: &Outcome) -> Answer {
             idx,
             ..answer
         },
-        Said::Found { length } | Said::Wrote(length) => Answer { length, ..answer },
+        Said::Found { length } | Said::Wrote(length) | Said::Ended { searched: length } => Answer { length, ..answer },
         _ => answer,
     }
 }

@@ -1,6 +1,7 @@
 //! The source's calls on a device, as they are: no refusal, and no area that could be too short.
 
 mod restart;
+mod searched;
 pub(crate) mod view;
 
 use super::convert::{action_out, dir_in, envelope_in, held_in, own_out, reply_out, verification_in};
@@ -31,6 +32,17 @@ pub struct Raw {
     pub ours: Option<(u64, u8, u32)>,
     /// Queued messages that it keeps without an envelope; document 01 has no row for them.
     pub ended: usize,
+}
+
+impl Raw {
+    /// The tags and copies that it offers, in their order.
+    pub(crate) fn offers(&self) -> Vec<(Tag, u8)> {
+        let offer = |reply: &post::Reply| match reply {
+            post::Reply::Envelope(envelope) => Some((envelope.tag, envelope.copies)),
+            _ => None,
+        };
+        self.replies.iter().filter_map(offer).collect()
+    }
 }
 
 pub struct Source {

@@ -78,6 +78,59 @@ fn offers(post: &mut Post) -> usize {
         .count()
 }
 
+/// Gives every tombstone the tag of a row, of an own one and a carried one in turn.
+fn entomb(areas: &mut Areas) {
+    for (i, tombstone) in areas.tombstones.chunks_exact_mut(44).enumerate() {
+        let tag = match i % 2 {
+            0 => &areas.own[54 * i + 12..][..16],
+            _ => &areas.carried[57 * i + 16..][..16],
+        };
+        tombstone[8..24].copy_from_slice(tag);
+    }
+}
+
+/// How many envelopes a peer is offered that listed some prefixes, and for how many rows the tombstones were searched.
+fn counted(areas: &Areas, prefixes: &[Prefix]) -> (usize, usize) {
+    let mut post = Post::over(areas.clone()).unwrap();
+    let mut exchange = Exchange::closed();
+    post.fresh_exchange(&mut exchange, VERIFIED).unwrap();
+    let mut list = |prefixes: &[Prefix]| match post
+        .inventory(&mut exchange, VERIFIED, &Window::EMPTY, prefixes)
+        .unwrap()
+    {
+        Record::Taken(replies) => {
+            let searched = replies.searched();
+            let is_offer = |reply: &Reply<'_>| matches!(reply, Reply::Envelope(_));
+            (replies.filter(is_offer).count(), searched)
+        }
+        Record::Malformed => panic!("malformed"),
+    };
+    assert_eq!(list(prefixes), (0, 0));
+    list(&[])
+}
+
+#[test]
+fn the_count_on_any_bytes_is_what_is_offered_without_tombstones() {
+    let mut noise = Noise(8);
+    let (mut offers, mut rows) = (0, 0);
+    for _ in 0..40 {
+        let mut areas = noise.areas();
+        entomb(&mut areas);
+        let post = Post::over(areas.clone()).unwrap();
+        let listed: Vec<_> = post
+            .carried()
+            .step_by(3)
+            .map(|row| row.envelope.header.tag.prefix())
+            .collect();
+        let (offered, searched) = counted(&areas, &listed);
+        areas.device[36..44].fill(0);
+        assert_eq!(counted(&areas, &listed), (searched, searched));
+        assert!(offered <= searched && searched <= MAX_LISTED);
+        (offers, rows) = (offers + offered, rows + searched);
+    }
+    assert!(0 < offers && offers < rows, "{offers} {rows}");
+}
+
 /// Makes the calls that list actions; answers how many they listed.
 fn changes(post: &mut Post) -> usize {
     let tag = post.own_rows().next().map_or(tag(1), |row| row.tag);

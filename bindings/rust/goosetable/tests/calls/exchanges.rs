@@ -8,6 +8,35 @@ fn opened(post: &Post, peer: ContactId) -> Exchange {
     exchange
 }
 
+/// What a list is answered with.
+fn taken<'a>(
+    post: &'a mut Post,
+    exchange: &mut Exchange,
+    peer: ContactId,
+    window: &Window,
+    prefixes: &[Prefix],
+) -> Replies<'a> {
+    match post.inventory(exchange, peer, window, prefixes).unwrap() {
+        Record::Taken(replies) => replies,
+        Record::Malformed => panic!("malformed"),
+    }
+}
+
+/// What a whole inventory of a peer is answered with, at its end; a list that is gathered is answered with nothing.
+fn ended<'a>(
+    post: &'a mut Post,
+    exchange: &mut Exchange,
+    peer: ContactId,
+    window: &Window,
+    prefixes: &[Prefix],
+) -> Replies<'a> {
+    if !prefixes.is_empty() {
+        let gathered = taken(post, exchange, peer, window, prefixes);
+        assert_eq!((gathered.len(), gathered.searched()), (0, 0));
+    }
+    taken(post, exchange, peer, window, &[])
+}
+
 /// The replies to a whole inventory of a peer.
 fn meet<'a>(
     post: &'a mut Post,
@@ -16,16 +45,16 @@ fn meet<'a>(
     window: &Window,
     prefixes: &[Prefix],
 ) -> Vec<Reply<'a>> {
-    if !prefixes.is_empty() {
-        match post.inventory(exchange, peer, window, prefixes).unwrap() {
-            Record::Taken(replies) => assert_eq!(replies.len(), 0),
-            Record::Malformed => panic!("malformed"),
-        }
-    }
-    match post.inventory(exchange, peer, window, &[]).unwrap() {
-        Record::Taken(replies) => replies.collect(),
-        Record::Malformed => panic!("malformed"),
-    }
+    ended(post, exchange, peer, window, prefixes).collect()
+}
+
+/// How many envelopes a whole inventory of a peer brings, and for how many rows the tombstones were searched.
+fn counted(post: &mut Post, peer: ContactId, prefixes: &[Prefix]) -> (usize, usize) {
+    let mut exchange = opened(post, peer);
+    let replies = ended(post, &mut exchange, peer, &Window::EMPTY, prefixes);
+    let searched = replies.searched();
+    let is_offer = |reply: &Reply<'_>| matches!(reply, Reply::Envelope(_));
+    (replies.filter(is_offer).count(), searched)
 }
 
 fn offers(post: &mut Post, exchange: &mut Exchange, peer: ContactId) -> Vec<(Tag, u8)> {
@@ -240,6 +269,133 @@ fn a_tombstoned_tag_is_not_fetched_nor_looked_past_and_its_tomb_stays() {
     }
 }
 
+/// A post that holds rows of every kind for a verified peer, with tombstones that expire before any of them; and what the
+/// peer lists. Carried rows by their tags: 1 and 2 are offered, 3 is tombstoned, 4 listed, 5 both, 6 has one copy, 7 has
+/// one and is tombstoned. Own rows by their places: 0 is for the peer, 1 is offered, 2 is tombstoned, 3 listed.
+fn of_every_kind() -> (Post, [Prefix; 3]) {
+    let mut post = post();
+    for (byte, copies) in [(1, 4), (2, 2), (3, 4), (4, 4), (5, 4), (6, 1), (7, 1)] {
+        carry(&mut post, VERIFIED, envelope(byte, copies));
+    }
+    let own = [
+        message(VERIFIED, 1, 1),
+        message(UNVERIFIED, 2, 2),
+        message(UNVERIFIED, 3, 3),
+        message(COMPROMISED, 4, 4),
+    ]
+    .map(|message| post.own_envelope(message).unwrap().unwrap().tag);
+    for tag in [tag(3), tag(5), tag(7), own[2]] {
+        let _ = post.stored_tombstone(tag, SECRET, 90).unwrap();
+    }
+    (post, [tag(4), tag(5), own[3]].map(|tag| tag.prefix()))
+}
+
+#[test]
+fn tombstones_are_searched_for_what_is_offered_or_tombstoned_and_for_nothing_else() {
+    let (mut post, listed) = of_every_kind();
+    let (offered, tombstoned) = (3, 2);
+    assert_eq!(
+        counted(&mut post, VERIFIED, &listed),
+        (offered, offered + tombstoned)
+    );
+}
+
+#[test]
+fn without_tombstones_as_many_rows_are_offered_as_they_were_searched_for() {
+    let (mut post, listed) = of_every_kind();
+    let (offered, searched) = counted(&mut post, VERIFIED, &listed);
+    assert!(0 < offered && offered < searched);
+    post.set_clock(90 * 60);
+    let _ = post.maintenance().unwrap();
+    let Counts {
+        own,
+        carried,
+        tombstones,
+        ..
+    } = post.counts();
+    assert_eq!((own, carried, tombstones), (4, 7, 0));
+    assert_eq!(counted(&mut post, VERIFIED, &listed), (searched, searched));
+}
+
+#[test]
+fn a_tomb_with_the_tombstones_secret_ends_what_it_holds_back() {
+    let (mut post, listed) = of_every_kind();
+    let tombstones: Vec<_> = post.tombstones().collect();
+    for row in tombstones {
+        let told = post.tomb(COMPROMISED, row.tag, row.secret).unwrap();
+        assert!(matches!(told, Record::Taken(_)));
+    }
+    let (offered, _) = counted(&mut post, VERIFIED, &listed);
+    assert_eq!(counted(&mut post, VERIFIED, &listed), (offered, offered));
+    assert_eq!((post.own_rows().len(), post.carried().len()), (3, 4));
+}
+
+#[test]
+fn only_the_end_of_an_inventory_has_a_count_and_it_stays() {
+    let mut post = post();
+    carry(&mut post, VERIFIED, envelope(1, 4));
+    carry(&mut post, VERIFIED, envelope(2, 4));
+    let mut exchange = opened(&post, UNVERIFIED);
+    let mut list = |post: &mut Post, prefixes: &[Prefix]| {
+        let mut replies = taken(post, &mut exchange, UNVERIFIED, &Window::EMPTY, prefixes);
+        let before = (replies.len(), replies.searched());
+        replies.next();
+        (before, replies.searched())
+    };
+    for byte in [3, 4] {
+        assert_eq!(list(&mut post, &[tag(byte).prefix()]), ((0, 0), 0));
+    }
+    assert_eq!(list(&mut post, &[]), ((2, 2), 2));
+    let opened = post.opened(UNVERIFIED, tag(3), SECRET, 90).unwrap();
+    assert_eq!((opened.replies.len(), opened.replies.searched()), (1, 0));
+}
+
+#[test]
+fn two_rows_of_one_tag_count_twice() {
+    let mut post = post();
+    let tags = [1, 2].map(|number| {
+        let row = post.own_envelope(message(VERIFIED, number, 7));
+        row.unwrap().unwrap().tag
+    });
+    assert_eq!(tags[0], tags[1]);
+    let mut exchange = opened(&post, UNVERIFIED);
+    offers(&mut post, &mut exchange, UNVERIFIED);
+    assert_eq!(exchange.offered(), 1);
+    assert_eq!(counted(&mut post, UNVERIFIED, &[]), (2, 2));
+    let _ = post.stored_tombstone(tags[0], SECRET, 90).unwrap();
+    assert_eq!(counted(&mut post, UNVERIFIED, &[]), (0, 2));
+    assert_eq!(counted(&mut post, UNVERIFIED, &[tags[0].prefix()]), (0, 0));
+}
+
+/// A post with 256 own rows and 256 carried ones, of four envelopes from each of 64 contacts.
+fn full() -> Post {
+    let mut post = sized(Sizes::default());
+    for number in 0..64 {
+        let depositor = ContactId(1000 + u64::from(number));
+        post.set_contact(depositor, Verification::Verified).unwrap();
+        for byte in 4 * number..=4 * number + 3 {
+            carry(&mut post, depositor, envelope(byte, 4));
+        }
+    }
+    for number in 0..256 {
+        let made = post.own_envelope(message(UNVERIFIED, number, number));
+        assert!(made.unwrap().is_some());
+    }
+    post
+}
+
+#[test]
+fn at_most_512_rows_are_counted() {
+    let mut post = full();
+    assert_eq!(counted(&mut post, VERIFIED, &[]), (512, 512));
+    assert_eq!(counted(&mut post, UNVERIFIED, &[]), (256, 256));
+    let own: Vec<_> = post.own_rows().map(|row| row.tag).collect();
+    for tag in own.into_iter().chain((0..=255).map(tag)) {
+        let _ = post.stored_tombstone(tag, SECRET, 90).unwrap();
+    }
+    assert_eq!(counted(&mut post, VERIFIED, &[]), (0, 512));
+}
+
 #[test]
 fn five_hundred_and_twelve_prefixes_are_fine_and_one_more_is_malformed() {
     let mut post = post();
@@ -337,6 +493,7 @@ fn three_peers_accepting_2_of_4_leave_0() {
         left.push(fetched.header.copies);
     }
     assert_eq!(left, [2, 0, 0]);
+    assert_eq!(counted(&mut post, VERIFIED, &[]), (0, 0));
 }
 
 #[test]
