@@ -311,7 +311,7 @@ pub extern "C" fn goosetable_inventory_of_ours(
     listed_answer(inventory::inventory(d, ContactId(peer), contacts, own, carried, prefixes))
 }
 
-// A list of prefixes from a peer; the length counts the rows for which its end searched the tombstones.
+// A list of prefixes from a peer; of the empty one, which ends them, the length counts the rows for which the tombstones were searched.
 #[no_mangle]
 pub extern "C" fn goosetable_inventory(
     device: &[u8; 60],

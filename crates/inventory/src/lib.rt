@@ -29,6 +29,9 @@ use rows::Exchange;
 use rows::Peer;
 use table::Found;
 
+// Rows that may be offered, at most: 256 own and 256 carried ones.
+const MAX_ROWS: usize = 512;
+
 // ---- how many rows there are, by counts that may be anything
 
 fn own_count(own: &[u8], count: usize) -> usize
@@ -299,7 +302,7 @@ fn lengthened(exchange: Exchange, listed: usize) -> Exchange
     }
 }
 
-// Answers the terminator: fetches and tombs for the l listed prefixes, then offers.
+// Answers the terminator: fetches and tombs for the l listed prefixes, then offers, and for how many rows the tombstones were searched.
 fn answer_inventory(
     device: Device,
     exchange: Exchange,
@@ -343,7 +346,7 @@ fn answer_inventory(
         peer,
     );
     let t = push_tombs(replies, f, prefixes, l, tombstones, g);
-    let mut flags = [false; 512];
+    let mut flags = [false; MAX_ROWS];
     let searched = offers::list_offers(
         own,
         n,

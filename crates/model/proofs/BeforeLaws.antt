@@ -1,5 +1,5 @@
--- Every call beside the rules before a request: its answer is the same, or it is a terminator that is answered; and if terminators changed
--- nothing else, so did lists of calls.
+-- Every call beside the rules before a request: its answer is the same, or it is a terminator that is answered; and where what a terminator
+-- changes is the same, so is the post after any list of calls.
 -- Assumes nothing.
 use mathlib.Core.Path.{_≡_, refl, sym, ap, _∙_, subst}
 use mathlib.Core.Logic.{_⊎_, inl, inr, ⊎-elim}
@@ -20,15 +20,12 @@ use Rattle.model.specs.Window.{windowRows, prefixRows}
 use Rattle.model.specs.Exchange.{answerInventory, tooMany, receiveInventory}
 use Rattle.model.specs.Step.{Post, Lent, tests, perform, step, stateFor, answerTo, after, run}
 use Rattle.model.specs.Before.{receiveInventoryBefore, performBefore, stepBefore, afterBefore, runBefore}
+use Rattle.model.proofs.RefusalLaws.{IsInventory}
 
 -- an empty inventory that is answered
 pub record Terminator (s : State) (c : Call) : Type 0 where
-  pub replies : ℕ
-  pub window : List ℕ
-  pub peer : ContactId
-  pub listed : List ℕ
-  pub call : c ≡ Calls.inventoryReceived replies window peer listed
-  pub empty : prefixRows listed ≡ []
+  pub call : IsInventory c
+  pub empty : prefixRows (call .listed) ≡ []
   pub answered : step s c .answer ≡ done
 
 -- tests in order: one refuses whatever is performed, or none does
@@ -70,11 +67,7 @@ module _ (answer : State → List Reachable → ContactId → Result) where
         go false m false e t = inl (rw (m, e))
         go false m true e (refuses why h) = inl (h _ ∙ sym (h _))
         go false m true e (passes h) = inr (record {
-          replies = replies;
-          window = window;
-          peer = peer;
-          listed = listed;
-          call = refl;
+          call = record { replies = replies; window = window; peer = peer; listed = listed; is = refl };
           empty = no-prefixes tags e;
           answered = ap (λ (o : Result). o .answer) (h _) ∙ rw (m, e);
         })
@@ -116,9 +109,9 @@ module _ (answer : State → List Reachable → ContactId → Result) where
 
   -- a terminator's two answers
   pub terminator-answers : (s : State) (c : Call) (t : Terminator s c)
-      → (step s c ≡ answerInventory s (windowRows (t .window)) (t .peer)) × (stepBefore answer s c ≡ answer s (windowRows (t .window)) (t .peer))
+      → (step s c ≡ answerInventory s (windowRows (t .call .window)) (t .call .peer)) × (stepBefore answer s c ≡ answer s (windowRows (t .call .window)) (t .call .peer))
   terminator-answers s c t =
-      rw (t .call) (terminator-is s (t .replies) (t .window) (t .peer) (t .listed) (t .empty) (subst (λ (z : Call). step s z .answer ≡ done) (t .call) (t .answered)))
+      rw (t .call .is) (terminator-is s (t .call .replies) (t .call .window) (t .call .peer) (t .call .listed) (t .empty) (subst (λ (z : Call). step s z .answer ≡ done) (t .call .is) (t .answered)))
 
   -- ---- a list of calls, if what a terminator changes is the same
 
@@ -127,7 +120,7 @@ module _ (answer : State → List Reachable → ContactId → Result) where
     same-change s c =
         ⊎-elim (ap (λ (o : Result). o .change)) (λ t.
         let e = terminator-answers s c t in
-        ap (λ (o : Result). o .change) (e .0) ∙ same s (windowRows (t .window)) (t .peer) ∙ sym (ap (λ (o : Result). o .change) (e .1)))
+        ap (λ (o : Result). o .change) (e .0) ∙ same s (windowRows (t .call .window)) (t .call .peer) ∙ sym (ap (λ (o : Result). o .change) (e .1)))
         (either s c)
 
     same-after : (p : Post) (l : Lent) → after p l ≡ afterBefore answer p l

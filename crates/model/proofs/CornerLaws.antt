@@ -2,7 +2,7 @@
 -- Assumes nothing.
 use mathlib.Core.Path.{_≡_, refl, sym, ap, ap₂, _∙_, subst}
 use mathlib.Core.Logic.{_⊎_, inl, inr, ⊎-elim, _↔_}
-use mathlib.Core.Bool.{Bool, true, false, cond, _||_, or-true, false≢true}
+use mathlib.Core.Bool.{Bool, true, false, cond, _||_, or-true, false≢true, _&&_}
 use mathlib.Core.List.{List, [], _∷_, _++_, append-nil, map, map-append, flatMap, Perm, perm-middle}
 use mathlib.Core.Option.{Option, some}
 use Prim.Native.Nat.{ℕ, suc, _+_, _/_, _≤_, _<_, _^_}
@@ -276,6 +276,19 @@ pub is-offered : (ts : List Tombstone) (listed : List (List ℕ)) (e : Envelope)
 unfolding isOffered inQuestion
 is-offered ts listed e c t l =
     rw (lt-ltb 1 (e .head .copies) c, has-none (λ (r : Tombstone). r .tag) (e .head .tag) ts t, has-none (λ (b : List ℕ). b) (trunc8 (e .head .tag)) listed l)
+
+and-false : (b : Bool) → (b && false) ≡ false
+and-false true = refl
+and-false false = refl
+
+-- its prefix listed: not in question; a tombstone of the tag: not offered
+pub listed-out : (listed : List (List ℕ)) (e : Envelope) → Has (λ (b : List ℕ). b) (trunc8 (e .head .tag)) listed → inQuestion listed e ≡ false
+unfolding inQuestion
+listed-out listed e h = rw (has-any (λ (b : List ℕ). b) (trunc8 (e .head .tag)) listed h) (and-false (ltb 1 (e .head .copies)))
+
+pub tombstoned-out : (ts : List Tombstone) (listed : List (List ℕ)) (e : Envelope) → TombstonesHave ts (e .head .tag) → isOffered ts listed e ≡ false
+unfolding isOffered
+tombstoned-out ts listed e h = rw (has-any (λ (r : Tombstone). r .tag) (e .head .tag) ts h) (and-false (inQuestion listed e))
 
 -- The answer to the terminator offers n copies of an envelope, after which the envelopes y stand: a reply, whose last byte they are, and
 -- the exchange's row of the tag, which the last envelope of that tag gives.

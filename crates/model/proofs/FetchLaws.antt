@@ -67,7 +67,7 @@ pub record OneFetchLess (s : State) (window : List Reachable) (peer : ContactId)
 pub record OnlyFetchesLost : Type 0 where
   pub no-fetch : (bad : List BadTag) (ts : List Tombstone) (window : List Reachable) (peer : ContactId) (prefix : List ℕ) (x y : List Reachable) (r : Reachable)
       → FirstRow window prefix x r y → TombstonesHave ts (r .tag) → fetchFor bad ts window peer prefix ≡ []
-  pub terminator : (s : State) (c : Call) (t : Terminator s c) → OneFetchLess s (windowRows (t .window)) (t .peer) (step s c) (stepBeforeTwo s c)
+  pub terminator : (s : State) (c : Call) (t : Terminator s c) → OneFetchLess s (windowRows (t .call .window)) (t .call .peer) (step s c) (stepBeforeTwo s c)
   pub others : (s : State) (c : Call) → (Terminator s c → ⊥) → step s c ≡ stepBeforeTwo s c
   pub holdings : (p : Post) (ls : List Lent) → run p ls ≡ runBeforeTwo p ls
 
@@ -250,10 +250,10 @@ module _ (s : State) (window : List Reachable) (peer : ContactId) where
 
 -- ---- every call
 
-terminator-less : (s : State) (c : Call) (t : Terminator s c) → OneFetchLess s (windowRows (t .window)) (t .peer) (step s c) (stepBeforeTwo s c)
+terminator-less : (s : State) (c : Call) (t : Terminator s c) → OneFetchLess s (windowRows (t .call .window)) (t .call .peer) (step s c) (stepBeforeTwo s c)
 terminator-less s c t =
     let e = terminator-answers answerInventoryBeforeTwo s c t in
-    rw (e .0, e .1) (one-less s (windowRows (t .window)) (t .peer))
+    rw (e .0, e .1) (one-less s (windowRows (t .call .window)) (t .call .peer))
 
 pub only-fetches-lost : OnlyFetchesLost
 only-fetches-lost = record {

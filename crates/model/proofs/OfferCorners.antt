@@ -9,7 +9,7 @@ use Rattle.rows.specs.declared.Carried.{Carried}
 use Rattle.rows.specs.declared.Tombstone.{Tombstone}
 use Rattle.model.specs.State.{State, ownNow, carriedNow, tombstonesNow, listedNow, _and_, apply}
 use Rattle.model.specs.Exchange
-use Rattle.model.specs.Exchange.{Envelope, envelopes, searchedRows, offers, receiveInventory}
+use Rattle.model.specs.Exchange.{Envelope, envelopes, searchedRows, searchedCount, offers, receiveInventory}
 use Rattle.model.specs.Before
 use Rattle.model.specs.Before.{answerInventoryBeforeThree}
 use Rattle.model.proofs.Examples.{post, id, ofByte, rows-of}
@@ -50,8 +50,9 @@ three-searched :
     (tags (searchedRows held (id 5)) ≡ ofByte 1 ∷ ofByte 1 ∷ ofByte 9 ∷ [])
     × (tags (offers held (id 5)) ≡ ofByte 1 ∷ ofByte 1 ∷ [])
     × (receiveInventory held [] (id 5) [] .told ≡ 3 ∷ [])
+    × (searchedCount (receiveInventory held [] (id 5) []) ≡ 3)
     × (answerInventoryBeforeThree held [] (id 5) .told ≡ [])
     × (receiveInventory held [] (id 5) (replicate 8 7 ∷ []) .told ≡ [])
     × (receiveInventory held [] (id 5) (replicate 512 []) .told ≡ [])
 unfolding tags held rows-of Exchange.listMore Before.answerInventoryBeforeThree
-three-searched = (refl, refl, refl, refl, refl, refl)
+three-searched = (refl, refl, refl, refl, refl, refl, refl)

@@ -120,7 +120,7 @@ pub record IsInventory (c : Call) : Type 0 where
   pub window : List ℕ
   pub peer : ContactId
   pub listed : List ℕ
-  pub call : c ≡ Calls.inventoryReceived replies window peer listed
+  pub is : c ≡ Calls.inventoryReceived replies window peer listed
 
 plain : {o : Result} → isRefused (o .answer) ≡ false → o .told ≡ [] → Plain o
 plain a t = record { answers = a; untold = t }
@@ -142,7 +142,7 @@ by-call s (Calls.openExchange peer) = inl (plain refl refl)
 by-call s (Calls.envelope replies actions window peer head ct) =
     inl (by-place Plain (lookup (windowRows window) (head .tag)) (λ i. plain refl refl) (plain refl refl))
 by-call s (Calls.inventoryReceived replies window peer listed) =
-    inr (record { replies = replies; window = window; peer = peer; listed = listed; call = refl })
+    inr (record { replies = replies; window = window; peer = peer; listed = listed; is = refl })
 by-call s (Calls.fetch replies peer tag) =
     inl (by-found Plain (find (envelopeOfTag tag) (envelopes (s .own) (s .carried) peer)) (λ e. plain refl refl) (plain refl refl))
 by-call s (Calls.custodyAnswer actions peer tag code) =
@@ -163,7 +163,7 @@ by-call s (Calls.page area number) = inl (plain refl refl)
 performed : (s : State) (c : Call) → Performed (perform s c)
 unfolding perform receiveInventory answerInventory listMore
 performed s c =
-    ⊎-elim (λ p. says (p .answers)) (λ i. rw (i .call)
+    ⊎-elim (λ p. says (p .answers)) (λ i. rw (i .is)
     (by-test Performed (tooMany (s .session .exchange) (length (prefixRows (i .listed)))) (says refl) (by-test Performed (eqb (length (prefixRows (i .listed))) 0) (says refl) (says refl))))
     (by-call s c)
 

@@ -22,10 +22,10 @@ use Rattle.rows.specs.declared.Reachable.{Reachable}
 use Rattle.model.specs.Basics.{matchFound, matchSome, find, trunc8}
 use Rattle.model.specs.State.{State, tombstonesNow, apply}
 use Rattle.model.specs.Calls
-use Rattle.model.specs.Calls.{Call, Result, telling, toldAt, only, done, malformed, fetchReply, tombReply}
+use Rattle.model.specs.Calls.{Call, Result, telling, only, done, malformed, fetchReply, tombReply}
 use Rattle.model.specs.Window.{noReachable, windowRows, prefixRows, lookup}
 use Rattle.model.specs.Custody.{tombstoneOfTag}
-use Rattle.model.specs.Exchange.{Envelope, envelopes, replyFor, notFetched, fetchFor, hasPrefix, tombFor, halved, inQuestion, isOffered, searchedRows, offers, answerInventory, listMore, tooMany, receiveInventory, receiveInventoryTests}
+use Rattle.model.specs.Exchange.{Envelope, envelopes, replyFor, notFetched, fetchFor, hasPrefix, tombFor, halved, inQuestion, isOffered, searchedRows, searchedCount, offers, answerInventory, listMore, tooMany, receiveInventory, receiveInventoryTests}
 use Rattle.model.specs.Step.{Post, Lent, tests, perform, step, run}
 use Rattle.model.specs.Before.{stepBefore, performBefore, receiveInventoryBefore, isOfferedBeforeThree, offersBeforeThree, answerInventoryBeforeThree, stepBeforeThree, runBeforeThree}
 use Rattle.model.specs.Good.{Good}
@@ -52,7 +52,7 @@ pub record OnlyCounted : Type 0 where
   pub others : (s : State) (c : Call) → (Terminator s c → ⊥) → step s c .told ≡ []
   pub same : (s : State) (c : Call) → telling [] (step s c) ≡ stepBeforeThree s c
   pub holdings : (p : Post) (ls : List Lent) → run p ls ≡ runBeforeThree p ls
-  pub few : (s : State) (c : Call) → Good s → toldAt 0 (step s c) ≤ 512
+  pub few : (s : State) (c : Call) → Good s → searchedCount (step s c) ≤ 512
 
 -- ---- the tests of a row, in either order
 
@@ -169,17 +169,13 @@ module _ (s : State) (replies : ℕ) (window : List ℕ) (peer : ContactId) (lis
 
 untombstoned-too : (s : State) (c : Call) → Terminator s c → Terminator (untombstoned s) c
 untombstoned-too s c t = record {
-  replies = t .replies;
-  window = t .window;
-  peer = t .peer;
-  listed = t .listed;
   call = t .call;
   empty = t .empty;
-  answered = subst (λ (z : Call). step (untombstoned s) z .answer ≡ done) (sym (t .call))
-      (sym (answered-same s (t .replies) (t .window) (t .peer) (t .listed)) ∙ subst (λ (z : Call). step s z .answer ≡ done) (t .call) (t .answered));
+  answered = subst (λ (z : Call). step (untombstoned s) z .answer ≡ done) (sym (t .call .is))
+      (sym (answered-same s (t .call .replies) (t .call .window) (t .call .peer) (t .call .listed)) ∙ subst (λ (z : Call). step s z .answer ≡ done) (t .call .is) (t .answered));
 }
 
-told-count : (s : State) (c : Call) (t : Terminator s c) → step s c .told ≡ length (searchedRows s (t .peer)) ∷ []
+told-count : (s : State) (c : Call) (t : Terminator s c) → step s c .told ≡ length (searchedRows s (t .call .peer)) ∷ []
 unfolding answerInventory
 told-count s c t = ap (λ (o : Result). o .told) (terminator-answers answerInventoryBeforeThree s c t .0)
 
@@ -187,11 +183,11 @@ counted : (s : State) (c : Call) → Terminator s c → step s c .told ≡ count
 unfolding untombstoned-too
 counted s c t =
     let u : State = untombstoned s in
-    let e : stepBeforeThree u c .replies ≡ answerInventoryBeforeThree u (windowRows (t .window)) (t .peer) .replies =
+    let e : stepBeforeThree u c .replies ≡ answerInventoryBeforeThree u (windowRows (t .call .window)) (t .call .peer) .replies =
     ap (λ (o : Result). o .replies) (terminator-answers answerInventoryBeforeThree u c (untombstoned-too s c t) .1) in
     told-count s c t
     ∙ ap (λ (n : ℕ). n ∷ [])
-    (sym (length-map (searchedRows s (t .peer)) halved) ∙ ap length (searched-rows s (t .peer)) ∙ sym (ap (countBy isEnvelope) e ∙ envelopes-counted u (windowRows (t .window)) (t .peer)))
+    (sym (length-map (searchedRows s (t .call .peer)) halved) ∙ ap length (searched-rows s (t .call .peer)) ∙ sym (ap (countBy isEnvelope) e ∙ envelopes-counted u (windowRows (t .call .window)) (t .call .peer)))
 
 abbrev Untold : Result → Type 0
 Untold o = o .told ≡ []
@@ -200,7 +196,7 @@ Untold o = o .told ≡ []
 untold : (s : State) (c : Call) → (step s c .told ≡ []) ⊎ Terminator s c
 unfolding step stepBefore performBefore receiveInventoryBefore listMore
 untold s c =
-    ⊎-elim (λ p. inl (of-step Untold (tests s c) (perform s c) (λ why. refl) (p .untold))) (λ i. rw (i .call) (⊎-elim (λ e. inl (ap (λ (o : Result). o .told) e ∙ listing i)) inr (either (λ t window peer. only done) s _)))
+    ⊎-elim (λ p. inl (of-step Untold (tests s c) (perform s c) (λ why. refl) (p .untold))) (λ i. rw (i .is) (⊎-elim (λ e. inl (ap (λ (o : Result). o .told) e ∙ listing i)) inr (either (λ t window peer. only done) s _)))
     (by-call s c)
   where
     listing : {c : Call} (i : IsInventory c) → stepBefore (λ t window peer. only done) s (Calls.inventoryReceived (i .replies) (i .window) (i .peer) (i .listed)) .told ≡ []
@@ -214,14 +210,14 @@ same-result s c = ⊎-elim (λ e. ⊎-elim (λ n. sym (ap (λ (ns : List ℕ). t
     ended : Terminator s c → telling [] (step s c) ≡ stepBeforeThree s c
     ended t =
         let e = terminator-answers answerInventoryBeforeThree s c t in
-        ap (telling []) (e .0) ∙ same-answer s (windowRows (t .window)) (t .peer) ∙ sym (e .1)
+        ap (telling []) (e .0) ∙ same-answer s (windowRows (t .call .window)) (t .call .peer) ∙ sym (e .1)
 
-at-most : (s : State) (c : Call) → Good s → toldAt 0 (step s c) ≤ 512
+at-most : (s : State) (c : Call) → Good s → searchedCount (step s c) ≤ 512
 unfolding searchedRows
 at-most s c g =
     ⊎-elim (λ n. omega (arith, ap (λ (ns : List ℕ). getD ns 0 0) n)) (λ t.
-    let es : List Envelope = envelopes (s .own) (s .carried) (t .peer) in
-    omega (arith, ap (λ (ns : List ℕ). getD ns 0 0) (told-count s c t), length-filter (inQuestion (s .session .exchange .listed)) es, envelopes-few s g (t .peer)))
+    let es : List Envelope = envelopes (s .own) (s .carried) (t .call .peer) in
+    omega (arith, ap (λ (ns : List ℕ). getD ns 0 0) (told-count s c t), length-filter (inQuestion (s .session .exchange .listed)) es, envelopes-few s g (t .call .peer)))
     (untold s c)
 
 pub only-counted : OnlyCounted

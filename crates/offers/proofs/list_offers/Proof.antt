@@ -1,9 +1,10 @@
 -- The rows seen so far are flagged or not; within a row, what is left of each search decides.
 use mathlib.Core.Path.{_≡_, refl, sym, ap, _∙_}
-use mathlib.Core.Bool.{true, false}
+use mathlib.Core.Bool.{true, false, _&&_}
 use Prim.Native.Nat.{_+_, _-_, _≤_}
 use lib.ListN.{length, set, length-set}
 use lib.Seq.{set-set}
+use lib.Dec.{ltb}
 use borrow.Author.Tests.{not-true, not-false}
 use Rattle.offers.proofs.OfferLaws.{not-spare, was-listed, was-tombstoned, is-offered}
 use Rattle.offers.proofs.ListingLaws.{tag-has, isListed, listed-next, listed-end, isTombstoned, tombstoned-next, tombstoned-end, Listing, listing-as, listing-start, listing-next, listing-end}
@@ -101,25 +102,27 @@ same-requires-2 : tie.Need-same-requires-2 Inv-loop2 μ-loop2 Inv-loop3 μ-loop3
 same-requires-2 c κs = (omega arith, tag-has (c .before .before .before .before .before .before .before .before .before .row-at .result .tag) (omega arith) (search needs))
 
 -- behind the search of the listing: the row may be offered, and its prefix is not listed
+spare : (m : tie.At-loop3 Inv-loop2 μ-loop2 Inv-loop3 μ-loop3 Inv-row μ-row Inv-loop μ-loop) → (m .before .before .before .before .before .before .before .row-at .result .goes && ltb 1 (m .before .before .before .before .before .before .before .row-at .result .copies)) ≡ true
+spare m = sym (m .before .before .before .before .before .may-offer .ensures) ∙ not-false _ (m .before .before .before .before .if1 .left)
+
+unlisted : (m : tie.At-loop3 Inv-loop2 μ-loop2 Inv-loop3 μ-loop3 Inv-row μ-row Inv-loop μ-loop) → isListed (m .before .before .before .before .before .before .before .row-at .result .tag) (m .before .before .before .before .before .before .before .before .before .before .before .before .before .before .before .args .listed .now) (m .before .before .before .before .before .before .before .before .before .before .before .before .before .before .before .args .l) 0 ≡ false
+unlisted m =
+    let s = m .before .before .before .before .before .before .before .before .before .before .before .before .before .before .before in
+    m .before .before .loop2 .inv .1 ∙ listed-end (m .before .before .before .before .before .before .before .row-at .result .tag) (s .args .listed .now) (s .args .l) (s .pre .1 .0 .0) (m .before .before .loop2 .j) (m .before .loop2-test .left)
+
 loop-again-3 : tie.Need-loop-again-3 Inv-loop2 μ-loop2 Inv-loop3 μ-loop3 Inv-row μ-row Inv-loop μ-loop
 loop-again-3 c =
     let at-same2 = c .before in
     let at-loop3-test = at-same2 .before .before in
     let at-loop3 = at-loop3-test .before in
-    let at-loop2-test = at-loop3 .before in
-    let at-loop2 = at-loop2-test .before in
-    let at-if1 = at-loop2 .before .before in
-    let at-may-offer = at-if1 .before in
-    let at-row = at-may-offer .before in
+    let at-row = at-loop3 .before .before .before .before .before .before in
     let at-row-at = at-row .before in
     let at-loop-test = at-row-at .before in
     let at-loop = at-loop-test .before in
     let s = at-loop .before .before .before .before .before .before in
-    let t = at-row-at .row-at .result .tag in
-    let listed = at-loop2 .loop2 .inv .1 ∙ listed-end t (s .args .listed .now) (s .args .l) (s .pre .1 .0 .0) (at-loop2 .loop2 .j) (at-loop2-test .loop2-test .left) in
     listing-as _ _ _ _ _ _ _ _ _ _ (ap (λ n. n + 1) (at-row .row .inv .0)) (at-row .row .inv .1)
     (listing-next _ _ _ _ _ _ _ _ _ _ (s .pre .0 .0) (s .pre .0 .1) (s .pre .1 .1) (at-loop .loop .inv) true false (at-loop-test .loop-test .taken)
-    (was-tombstoned _ _ _ _ (at-row-at .row-at .ensures) (sym (at-may-offer .may-offer .ensures) ∙ not-false _ (at-if1 .if1 .left)) listed
+    (was-tombstoned _ _ _ _ (at-row-at .row-at .ensures) (spare at-loop3) (unlisted at-loop3)
     (at-loop3 .loop3 .inv .1 ∙ tombstoned-next _ _ _ (s .pre .1 .0 .1) _ true (tag-size at-row-at) (at-loop3-test .loop3-test .taken) (at-same2 .same2 .ensures) (c .if3 .taken))))
 
 loop3-again : tie.Need-loop3-again Inv-loop2 μ-loop2 Inv-loop3 μ-loop3 Inv-row μ-row Inv-loop μ-loop
@@ -147,21 +150,16 @@ slice-write-flags-2 c =
 loop-again-4 : tie.Need-loop-again-4 Inv-loop2 μ-loop2 Inv-loop3 μ-loop3 Inv-row μ-row Inv-loop μ-loop
 loop-again-4 c =
     let at-loop3 = c .before in
-    let at-loop2-test = at-loop3 .before in
-    let at-loop2 = at-loop2-test .before in
-    let at-if1 = at-loop2 .before .before in
-    let at-may-offer = at-if1 .before in
-    let at-row = at-may-offer .before in
+    let at-row = at-loop3 .before .before .before .before .before .before in
     let at-row-at = at-row .before in
     let at-loop-test = at-row-at .before in
     let at-loop = at-loop-test .before in
     let s = at-loop .before .before .before .before .before .before in
     let t = at-row-at .row-at .result .tag in
-    let listed = at-loop2 .loop2 .inv .1 ∙ listed-end t (s .args .listed .now) (s .args .l) (s .pre .1 .0 .0) (at-loop2 .loop2 .j) (at-loop2-test .loop2-test .left) in
     let tombstoned = at-loop3 .loop3 .inv .1 ∙ tombstoned-end t (s .args .tombstones .now) (s .args .g) (s .pre .1 .0 .1) (at-loop3 .loop3 .t) (c .loop3-test .left) in
     listing-as _ _ _ _ _ _ _ _ _ _ (ap (λ n. n + 1) (at-row .row .inv .0)) (ap (λ z. set z (at-loop .loop .i) true) (at-row .row .inv .1) ∙ set-set (at-loop .loop .flags) (at-loop .loop .i) false true)
     (listing-next _ _ _ _ _ _ _ _ _ _ (s .pre .0 .0) (s .pre .0 .1) (s .pre .1 .1) (at-loop .loop .inv) true true (at-loop-test .loop-test .taken)
-    (is-offered _ _ _ _ (at-row-at .row-at .ensures) (sym (at-may-offer .may-offer .ensures) ∙ not-false _ (at-if1 .if1 .left)) listed tombstoned))
+    (is-offered _ _ _ _ (at-row-at .row-at .ensures) (spare at-loop3) (unlisted at-loop3) tombstoned))
 
 returns : tie.Need-returns Inv-loop2 μ-loop2 Inv-loop3 μ-loop3 Inv-row μ-row Inv-loop μ-loop
 returns c =
