@@ -8,8 +8,10 @@ use Rattle.rows.specs.declared.Own.{Own}
 use Rattle.rows.specs.declared.Carried.{Carried}
 use Rattle.rows.specs.declared.Tombstone.{Tombstone}
 use Rattle.model.specs.State.{State, ownNow, carriedNow, tombstonesNow, listedNow, _and_, apply}
+use Rattle.courier.specs.Tags.{commitmentOf}
+use Rattle.model.specs.Calls.{ofOwn, ofCarried}
 use Rattle.model.specs.Exchange
-use Rattle.model.specs.Exchange.{Envelope, envelopes, searchedRows, searchedCount, offers, receiveInventory}
+use Rattle.model.specs.Exchange.{Envelope, envelopes, searchedRows, searchedCount, halved, offers, receiveInventory}
 use Rattle.model.specs.Before
 use Rattle.model.specs.Before.{answerInventoryBeforeThree}
 use Rattle.model.proofs.Examples.{post, id, ofByte, rows-of}
@@ -34,6 +36,25 @@ tags es = map (λ (e : Envelope). e .head .tag) es
 seen-by-a-peer : tags (envelopes (ownOf 6 1 1 ∷ ownOf 5 2 1 ∷ ownOf 7 3 1 ∷ []) (carriedOf 4 1 ∷ carriedOf 9 1 ∷ []) (id 5)) ≡ ofByte 1 ∷ ofByte 3 ∷ ofByte 4 ∷ ofByte 9 ∷ []
 unfolding tags ownOf carriedOf rows-of envelopes Exchange.ownEnvelopeOf Exchange.carriedEnvelopeOf
 seen-by-a-peer = refl
+
+-- A row's envelope: its tag, commitment (an own row's is of its secret), expiry and copies, and where its ciphertext is. It is offered with half of the copies.
+abbrev an-own : Own
+an-own = record { contact = id 6; msgno = 1; tag = ofByte 2; s = ofByte 3; «expiry_min» = 90; copies = 7; renewed = 1; len = 40; cell = 11 }
+
+abbrev a-carried : Carried
+a-carried = record { slot = 8; depositor = id 5; tag = ofByte 4; c = ofByte 5; «expiry_min» = 91; copies = 6; len = 41; cell = 12 }
+
+own-as : ℕ → Envelope
+own-as n = record { head = record { tag = ofByte 2; c = commitmentOf (ofByte 3); «expiry_min» = 90; copies = n }; cells = ofOwn; cell = 11; len = 40 }
+
+carried-as : ℕ → Envelope
+carried-as n = record { head = record { tag = ofByte 4; c = ofByte 5; «expiry_min» = 91; copies = n }; cells = ofCarried; cell = 12; len = 41 }
+
+as-held-and-offered :
+    (envelopes (an-own ∷ []) (a-carried ∷ []) (id 5) ≡ own-as 7 ∷ carried-as 6 ∷ [])
+    × (map halved (envelopes (an-own ∷ []) (a-carried ∷ []) (id 5)) ≡ own-as 3 ∷ carried-as 3 ∷ [])
+unfolding own-as carried-as rows-of envelopes halved Exchange.ownEnvelopeOf Exchange.carriedEnvelopeOf
+as-held-and-offered = (refl, refl)
 
 -- Contact 5 has listed the prefix of the carried row 4. Besides there are an own row for it, an own row with one copy, a carried row whose tag is tombstoned,
 -- and an own and a carried row of one tag.

@@ -1,6 +1,6 @@
 -- Which rows are offered: each is looked for among the listed prefixes and then among the tombstones, and flagged if it is in neither.
 -- Assumes nothing.
-use mathlib.Core.Path.{_≡_, refl, sym, ap, _∙_, subst}
+use mathlib.Core.Path.{_≡_, refl, sym, ap, _∙_}
 use mathlib.Core.Bool.{Bool, true, false, cond, _||_}
 use mathlib.Core.List.{List, [], _∷_, _++_, map, map-append}
 use Prim.Native.Nat.{ℕ, _+_, _*_, _≤_, _<_}
@@ -25,6 +25,7 @@ use Rattle.model.specs.Exchange.{inQuestion, isOffered, noCarried}
 use Rattle.offers.specs.Entries.{Entry, ownEntry, carriedEntry, entries, entryAt, passes}
 use Rattle.offers.specs.Offers.{ListsOffers}
 use Rattle.offers.proofs.EntryLaws.{length-held, held-is}
+use Rattle.offers.proofs.OfferLaws.{Tested}
 
 pub tag-has : (tag : List ℕ) {n : ℕ} → n ≤ 16 → length tag ≡ 16 → n ≤ length tag
 tag-has tag h e = omega arith
@@ -90,10 +91,6 @@ module _ (peer : ContactId) (own carried : List ℕ) (n m : ℕ) (listed : List 
     pub counted : a ≡ countBy asked (take i E)
     pub size : length fs ≡ length lent
 
-  -- the same of a count and flags that are equal
-  pub listing-as : {i a b : ℕ} {x y : List Bool} → b ≡ a → y ≡ x → Listing i a x → Listing i b y
-  listing-as {i} {a} {b} {x} {y} e f L = subst (λ (k : ℕ). Listing i k y) (sym e) (subst (λ (z : List Bool). Listing i a z) (sym f) L)
-
   pub listing-start : Listing 0 0 lent
   unfolding countBy
   listing-start = record { within = omega arith; few = omega arith; flags = refl; counted = refl; size = refl }
@@ -102,15 +99,15 @@ module _ (peer : ContactId) (own carried : List ℕ) (n m : ℕ) (listed : List 
     total : length E ≡ n + m
     total = length-held (ownEntry peer) carriedEntry own carried n m fits-own fits-carried
 
-    -- the row at i: is it searched for, is it offered
-    pub listing-next : (k b : Bool) → i < n + m → (asked (entryAt peer own n carried i) ≡ k) × (offered (entryAt peer own n carried i) ≡ b)
-        → Listing (i + 1) (cond k (a + 1) a) (set fs i b)
+    -- the row at i: counted if it is searched for, flagged if it is offered
+    pub listing-next : (k b : Bool) → i < n + m → Tested (tableOf tombstoneCodec g tombs) (tableOf prefixCodec l listed) (entryAt peer own n carried i) k b
+        → {c : ℕ} {gs : List Bool} → c ≡ cond k (a + 1) a → gs ≡ set fs i b → Listing (i + 1) c gs
     unfolding countBy
-    listing-next k b h t =
+    listing-next k b h t e f =
         let few = L .few in
         let is : getD E i noEntry ≡ entryAt peer own n carried i = held-is (ownEntry peer) carriedEntry own carried n m fits-own fits-carried i h in
         let more : take (i + 1) E ≡ take i E ++ (getD E i noEntry ∷ []) = ap (λ (j : ℕ). take j E) (add-one i) ∙ take-suc E i noEntry (omega (arith, total)) in
-        record {
+        rw (e, f) (record {
           within = omega arith;
           few = one k few;
           flags = ap (λ (j : ℕ). take j (set fs i b)) (add-one i) ∙ take-suc-set fs i b (omega (arith, L .size)) ∙ ap (λ (z : List Bool). z ++ (b ∷ [])) (L .flags)
@@ -118,7 +115,7 @@ module _ (peer : ContactId) (own carried : List ℕ) (n m : ℕ) (listed : List 
           counted = counts k (L .counted) (ap asked is ∙ t .0)
               ∙ sym (ap (countBy asked) more ∙ count-append asked (take i E) (getD E i noEntry ∷ []));
           size = length-set fs i b ∙ L .size;
-        }
+        })
       where
         one : (k : Bool) → a ≤ i → cond k (a + 1) a ≤ i + 1
         one true h = omega arith

@@ -42,6 +42,10 @@ module _ (row : Row) where
   pub spare-not : row .goes ≡ false → false ≡ (row .goes && ltb 1 (row .copies))
   spare-not e = rw e
 
+-- the tombstones are searched for the row; it is offered
+abbrev pub Tested : List Tombstone → List (List ℕ) → Entry → (searched offered : Bool) → Type 0
+Tested ts ls e a o = (passes (inQuestion ls) e ≡ a) × (passes (isOffered ts ls) e ≡ o)
+
 -- what is asked of a row, in this order: may it be offered, is its prefix listed, is its tag tombstoned
 module _ (ts : List Tombstone) (ls : List (List ℕ)) (e : Entry) (row : Row) (is : row ≡ rowOf e) where
   abbrev Spare : Row → Bool
@@ -53,11 +57,7 @@ module _ (ts : List Tombstone) (ls : List (List ℕ)) (e : Entry) (row : Row) (i
   abbrev Tombstoned : Row → Bool
   Tombstoned r = any (tombstoneOfTag (r .tag)) ts
 
-  -- the tombstones are searched for the row; it is offered
-  abbrev Tested : (searched offered : Bool) → Type 0
-  Tested a o = (passes (inQuestion ls) e ≡ a) × (passes (isOffered ts ls) e ≡ o)
-
-  tested : Tested (Spare row && not (Listed row)) ((Spare row && not (Listed row)) && not (Tombstoned row))
+  tested : Tested ts ls e (Spare row && not (Listed row)) ((Spare row && not (Listed row)) && not (Tombstoned row))
   unfolding isOffered inQuestion rowOf
   tested = rw is (go (e .goes) (ltb 1 (e .envelope .head .copies)) (Listed (rowOf e)) (Tombstoned (rowOf e)))
     where
@@ -65,20 +65,20 @@ module _ (ts : List Tombstone) (ls : List (List ℕ)) (e : Entry) (row : Row) (i
       go true m l t = (refl, refl)
       go false m l t = (refl, refl)
 
-  pub not-spare : Spare row ≡ false → Tested false false
+  pub not-spare : Spare row ≡ false → Tested ts ls e false false
   not-spare h = rw h at tested
 
-  pub was-listed : Listed row ≡ true → Tested false false
+  pub was-listed : Listed row ≡ true → Tested ts ls e false false
   was-listed h = go (Spare row) (rw h at tested)
     where
-      go : (b : Bool) → Tested (b && not true) ((b && not true) && not (Tombstoned row)) → Tested false false
+      go : (b : Bool) → Tested ts ls e (b && not true) ((b && not true) && not (Tombstoned row)) → Tested ts ls e false false
       go true q = q
       go false q = q
 
-  pub was-tombstoned : Spare row ≡ true → Listed row ≡ false → Tombstoned row ≡ true → Tested true false
+  pub was-tombstoned : Spare row ≡ true → Listed row ≡ false → Tombstoned row ≡ true → Tested ts ls e true false
   was-tombstoned s l t = rw (s, l, t) at tested
 
-  pub is-offered : Spare row ≡ true → Listed row ≡ false → Tombstoned row ≡ false → Tested true true
+  pub is-offered : Spare row ≡ true → Listed row ≡ false → Tombstoned row ≡ false → Tested ts ls e true true
   is-offered s l t = rw (s, l, t) at tested
 
 -- ---- an envelope as it is offered

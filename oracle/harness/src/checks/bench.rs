@@ -247,6 +247,16 @@ impl Bench {
         }
     }
 
+    /// Stores a tombstone.
+    pub fn store(&mut self, tag: Tag, expiry: u32) {
+        self.call(Call::StoredTombstone {
+            areas: self.areas,
+            tag,
+            secret: SECRET,
+            expiry,
+        });
+    }
+
     pub fn tomb_call(&self, tag: Tag, secret: [u8; 16]) -> Call {
         Call::Tomb {
             areas: self.areas,

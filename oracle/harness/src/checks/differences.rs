@@ -282,12 +282,7 @@ fn tombstoned_window_tag() -> Outcome {
         prefixes: prefixes.into(),
     };
     bench.call(Call::FreshExchange { areas, exchange, peer });
-    bench.call(Call::StoredTombstone {
-        areas,
-        tag,
-        secret: SECRET,
-        expiry: 100,
-    });
+    bench.store(tag, 100);
     bench.call(inventory(&prefix));
     let answer = post::Answer::Done {
         malformed: false,

@@ -33,15 +33,6 @@ fn ended(bench: &mut Bench, prefixes: &[Prefix], tags: &[Tag]) -> Vec<Reply> {
     }
 }
 
-fn store(bench: &mut Bench, tag: Tag, expiry: u32) {
-    bench.call(Call::StoredTombstone {
-        areas: bench.areas,
-        tag,
-        secret: SECRET,
-        expiry,
-    });
-}
-
 fn fail(bench: &mut Bench, tag: Tag) {
     bench.call(Call::Failed { peer: VERIFIED, tag });
 }
@@ -52,7 +43,7 @@ fn tomb(tag: Tag) -> Reply {
 
 fn no_second_look() -> Outcome {
     let mut bench = opened(ROOM);
-    store(&mut bench, tag_in(1, 7), 100);
+    bench.store(tag_in(1, 7), 100);
     let replies = ended(&mut bench, &[prefix(1)], &[tag_in(1, 7), tag_in(1, 8)]);
     same(replies, vec![tomb(tag_in(1, 7))])?;
     bench.open();
@@ -63,10 +54,10 @@ fn no_second_look() -> Outcome {
 /// The tomb is that of the lowest slot with the prefix, and need not be of the window's tag.
 fn tomb_of_another_tag() -> Outcome {
     let mut bench = opened(ROOM);
-    store(&mut bench, tag_in(1, 9), 100);
+    bench.store(tag_in(1, 9), 100);
     let replies = ended(&mut bench, &[prefix(1)], &[tag_in(1, 7)]);
     same(replies, vec![Reply::Fetch(tag_in(1, 7)), tomb(tag_in(1, 9))])?;
-    store(&mut bench, tag_in(1, 7), 100);
+    bench.store(tag_in(1, 7), 100);
     bench.open();
     let replies = ended(&mut bench, &[prefix(1)], &[tag_in(1, 7)]);
     same(replies, vec![tomb(tag_in(1, 9))])
@@ -77,14 +68,14 @@ fn last_byte() -> Outcome {
     let mut near = tag(1);
     near[15] ^= 1;
     let mut bench = opened(ROOM);
-    store(&mut bench, near, 100);
+    bench.store(near, 100);
     let replies = ended(&mut bench, &[prefix(1)], &[tag(1)]);
     same(replies, vec![Reply::Fetch(tag(1)), tomb(near)])
 }
 
 fn repeats() -> Outcome {
     let mut bench = opened(ROOM);
-    store(&mut bench, tag(1), 100);
+    bench.store(tag(1), 100);
     let listed = [prefix(1), prefix(2), prefix(1), prefix(2), prefix(1)];
     let replies = ended(&mut bench, &listed, &[tag(1), tag(2)]);
     let fetches = [Reply::Fetch(tag(2)), Reply::Fetch(tag(2))];
@@ -97,12 +88,12 @@ fn repeats() -> Outcome {
 fn bad_and_tombstoned() -> Outcome {
     let mut bench = opened(ROOM);
     fail(&mut bench, tag_in(1, 7));
-    store(&mut bench, tag_in(1, 7), 100);
+    bench.store(tag_in(1, 7), 100);
     let replies = ended(&mut bench, &[prefix(1)], &[tag_in(1, 7), tag_in(1, 8)]);
     same(replies, vec![tomb(tag_in(1, 7))])?;
     // A bad first row ends the look, also where the second is the tombstoned one.
     bench.open();
-    store(&mut bench, tag_in(2, 8), 100);
+    bench.store(tag_in(2, 8), 100);
     let replies = ended(
         &mut bench,
         &[prefix(1), prefix(2)],
@@ -117,7 +108,7 @@ fn bad_and_tombstoned() -> Outcome {
 /// Expiry 5 at minute 10: the tombstone counts until maintenance takes it; then the fetch comes back.
 fn expired_until_maintenance() -> Outcome {
     let mut bench = opened(ROOM);
-    store(&mut bench, tag(1), 5);
+    bench.store(tag(1), 5);
     same(ended(&mut bench, &[prefix(1)], &[tag(1)]), vec![tomb(tag(1))])?;
     let areas = bench.areas;
     let gone = Answer::Done {
@@ -164,7 +155,7 @@ fn reported_and_loaded() -> Outcome {
 /// An envelope of the tag is ours as before, though its tag is tombstoned.
 fn ours_as_before() -> Outcome {
     let mut bench = opened(ROOM);
-    store(&mut bench, tag(1), 100);
+    bench.store(tag(1), 100);
     let call = Call::Envelope {
         areas: bench.areas,
         window: encode_window(&window(&[tag(1)])),

@@ -251,13 +251,7 @@ fn after_any_deletion() -> Outcome {
         for number in 0..rows {
             let mut tag = tag(0xd0);
             tag[..8].copy_from_slice(&number.to_be_bytes());
-            let areas = bench.areas;
-            bench.call(Call::StoredTombstone {
-                areas,
-                tag,
-                secret: SECRET,
-                expiry: 50,
-            });
+            bench.store(tag, 50);
         }
         let stored = bench.stored_call(1);
         same(bench.refusal(stored), want)?;

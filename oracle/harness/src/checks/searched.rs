@@ -49,15 +49,6 @@ fn carry(bench: &mut Bench, tag: Tag, copies: u8) {
     bench.call(call);
 }
 
-fn store(bench: &mut Bench, tag: Tag, expiry: u32) {
-    bench.call(Call::StoredTombstone {
-        areas: bench.areas,
-        tag,
-        secret: SECRET,
-        expiry,
-    });
-}
-
 /// An own row for a contact: its tag.
 fn own(bench: &mut Bench, contact: u64, message: u32) -> Tag {
     match bench.call(bench.own_call(contact, message, 48)) {
@@ -83,7 +74,7 @@ fn offered_tombstoned_listed() -> Outcome {
     carry(&mut bench, tag(2), 4);
     carry(&mut bench, tag(3), 4);
     same(ended(&mut bench, &[]), (3, 3))?;
-    store(&mut bench, tag(2), 100);
+    bench.store(tag(2), 100);
     same(ended(&mut bench, &[]), (2, 3))?;
     same(ended(&mut bench, &[prefix(1)]), (1, 2))?;
     same(ended(&mut bench, &[prefix(2)]), (2, 2))?;
@@ -96,7 +87,7 @@ fn all_tombstoned() -> Outcome {
     let mut bench = opened(ROOM);
     for byte in 1..4 {
         carry(&mut bench, tag(byte), 2);
-        store(&mut bench, tag(byte), 100);
+        bench.store(tag(byte), 100);
     }
     same(ended(&mut bench, &[]), (0, 3))?;
     same(ended(&mut bench, &[prefix(2)]), (0, 2))
@@ -106,7 +97,7 @@ fn all_tombstoned() -> Outcome {
 fn no_row() -> Outcome {
     let mut bench = opened(ROOM);
     same(ended(&mut bench, &[]), (0, 0))?;
-    store(&mut bench, tag(1), 100);
+    bench.store(tag(1), 100);
     same(ended(&mut bench, &[prefix(1)]), (0, 0))
 }
 
@@ -115,7 +106,7 @@ fn copies_count() -> Outcome {
     let mut bench = opened(ROOM);
     carry(&mut bench, tag(1), 1);
     same(ended(&mut bench, &[]), (0, 0))?;
-    store(&mut bench, tag(1), 100);
+    bench.store(tag(1), 100);
     same(ended(&mut bench, &[]), (0, 0))?;
     carry(&mut bench, tag(2), 2);
     same(ended(&mut bench, &[]), (1, 1))?;
@@ -128,7 +119,7 @@ fn prefix_and_tag() -> Outcome {
     let mut bench = opened(ROOM);
     carry(&mut bench, tag_in(1, 7), 4);
     carry(&mut bench, tag_in(1, 8), 4);
-    store(&mut bench, tag_in(1, 8), 100);
+    bench.store(tag_in(1, 8), 100);
     same(ended(&mut bench, &[]), (1, 2))?;
     same(ended(&mut bench, &[prefix(2)]), (1, 2))?;
     same(ended(&mut bench, &[prefix(1)]), (0, 0))
@@ -142,7 +133,7 @@ fn own_rows() -> Outcome {
     let mine = own(&mut bench, UNVERIFIED, 2);
     same(ended(&mut bench, &[]), (1, 1))?;
     same(ended(&mut bench, &[array(&mine, 0)]), (0, 0))?;
-    store(&mut bench, mine, 100);
+    bench.store(mine, 100);
     same(ended(&mut bench, &[]), (0, 1))
 }
 
@@ -158,7 +149,7 @@ fn rows_of_one_tag() -> Outcome {
     let file = encode_file(&[FileRecord::NextSlot(9), FileRecord::Row(b'C', 4, blob)]);
     same(bench.call(Call::Load { file }), Answer::nothing())?;
     same(ended(&mut bench, &[]), (3, 3))?;
-    store(&mut bench, row.tag, 100);
+    bench.store(row.tag, 100);
     same(ended(&mut bench, &[]), (0, 3))?;
     same(ended(&mut bench, &[array(&row.tag, 0)]), (0, 0))
 }
@@ -168,7 +159,7 @@ fn expired() -> Outcome {
     let mut bench = opened(ROOM);
     carry(&mut bench, tag(1), 4);
     carry(&mut bench, tag(2), 4);
-    store(&mut bench, tag(2), 5);
+    bench.store(tag(2), 5);
     same(ended(&mut bench, &[]), (1, 2))?;
     bench.call(Call::Clock { seconds: 100 * 60 });
     same(ended(&mut bench, &[]), (1, 2))?;

@@ -8,15 +8,9 @@ fn opened(post: &Post, peer: ContactId) -> Exchange {
     exchange
 }
 
-/// What a list is answered with.
-fn taken<'a>(
-    post: &'a mut Post,
-    exchange: &mut Exchange,
-    peer: ContactId,
-    window: &Window,
-    prefixes: &[Prefix],
-) -> Replies<'a> {
-    match post.inventory(exchange, peer, window, prefixes).unwrap() {
+/// What a list is answered with, if it is taken.
+fn taken<'a>(answer: Result<Record<Replies<'a>>, Refusal>) -> Replies<'a> {
+    match answer.unwrap() {
         Record::Taken(replies) => replies,
         Record::Malformed => panic!("malformed"),
     }
@@ -31,10 +25,10 @@ fn ended<'a>(
     prefixes: &[Prefix],
 ) -> Replies<'a> {
     if !prefixes.is_empty() {
-        let gathered = taken(post, exchange, peer, window, prefixes);
+        let gathered = taken(post.inventory(exchange, peer, window, prefixes));
         assert_eq!((gathered.len(), gathered.searched()), (0, 0));
     }
-    taken(post, exchange, peer, window, &[])
+    taken(post.inventory(exchange, peer, window, &[]))
 }
 
 /// The replies to a whole inventory of a peer.
@@ -337,7 +331,8 @@ fn only_the_end_of_an_inventory_has_a_count_and_it_stays() {
     carry(&mut post, VERIFIED, envelope(2, 4));
     let mut exchange = opened(&post, UNVERIFIED);
     let mut list = |post: &mut Post, prefixes: &[Prefix]| {
-        let mut replies = taken(post, &mut exchange, UNVERIFIED, &Window::EMPTY, prefixes);
+        let mut replies =
+            taken(post.inventory(&mut exchange, UNVERIFIED, &Window::EMPTY, prefixes));
         let before = (replies.len(), replies.searched());
         replies.next();
         (before, replies.searched())
