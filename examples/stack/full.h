@@ -4,9 +4,8 @@
 
 #include "goosetable.h"
 
-/* All rows are used: a tombstone is stored, and a carried row turns, only if one goes. */
+#define R 1025
 #define TOMBSTONES 1024
-#define R TOMBSTONES
 #define WINDOW_ROWS 5000
 #define BAD_TAGS 256
 

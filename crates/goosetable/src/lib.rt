@@ -42,8 +42,8 @@ use host_answers::{
     tomb_answer, window_answer,
 };
 
-// 0.2.4 as a number: major * 10,000 + minor * 100 + patch.
-const VERSION: u32 = 204;
+// 0.2.3 as a number: major * 10,000 + minor * 100 + patch.
+const VERSION: u32 = 203;
 
 // ---- what the host sets
 

@@ -2,18 +2,30 @@
 -- Assumes nothing.
 use Rattle.std.proofs.Common.{◌≡◌, ℕ, ◌+◌, ◌*◌, ◌<◌, ◌≤◌, Bool, true, false, cond, List, [], ◌∷◌, ◌++◌, map, length, take, sym, ap, ◌∙◌, append-nil, arith, length-append}
 use mathlib.Core.List.{map-append}
+use lib.ListN.{length-map}
 use Rattle.octets.specs.Bytes.{splice, part}
 use Rattle.octets.proofs.Parts.{splice_nil, splice_then}
-use Rattle.table.specs.Lists.{filter}
+use Rattle.octets.proofs.Numbers.{length_be}
+use Rattle.table.specs.Lists.{filter, none, more}
 use Rattle.table.specs.Rows.{held, join}
 use Rattle.table.specs.Codec.{Codec, table_of, with_table}
-use Rattle.table.proofs.RowLaws.{join_append, written_splice}
+use Rattle.table.proofs.RowLaws.{Wide, length_join, join_append, written_splice}
 use Rattle.table.proofs.TableLaws.{length_table}
 use Rattle.rows.specs.declared.Action.{Action}
 use Rattle.rows.specs.Rows.{action_bytes, action_codec}
-use Rattle.model.proofs.Laws.{length_actions}
 use Rattle.maintenance.specs.Expiry.{Listed, Putting}
 use Rattle.maintenance.proofs.SiftLaws.{sift_next, sift_end}
+
+length_action : (t : Action) → length (action_bytes t) ≡ 13
+unfolding action_bytes
+length_action t = simp (length-append, length_be)
+
+wide_actions : (acts : List Action) → Wide 13 (map action_bytes acts)
+wide_actions [] = none
+wide_actions (t ∷ acts) = more (length_action t) (wide_actions acts)
+
+length_actions : (acts : List Action) → length (join (map action_bytes acts)) ≡ length acts * 13
+length_actions acts = length_join (map action_bytes acts) (wide_actions acts) ∙ ap (λ (n : ℕ). n * 13) (length-map acts action_bytes)
 
 pub listed_none : (ac : List ℕ) (k : ℕ) → Listed ac k [] k ac
 unfolding join

@@ -1,7 +1,7 @@
 -- Laws on which the corners stand: what a list has, its first row with a tag, Duplicate, Full, offers, tombstones by slot.
 -- Assumes nothing.
-use Rattle.std.proofs.Common.{◌≡◌, ℕ, suc, ◌+◌, ◌/◌, ◌^◌, ◌<◌, ◌≤◌, Bool, true, false, cond, ◌||◌, ltb, leb, ◌⊎◌, ◌↔◌, List, [], ◌∷◌, ◌++◌, map, length, get_or, take, drop, sym, refl, ap, ◌∙◌, subst, ap₂, inl, inr, ⊎_elim, append-nil, arith, take-append-drop, ltb-false, ltb-true, le-ltb, lt-ltb, leb-false}
-use mathlib.Core.Bool.{or-true, false≢true, and-false}
+use Rattle.std.proofs.Common.{◌≡◌, ℕ, suc, ◌+◌, ◌/◌, ◌^◌, ◌<◌, ◌≤◌, Bool, true, false, cond, ◌&&◌, ◌||◌, ltb, leb, ◌⊎◌, ◌↔◌, List, [], ◌∷◌, ◌++◌, map, length, get_or, take, drop, sym, refl, ap, ◌∙◌, subst, ap₂, inl, inr, ⊎_elim, append-nil, arith, take-append-drop, ltb-false, ltb-true, le-ltb, lt-ltb, leb-false}
+use mathlib.Core.Bool.{or-true, false≢true}
 use mathlib.Core.List.{map-append, flat_map, Perm, perm_middle}
 use mathlib.Core.Option.{Option, some}
 use lib.Seq.{take-append_seam, drop-append-add, get_or-append_seam}
@@ -271,14 +271,18 @@ unfolding is_offered in_question
 is_offered_lem ts listed e c t l =
     rw (lt-ltb 1 e.head.copies c, has_none (λ (r : Tombstone). r.tag) e.head.tag ts t, has_none (λ (b : List ℕ). b) (trunc8 e.head.tag) listed l)
 
+and_false : (b : Bool) → (b && false) ≡ false
+and_false true = refl
+and_false false = refl
+
 -- its prefix listed: not in question; a tombstone of the tag: not offered
 pub listed_out : (listed : List (List ℕ)) (e : Envelope) → Has (λ (b : List ℕ). b) (trunc8 e.head.tag) listed → in_question listed e ≡ false
 unfolding in_question
-listed_out listed e h = rw (has_any (λ (b : List ℕ). b) (trunc8 e.head.tag) listed h) (and-false (ltb 1 e.head.copies))
+listed_out listed e h = rw (has_any (λ (b : List ℕ). b) (trunc8 e.head.tag) listed h) (and_false (ltb 1 e.head.copies))
 
 pub tombstoned_out : (ts : List Tombstone) (listed : List (List ℕ)) (e : Envelope) → TombstonesHave ts e.head.tag → is_offered ts listed e ≡ false
 unfolding is_offered
-tombstoned_out ts listed e h = rw (has_any (λ (r : Tombstone). r.tag) e.head.tag ts h) (and-false (in_question listed e))
+tombstoned_out ts listed e h = rw (has_any (λ (r : Tombstone). r.tag) e.head.tag ts h) (and_false (in_question listed e))
 
 -- The answer to the terminator offers n copies of an envelope, after which the envelopes y stand: a reply, whose last byte they are, and
 -- the exchange's row of the tag, which the last envelope of that tag gives.

@@ -1,13 +1,15 @@
 -- Laws of the rows that are written: a carried row turned tombstone, an own row ended, a bad tag added.
 -- Assumes nothing.
-use Rattle.std.proofs.Common.{◌≡◌, ℕ, ◌+◌, ◌*◌, ◌/◌, ◌<◌, ◌≤◌, Bool, true, false, cond, leb, List, [], ◌∷◌, ◌++◌, map, length, get_or, sym, refl, ap, ◌∙◌, subst, arith, length-append, leb-false}
+use Rattle.std.proofs.Common.{◌≡◌, ℕ, ◌+◌, ◌*◌, ◌<◌, ◌≤◌, Bool, true, false, cond, List, [], ◌∷◌, ◌++◌, map, length, get_or, sym, refl, ap, ◌∙◌, subst, arith}
+use lib.ListN.{length-map}
 use Rattle.octets.specs.Bytes.{part, splice}
 use Rattle.octets.proofs.Parts.{splice_then}
-use Rattle.table.specs.Lists.{All, position, unwrap_or, insert_at, remove_at}
+use Rattle.table.specs.Lists.{position, unwrap_or, insert_at, remove_at}
 use Rattle.table.specs.Rows.{held, rows, join, written, RowsNow}
 use Rattle.table.specs.Codec.{table_of, with_table, TableNow}
-use Rattle.table.proofs.ListLaws.{all_insert_at}
-use Rattle.table.proofs.TableLaws.{length_table, get_d_table, table_insert}
+use Rattle.table.proofs.ListLaws.{all_each, all_map}
+use Rattle.table.proofs.RowLaws.{length_join}
+use Rattle.table.proofs.TableLaws.{length_table, get_d_table, with_one, table_insert}
 use Rattle.rows.specs.declared.Device.{Device}
 use Rattle.rows.specs.declared.Own.{Own}
 use Rattle.rows.specs.declared.Carried.{Carried}
@@ -19,15 +21,13 @@ use Rattle.rows.proofs.Laws.{tombstone_laws}
 use Rattle.model.specs.State.{Change, nothing, own_now, carried_now, tombstones_now, next_slot_now, ◌and◌}
 use Rattle.model.specs.Calls.{Answer, Result, result, done, put_courier, put_queued}
 use Rattle.model.specs.Exchange.{no_carried, no_own}
-use Rattle.model.specs.Tombs.{tombstoned, remaining, evicted, insert_by_slot, turned, turn, end_own, store_tombstone, store_actions}
+use Rattle.model.specs.Tombs.{tombstoned, remaining, insert_by_slot, turned, turn, end_own, store_tombstone, store_actions}
 use Rattle.model.specs.Areas.{Areas, Written, view, store, store_device, store_session, bytes_after, answer_areas}
 use Rattle.model.proofs.CallLaws.{answering_call}
-use Rattle.model.proofs.RoomLaws.{length_by_slot}
 use Rattle.model.specs.Lent.{actions_lent}
-use Rattle.model.proofs.Laws.{length_action, length_actions}
 use Rattle.tombstones.specs.declared.Storing.{Storing}
-use Rattle.tombstones.specs.Tombstones.{Reads, how_to_store, RoomMade, Added, Stores, StoredAs}
-use Rattle.tombstones.proofs.WriteLaws.{action_behind, room_then}
+use Rattle.tombstones.specs.Tombstones.{Reads, how_to_store, Stores, StoredAs}
+use Rattle.tombstones.proofs.StoreLaws.{length_action}
 use Rattle.tombstones.proofs.CallLaws.{with_actions}
 use Rattle.tombs.specs.declared.Said.TheVariants as said
 use Rattle.tombs.specs.Tombs.{higher, device_with, says, held_lent, own_lent}
@@ -35,26 +35,13 @@ use Rattle.tombs.specs.Tombs.{higher, device_with, says, held_lent, own_lent}
 -- a tombstone among others by its slot
 pub by_slot_lem : (count n : ℕ) (a x : List ℕ) (m i : ℕ) (b : List ℕ) (t : Tombstone) → n ≡ held (length a) 44 count → ProperTombstone t → b ≡ tombstone_bytes t
     → i ≡ unwrap_or (held (length a) 44 count) (position (higher t.slot) (table_of tombstone_codec count a)) → RowsNow 44 a (insert_at i b (rows 44 n a)) m x
-    → Added (insert_by_slot t) t count a m x
+    → TableNow tombstone_codec a (insert_by_slot t (table_of tombstone_codec count a)) m x
 unfolding insert_by_slot
 by_slot_lem count n a x m i b t en p eb ei N =
     let T : List Tombstone = table_of tombstone_codec count a in
     let e : i ≡ unwrap_or (length T) (position (higher t.slot) T) =
     ei ∙ ap (λ (k : ℕ). unwrap_or k (position (higher t.slot) T)) (sym (length_table tombstone_codec count a)) in
-    record {
-      table = subst (λ (k : ℕ). TableNow tombstone_codec a (insert_at k t T) m x) e (table_insert tombstone_laws count n a x m en b i t p eb N);
-      bytes = N.bytes;
-      proper = p;
-    }
-
-by_slot_proper : (t : Tombstone) (ts : List Tombstone) → All ProperTombstone ts → ProperTombstone t → All ProperTombstone (insert_by_slot t ts)
-unfolding insert_by_slot
-by_slot_proper t ts q p = all_insert_at _ t ts q p
-
--- a row is free once room is made, if not all are used then
-pub row_free : {count at k acts : ℕ} {to ac x y : List ℕ} → leb (length to / 44) (length (remaining (table_of tombstone_codec count to))) ≡ false
-    → RoomMade count at to ac k acts x y → k * 44 + 44 ≤ length to
-row_free {to = to} e R = omega (arith, leb-false (length to / 44) _ e, R.table.count)
+    subst (λ (k : ℕ). TableNow tombstone_codec a (insert_at k t T) m x) e (table_insert tombstone_laws count n a x m en b i t p eb N)
 
 -- a result that lists actions alone
 pub acted : (v : Answer) (acts : List Action) (c : Change) (ac y : List ℕ) → y ≡ with_table action_codec ac acts
@@ -74,26 +61,23 @@ module _ (d : Device) (i : ℕ) (tag secret carried to ac : List ℕ) (a : Areas
   abbrev B : Areas
   B = held_lent d carried to a
 
-  abbrev turned_to : Carried → Result
-  turned_to r = result done [] (evicted Tt ++ (put_courier r.slot ∷ []))
-      (carried_now (remove_at i Tc) and tombstones_now (insert_by_slot (turned r tag secret) (remaining Tt)))
+  abbrev changed : Tombstone → Change
+  changed t = carried_now (remove_at i Tc) and tombstones_now (insert_by_slot t Tt)
 
-  pub turns : 26 ≤ length ac → {row : Carried} {t : Tombstone} {r : Device} {k m n acts : ℕ} {x y z v w : List ℕ} → row ≡ carried_of (part carried (i * 57) 57)
-      → t ≡ turned row tag secret → RoomMade d.tombstones 0 to ac k acts x v → Added (insert_by_slot t) t k x m z → TableNow carried_codec carried (remove_at i Tc) n y
-      → w ≡ splice v (13 * acts) (action_bytes (put_courier row.slot)) → r ≡ device_with d.own n m d.bad_tags d
-      → Written says (turn (view B) i tag secret) (said.Done (acts + 1)) B (held_lent r y z a) (actions_lent ac) (actions_lent w)
+  abbrev listed : Carried → List Action
+  listed r = put_courier r.slot ∷ []
+
+  pub turns : {row : Carried} {t : Tombstone} {r : Device} {n m : ℕ} {x y z : List ℕ} → row ≡ carried_of (part carried (i * 57) 57) → t ≡ turned row tag secret
+      → TableNow tombstone_codec to (insert_by_slot t Tt) m x → TableNow carried_codec carried (remove_at i Tc) n y
+      → z ≡ splice ac 0 (action_bytes (put_courier row.slot)) → r ≡ device_with d.own n m d.bad_tags d
+      → Written says (turn (view B) i tag secret) (said.Done 1) B (held_lent r y x a) (actions_lent ac) (actions_lent z)
   unfolding view turn store store_device store_session
-  turns long {row} {t} {m = m} {acts = acts} {z = z} {v} er et R N M ew q =
+  turns {row} {t} er et N M ez q =
       let k : get_or Tc i no_carried ≡ row = get_d_table carried_codec d.carried carried i no_carried inside ∙ sym er in
-      let G = room_then (insert_by_slot t) t (by_slot_proper t) (length_by_slot t) R N in
-      let put : Action = put_courier row.slot in
-      let from : 13 * acts ≡ 0 + 13 * acts = omega arith in
-      let S = subst (λ (u : Tombstone). TableNow tombstone_codec to (insert_by_slot u (remaining Tt)) m z) et G in
-      answering_call (turned_to row) (ap turned_to k)
-      (ap said.Done (omega (arith, R.number, length-append (evicted Tt) (put ∷ []))))
-      (λ j. held_lent ((q ∙ (λ l. device_with d.own (M.count l) (S.count l) d.bad_tags d)) j) (M.area j) (S.area j) a)
-      (acted done (evicted Tt ++ (put ∷ [])) _ ac _
-      (action_behind (evicted Tt) put ac _ _ 0 acts R.listed R.number (ew ∙ ap (λ (at : ℕ). splice v at (action_bytes put)) from) (omega (arith, R.few, long)) ∙ with_actions ac (evicted Tt ++ (put ∷ []))))
+      answering_call (result done [] (listed row) (changed t))
+      ((λ j. result done [] (listed (k j)) (changed (turned (k j) tag secret))) ∙ ap (λ (u : Tombstone). result done [] (listed row) (changed u)) (sym et)) refl
+      (λ j. held_lent ((q ∙ (λ l. device_with d.own (M.count l) (N.count l) d.bad_tags d)) j) (M.area j) (N.area j) a)
+      (acted done (listed row) (changed t) ac _ (with_one action_codec ac _ _ (put_courier row.slot) refl ez))
 
 -- ---- an own row ended
 
@@ -142,8 +126,10 @@ module _ (d : Device) (i : ℕ) (how : Storing) (tag secret own to ac : List ℕ
   unfolding join
   behind {z = z} {w} p ez S few =
       let acts : List Action = store_actions (view O) tag in
+      let l : length (join (map action_bytes acts)) ≡ length acts * 13 =
+      length_join (map action_bytes acts) (all_map action_bytes acts (all_each length_action acts)) ∙ ap (λ (k : ℕ). k * 13) (length-map acts action_bytes) in
       splice_then ac z w 0 13 (action_bytes p) (join (map action_bytes acts)) ez S.actions (omega (arith, length_action p))
-      (omega (arith, length_actions acts, S.count, few)) ∙ with_actions ac (p ∷ acts)
+      (omega (arith, l, S.count, few)) ∙ with_actions ac (p ∷ acts)
 
   pub row_ends : how ≡ how_to_store (view O) tag → {row : Own} {r q : Device} {k n : ℕ} {x y z w : List ℕ} → row ≡ own_of (part own (i * 54) 54)
       → z ≡ splice ac 0 (action_bytes (put_queued row.contact row.msgno)) → TableNow own_codec own (remove_at i To) n y

@@ -10,7 +10,7 @@ ghost use Rattle.model.specs.Calls.{tomb};
 ghost use Rattle.model.specs.Custody.{own_of_tag};
 ghost use Rattle.model.specs.Tombs.{carried_at, own_at, insert_by_slot, turned as turnedOf};
 ghost use Rattle.model.specs.Lent.{Does, actions_lent};
-ghost use Rattle.tombstones.specs.Tombstones.{RoomToStore, Added};
+ghost use Rattle.tombstones.specs.Tombstones.{Room};
 ghost use Rattle.tombs.specs.Tombs.{Meets, higher, device_with, Ends, EndsBy, says, held_lent, own_lent, tomb_lent};
 
 use answers::put_courier;
@@ -18,9 +18,7 @@ use contacts::known;
 use core::{ContactId, Refusal};
 use rows::{Carried, Device, Tombstone};
 use table::Found;
-use tombstones::{
-    Choice, Storing, all_rows_used, make_room, short_actions, store_choice, store_tombstone,
-};
+use tombstones::{Choice, Storing, short_actions, store_choice, store_tombstone};
 
 // What the calls answer: a refusal, malformed, or how many actions are listed.
 #[derive(Drop)]
@@ -136,7 +134,7 @@ fn place_by_slot(tombstones: &[u8], count: usize, slot: u64) -> usize
 // Puts a tombstone among the others by its slot; answers how many there are.
 fn insert_by_slot(tombstones: &mut [u8], count: usize, row: Tombstone) -> usize
     requires { held (length tombstones.old) tombstone_width count * tombstone_width + tombstone_width ≤ length tombstones.old }
-    ensures { Added (insert_by_slot row) row count tombstones.old result tombstones.new }
+    ensures { TableNow tombstone_codec tombstones.old (insert_by_slot row (table_of tombstone_codec count tombstones.old)) result tombstones.new }
 {
     let n = table::fit(tombstones.len(), rows::TOMBSTONE_WIDTH, count);
     let i = place_by_slot(tombstones, count, row.slot);
@@ -181,7 +179,7 @@ pub fn device_with(
 
 // ---- tomb
 
-// Turns the carried row at i into a tombstone: room is made among those stored before, and the row keeps its slot.
+// Turns the carried row at i into a tombstone; that passes no limit of 1,024, but needs one of the R rows.
 fn turn(
     device: Device,
     i: usize,
@@ -191,24 +189,24 @@ fn turn(
     tombstones: &mut [u8],
     actions: &mut [u8],
 ) -> Outcome
-    requires { (i < held (length carried.old) carried_width device.carried) × (26 ≤ length actions.old) }
+    requires { (i < held (length carried.old) carried_width device.carried) × (13 ≤ length actions.old) }
     ensures { Ends tag s (carried_at i) result.said (held_lent device carried.old tombstones.old)
         (held_lent result.device carried.new tombstones.new) (actions_lent actions.old) (actions_lent actions.new) }
 {
-    if all_rows_used(tombstones, device.tombstones) {
+    let count = table::fit(tombstones.len(), rows::TOMBSTONE_WIDTH, device.tombstones);
+    if tombstones.len() / rows::TOMBSTONE_WIDTH <= count {
         return Outcome {
             device,
             said: Said::Refused(Refusal::NoTombstoneRow),
         };
     }
     let row = rows::carried_at(carried, i * rows::CARRIED_WIDTH);
-    let room = make_room(tombstones, device.tombstones, actions, 0);
-    let m = insert_by_slot(tombstones, room.rows, turned(row, tag, s));
+    let m = insert_by_slot(tombstones, device.tombstones, turned(row, tag, s));
     let n = remove_carried(carried, device.carried, i);
-    put_courier(actions, 13 * room.actions, row.slot);
+    put_courier(actions, 0, row.slot);
     Outcome {
         device: device_with(device, device.own, n, m, device.bad_tags),
-        said: Said::Done(room.actions + 1),
+        said: Said::Done(1),
     }
 }
 
@@ -223,7 +221,7 @@ fn end_row(
     tombstones: &mut [u8],
     actions: &mut [u8],
 ) -> Outcome
-    requires { (i < held (length own.old) own_width device.own) × (RoomToStore how device tombstones.old × (39 ≤ length actions.old)) }
+    requires { (i < held (length own.old) own_width device.own) × (Room how device tombstones.old × (39 ≤ length actions.old)) }
     ensures { EndsBy how i tag s result.said (own_lent device own.old tombstones.old)
         (own_lent result.device own.new tombstones.new) (actions_lent actions.old) (actions_lent actions.new) }
 {

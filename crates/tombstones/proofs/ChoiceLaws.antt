@@ -1,23 +1,26 @@
 -- Laws of the choice: each test that the code makes is a test of the model.
 -- Assumes nothing.
-use Rattle.std.proofs.Common.{◌≡◌, ℕ, ◌+◌, ◌*◌, ◌/◌, ◌<◌, ◌≤◌, Bool, true, false, cond, not, ◌&&◌, eqb, ltb, leb, List, [], ◌∷◌, length, sym, refl, ap, ◌∙◌, arith, ltb-false, ltb-true, eq-eqb, ne_eqb}
+use Rattle.std.proofs.Common.{◌≡◌, ℕ, ◌+◌, ◌-◌, ◌*◌, ◌/◌, ◌<◌, ◌≤◌, Bool, true, false, cond, not, ◌&&◌, eqb, ltb, leb, List, [], ◌∷◌, length, sym, refl, ap, ◌∙◌, arith, ltb-false, ltb-true, eq-eqb, ne_eqb, le-leb}
 use borrow.Author.Tests.{lt-leb}
 use Rattle.std.specs.declared.Refusal.TheVariants as refusal
 use Rattle.std.specs.Core.{first_of}
+use Rattle.table.specs.Lists.{remove_at}
 use Rattle.table.specs.Rows.{held}
 use Rattle.table.specs.Codec.{table_of}
+use Rattle.table.proofs.ListLaws.{length_remove_at}
 use Rattle.table.proofs.RowLaws.{held_le}
 use Rattle.table.proofs.TableLaws.{length_table}
 use Rattle.rows.specs.declared.Device.{Device}
 use Rattle.rows.specs.declared.Tombstone.{Tombstone}
 use Rattle.rows.specs.Rows.{tombstone_codec}
-use Rattle.model.specs.Tombs.{tombstoned, remaining, no_row_to_store, no_slot_to_store}
-use Rattle.model.proofs.RoomLaws.{all_left, one_left}
+use Rattle.model.specs.State.{State}
+use Rattle.model.specs.Custody.{last_slot}
+use Rattle.model.specs.Tombs.{tombstoned, least_expiry, remaining, no_row_to_store, no_slot_to_store}
 use Rattle.tombstones.specs.declared.Storing.{Storing}
 use Rattle.tombstones.specs.declared.Storing.TheVariants as way
 use Rattle.tombstones.specs.declared.Choice.{Choice}
 use Rattle.tombstones.specs.declared.Choice.TheVariants as choice
-use Rattle.tombstones.specs.Tombstones.{ChoiceOf, how_to_store, store_tests, store_choice, Space, RoomFor, RoomToStore}
+use Rattle.tombstones.specs.Tombstones.{Least, Reads, ChoiceOf, how_to_store, store_tests, store_choice, RoomFor, Room, space_for, spare_at}
 
 pub below : (x : ℕ) → x < 18446744073709551616 → (x ≡ 18446744073709551615 → ⊥) → x < 18446744073709551615
 below x h n = go (ltb x 18446744073709551615) refl
@@ -30,63 +33,104 @@ below x h n = go (ltb x 18446744073709551615) refl
 pub rows_listed : (len to : ℕ) {b : Bool} → b ≡ ltb len (13 * (512 + to / 44)) → b ≡ false → 6656 ≤ len
 rows_listed len to e f = omega (arith, ltb-false len (13 * (512 + to / 44)) (sym e ∙ f))
 
--- ---- number 5, as the code tests it
-
--- below the limit all stay, and from it on one goes
-pub used_few : (count n : ℕ) (area : List ℕ) → n ≡ held (length area) 44 count → n < 1024
-    → leb (length area / 44) n ≡ leb (length area / 44) (length (remaining (table_of tombstone_codec count area)))
-used_few count n area en h =
-    let l : length (table_of tombstone_codec count area) ≡ n = length_table tombstone_codec count area ∙ sym en in
-    ap (leb (length area / 44)) (sym l ∙ sym (ap (λ (ts : List Tombstone). length ts) (all_left (table_of tombstone_codec count area) (omega (arith, l)))))
-
-pub free_many : (count n : ℕ) (area : List ℕ) → n ≡ held (length area) 44 count → 1024 ≤ n
-    → false ≡ leb (length area / 44) (length (remaining (table_of tombstone_codec count area)))
-free_many count n area en h =
-    let l : length (table_of tombstone_codec count area) ≡ n = length_table tombstone_codec count area ∙ sym en in
-    sym (lt-leb (length area / 44) _ (omega (arith, one_left (table_of tombstone_codec count area) (omega (arith, l)), l, en, (held_le (length area) 44 count).1)))
-
--- ---- the choice by what each test says
-
-abbrev pub told : (known full last : Bool) → Choice
-told known full last =
+-- the choice by what each test says
+abbrev pub told : (known full last many : Bool) → ℕ → Choice
+told known full last many i =
     first_of ((not known && full, refusal.NoTombstoneRow) ∷ (not known && last, refusal.NoSlot) ∷ []) choice.Refused
-    (choice.Store (cond known way.Nothing way.New))
+    (choice.Store (cond known way.Nothing (cond many (way.Evict i) way.Append)))
+
+tell : (s : State) (tag : List ℕ) (known full last many : Bool) → tombstoned s.tombstones tag ≡ known
+    → leb s.tombstone_rows (length (remaining s.tombstones)) ≡ full → last_slot s ≡ last → leb 1024 (length s.tombstones) ≡ many
+    → told known full last many (least_expiry s.tombstones) ≡ store_choice s tag
+unfolding store_choice store_tests how_to_store no_row_to_store no_slot_to_store
+tell s tag known full last many ek ef el em =
+    λ j. told (sym ek j) (sym ef j) (sym el j) (sym em j) (least_expiry s.tombstones)
+
+-- how many are left once there is room for one more
+left_few : (ts : List Tombstone) → length ts < 1024 → length (remaining ts) ≡ length ts
+unfolding remaining
+left_few ts h = ap (λ (b : Bool). length (cond b (remove_at (least_expiry ts) ts) ts)) (lt-leb 1024 (length ts) h)
+
+left_many : (ts : List Tombstone) (i : ℕ) → Least ts i → 1024 ≤ length ts → length (remaining ts) ≡ length ts - 1
+unfolding remaining
+left_many ts i l h =
+    ap (λ (b : Bool). length (cond b (remove_at (least_expiry ts) ts) ts)) (le-leb 1024 (length ts) h)
+    ∙ length_remove_at ts (least_expiry ts) (omega (arith, l.is, l.inside))
 
 module _ (d : Device) (area tag : List ℕ) where
+  abbrev R : ℕ
+  R = length area / 44
+
   abbrev T : List Tombstone
   T = table_of tombstone_codec d.tombstones area
 
-  abbrev used : Bool
-  used = leb (length area / 44) (length (remaining T))
+  is_last : (s : State) → Reads s d area → (b : Bool) → eqb d.next_slot 18446744073709551615 ≡ b → last_slot s ≡ b
+  is_last s r b e = ap (λ (k : ℕ). eqb k 18446744073709551615) r.next_slot ∙ e
 
-  abbrev at_last : Bool
-  at_last = eqb d.next_slot 18446744073709551615
-
-  tell : {known full last : Bool} → tombstoned T tag ≡ known → used ≡ full → at_last ≡ last → {ch : Choice} → ch ≡ told known full last → ChoiceOf d area tag ch
-  unfolding store_choice store_tests how_to_store no_row_to_store no_slot_to_store
-  tell ek ef el e s r =
-      e ∙ (λ j. told (sym ek j) (sym ef j) (sym el j))
-      ∙ (λ j. told (tombstoned (sym r.tombstones j) tag) (leb (sym r.rows j) (length (remaining (sym r.tombstones j)))) (eqb (sym r.next_slot j) 18446744073709551615))
+  is_known_lem : (s : State) → Reads s d area → (b : Bool) → tombstoned T tag ≡ b → tombstoned s.tombstones tag ≡ b
+  is_known_lem s r b e = ap (λ (ts : List Tombstone). tombstoned ts tag) r.tombstones ∙ e
 
   pub choose_known : tombstoned T tag ≡ true → ChoiceOf d area tag (choice.Store way.Nothing)
-  choose_known k = tell k refl refl refl
+  choose_known k s r = tell s tag true _ _ _ (is_known_lem s r true k) refl refl refl
 
-  module _ (k : tombstoned T tag ≡ false) where
-    pub choose_full : used ≡ true → ChoiceOf d area tag (choice.Refused refusal.NoTombstoneRow)
-    choose_full f = tell k f refl refl
+  module _ (k : tombstoned T tag ≡ false) (n : ℕ) (en : n ≡ held (length area) 44 d.tombstones) where
+    size : (s : State) → Reads s d area → length s.tombstones ≡ n
+    size s r = ap length r.tombstones ∙ length_table tombstone_codec d.tombstones area ∙ sym en
 
-    pub choose_last : used ≡ false → d.next_slot ≡ 18446744073709551615 → ChoiceOf d area tag (choice.Refused refusal.NoSlot)
-    choose_last f l = tell k f (eq-eqb d.next_slot 18446744073709551615 l) refl
+    -- below 1,024: the rows are full or not, and the slot is the last or not
+    few : n < 1024 → (full last : Bool) → leb R n ≡ full → eqb d.next_slot 18446744073709551615 ≡ last
+        → (i : ℕ) (s : State) → Reads s d area → told false full last false i ≡ store_choice s tag
+    few m full last ef el i s r =
+        (go full last) ∙ tell s tag false full last false (is_known_lem s r false k)
+        ((λ j. leb (r.rows j) ((left_few s.tombstones (omega (arith, size s r)) ∙ size s r) j)) ∙ ef) (is_last s r last el)
+        (lt-leb 1024 (length s.tombstones) (omega (arith, size s r)))
+      where
+        go : (full last : Bool) → told false full last false i ≡ told false full last false (least_expiry s.tombstones)
+        go true last = refl
+        go false true = refl
+        go false false = refl
 
-    pub choose_new : used ≡ false → (d.next_slot ≡ 18446744073709551615 → ⊥) → ChoiceOf d area tag (choice.Store way.New)
-    choose_new f l = tell k f (ne_eqb d.next_slot 18446744073709551615 l) refl
+    pub choose_full : n < 1024 → R ≤ n → ChoiceOf d area tag (choice.Refused refusal.NoTombstoneRow)
+    choose_full m f = few m true _ (le-leb R n f) refl 0
+
+    pub choose_last : n < 1024 → n < R → d.next_slot ≡ 18446744073709551615 → ChoiceOf d area tag (choice.Refused refusal.NoSlot)
+    choose_last m f l = few m false true (lt-leb R n f) (eq-eqb d.next_slot 18446744073709551615 l) 0
+
+    pub choose_append : n < 1024 → n < R → (d.next_slot ≡ 18446744073709551615 → ⊥) → ChoiceOf d area tag (choice.Store way.Append)
+    choose_append m f l = few m false false (lt-leb R n f) (ne_eqb d.next_slot 18446744073709551615 l) 0
+
+    -- at 1,024 or more one goes, so that the rows are not full
+    many : 1024 ≤ n → (i : ℕ) → Least T i → (last : Bool) → eqb d.next_slot 18446744073709551615 ≡ last
+        → (s : State) → Reads s d area → told false false last true i ≡ store_choice s tag
+    many m i l last el s r =
+        let e : least_expiry s.tombstones ≡ i = ap least_expiry r.tombstones ∙ sym l.is in
+        let z : length (remaining s.tombstones) ≡ n - 1 =
+        ap (λ (ts : List Tombstone). length (remaining ts)) r.tombstones
+        ∙ left_many T i l (omega (arith, length_table tombstone_codec d.tombstones area, en))
+        ∙ omega (arith, length_table tombstone_codec d.tombstones area, en) in
+        ap (told false false last true) (sym e)
+        ∙ tell s tag false false last true (is_known_lem s r false k)
+        ((λ j. leb (r.rows j) (z j)) ∙ lt-leb R (n - 1) (omega (arith, en, held_le (length area) 44 d.tombstones))) (is_last s r last el)
+        (le-leb 1024 (length s.tombstones) (omega (arith, size s r)))
+
+    pub choose_last_many : 1024 ≤ n → (i : ℕ) → Least T i → d.next_slot ≡ 18446744073709551615 → ChoiceOf d area tag (choice.Refused refusal.NoSlot)
+    choose_last_many m i l e = many m i l true (eq-eqb d.next_slot 18446744073709551615 e)
+
+    pub choose_evict : 1024 ≤ n → (i : ℕ) → Least T i → (d.next_slot ≡ 18446744073709551615 → ⊥) → ChoiceOf d area tag (choice.Store (way.Evict i))
+    choose_evict m i l e = many m i l false (ne_eqb d.next_slot 18446744073709551615 e)
 
 -- ---- what the choice tells the writes
 
-pub room_store : (ch : Choice) (d : Device) (area : List ℕ) (h : Storing) → ch ≡ choice.Store h → RoomFor ch d area → RoomToStore h d area
-unfolding RoomFor
-room_store ch d area h e r = rw e at r
+module _ (ch : Choice) (d : Device) (area : List ℕ) where
+  pub room_store : (h : Storing) → ch ≡ choice.Store h → RoomFor ch d area → Room h d area
+  unfolding RoomFor
+  room_store h e r = rw e at r
 
-pub room_new : (h : Storing) (d : Device) (area : List ℕ) → h ≡ way.New → RoomToStore h d area → Space d area
-unfolding RoomToStore
-room_new h d area e r = rw e at r
+module _ (h : Storing) (d : Device) (area : List ℕ) where
+  pub room_append : h ≡ way.Append → Room h d area → space_for d area
+  unfolding Room
+  room_append e r = rw e at r
+
+  pub room_evict : (i : ℕ) → h ≡ way.Evict i → Room h d area → spare_at i d area
+  unfolding Room
+  room_evict i e r = rw e at r

@@ -1,19 +1,19 @@
 -- What the functions say of the tombstones, by the model's definitions.
 -- Assumes nothing.
-use Rattle.std.specs.Prelude.{◌≡◌, ℕ, ◌+◌, ◌-◌, ◌/◌, ◌<◌, ◌≤◌, Bool, cond, List, [], ◌∷◌, ◌++◌, map, length}
+use Rattle.std.specs.Prelude.{◌≡◌, ℕ, ◌+◌, ◌-◌, ◌*◌, ◌/◌, ◌<◌, ◌≤◌, Bool, cond, List, [], ◌∷◌, ◌++◌, map, length, nat_le}
 use Rattle.std.specs.Core.{first_of}
 use Rattle.std.specs.declared.Refusal.{Refusal}
 use Rattle.std.specs.declared.Refusal.TheVariants as refusal
 use Rattle.octets.specs.Bytes.{Bytes, splice}
-use Rattle.table.specs.Rows.{join}
-use Rattle.table.specs.Codec.{table_of, TableNow}
+use Rattle.table.specs.Rows.{held, join}
+use Rattle.table.specs.Codec.{table_of, with_table, TableNow}
 use Rattle.rows.specs.declared.Device.{Device}
 use Rattle.rows.specs.declared.Tombstone.{Tombstone}
 use Rattle.rows.specs.Rows.{tombstone_width, tombstone_codec, action_bytes}
 use Rattle.rows.specs.Proper.{ProperTombstone}
 use Rattle.model.specs.State.{State}
 use Rattle.model.specs.Calls.{Result}
-use Rattle.model.specs.Tombs.{tombstoned, least_expiry, remaining, evicted, no_row_to_store, no_slot_to_store, store_tombstone, store_actions}
+use Rattle.model.specs.Tombs.{tombstoned, least_expiry, max_tombstones, no_row_to_store, no_slot_to_store, store_tombstone, store_actions}
 use Rattle.model.specs.Areas.{Areas, store_device, bytes_after}
 use Rattle.model.specs.Lent.{refused_or, device_in, tombstones_in}
 use Rattle.tombstones.specs.declared.Storing.{Storing}
@@ -31,7 +31,9 @@ pub record Least (ts : List Tombstone) (r : ℕ) : Type 0 where
 -- ---- what `store_tombstone` does, and its refusals
 
 unfoldable pub how_to_store : State → List ℕ → Storing
-how_to_store s tag = cond (tombstoned s.tombstones tag) way.Nothing way.New
+how_to_store s tag =
+    cond (tombstoned s.tombstones tag) way.Nothing
+    (cond (nat_le max_tombstones (length s.tombstones)) (way.Evict (least_expiry s.tombstones)) way.Append)
 
 unfoldable pub store_tests : State → List ℕ → List (Bool × Refusal)
 store_tests s tag = (no_row_to_store s tag, refusal.NoTombstoneRow) ∷ (no_slot_to_store s tag, refusal.NoSlot) ∷ []
@@ -48,43 +50,46 @@ pub record Reads (s : State) (d : Device) (area : List ℕ) : Type 0 where
 abbrev pub ChoiceOf : Device → List ℕ → List ℕ → Choice → Type 0
 ChoiceOf d area tag r = (s : State) → Reads s d area → r ≡ store_choice s tag
 
--- ---- room for one tombstone, stored or turned
+-- ---- what the writes rely on: there is a slot, and a row to write
 
--- the tombstones to are now x, so that so many rows are left; and of the actions ac, now y, so many are listed from at on
-pub record RoomMade (count at : ℕ) (to ac : List ℕ) (rows actions : ℕ) (x y : List ℕ) : Type 0 where
-  pub table : TableNow tombstone_codec to (remaining (table_of tombstone_codec count to)) rows x
-  pub listed : y ≡ splice ac at (join (map action_bytes (evicted (table_of tombstone_codec count to))))
-  pub number : actions ≡ length (evicted (table_of tombstone_codec count to))
-  pub few : actions ≤ 1
+pub record Space (n len next : ℕ) : Type 0 where
+  pub rows : n * 44 + 44 ≤ len
+  pub slot : next < 18446744073709551615
 
--- ---- what the writes rely on: there is a slot, and a row to write once room is made
+pub record Spare (i n len next : ℕ) : Type 0 where
+  pub row : i < n
+  pub rows : n * 44 ≤ len
+  pub slot : next < 18446744073709551615
 
-abbrev pub HasSlot : Device → Type 0
-HasSlot d = d.next_slot < 18446744073709551615
+abbrev pub held_tombstones : Device → List ℕ → ℕ
+held_tombstones d area = held (length area) 44 d.tombstones
 
-pub record Space (d : Device) (area : List ℕ) : Type 0 where
-  pub rows : length (remaining (table_of tombstone_codec d.tombstones area)) < length area / 44
-  pub slot : HasSlot d
+abbrev pub space_for : Device → List ℕ → Type 0
+space_for d area = Space (held_tombstones d area) (length area) d.next_slot
 
-unfoldable pub RoomToStore : Storing → Device → List ℕ → Type 0
-RoomToStore way.Nothing d area = Unit {0}
-RoomToStore way.New d area = Space d area
+abbrev pub spare_at : ℕ → Device → List ℕ → Type 0
+spare_at i d area = Spare i (held_tombstones d area) (length area) d.next_slot
+
+unfoldable pub Room : Storing → Device → List ℕ → Type 0
+Room way.Nothing d area = Unit {0}
+Room way.Append d area = space_for d area
+Room (way.Evict i) d area = spare_at i d area
 
 unfoldable pub RoomFor : Choice → Device → List ℕ → Type 0
 RoomFor (choice.Refused why) d area = Unit {0}
-RoomFor (choice.Store how) d area = RoomToStore how d area
+RoomFor (choice.Store how) d area = Room how d area
 
 -- ---- what the writes leave
 
--- the tombstone t among those that were there, as f puts it
-pub record Added (f : List Tombstone → List Tombstone) (t : Tombstone) (count : ℕ) (a : List ℕ) (r : ℕ) (x : List ℕ) : Type 0 where
-  pub table : TableNow tombstone_codec a (f (table_of tombstone_codec count a)) r x
+-- a tombstone behind the n that were there
+pub record Pushed (n : ℕ) (a : List ℕ) (t : Tombstone) (r : ℕ) (x : List ℕ) : Type 0 where
+  pub more : r ≡ n + 1
+  pub table : TableNow tombstone_codec a (table_of tombstone_codec n a ++ (t ∷ [])) r x
   pub bytes : Bytes a
   pub proper : ProperTombstone t
 
--- behind the others
-abbrev pub pushed : Tombstone → List Tombstone → List Tombstone
-pushed t ts = ts ++ (t ∷ [])
+abbrev pub HasSlot : Device → Type 0
+HasSlot d = d.next_slot < 18446744073709551615
 
 -- one tombstone more was stored: so many are held now, and the next slot is taken
 unfoldable pub device_after : Device → ℕ → Device
@@ -102,6 +107,11 @@ device_after d n = record {
 -- the tombstone that is stored, at the next slot
 abbrev pub new_tombstone : Device → List ℕ → List ℕ → ℕ → Tombstone
 new_tombstone d tag secret expiry = record { slot = d.next_slot; tag = tag; s = secret; expiry_min = expiry }
+
+-- the tombstones are now ts
+pub record Grown (d r : Device) (a x : List ℕ) (ts : List Tombstone) : Type 0 where
+  pub area : x ≡ with_table tombstone_codec a ts
+  pub device : r ≡ device_after d (length ts)
 
 -- a tombstone was stored from the state s: the device d is now r, the tombstones to are now x, and of the actions ac, now y, n are listed from at on
 pub record StoredAs (s : State) (d : Device) (tag secret : List ℕ) (expiry at : ℕ) (to ac : List ℕ) (r : Device) (n : ℕ) (x y : List ℕ) : Type 0 where

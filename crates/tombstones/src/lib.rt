@@ -1,38 +1,30 @@
-// Tombstones: room for one, which a turned row needs too; `store_tombstone`, which the tomb and report calls use too; and the call "stored tombstone".
-ghost use Rattle.std.specs.Prelude.{◌≡◌, ◌+◌, ◌*◌, ◌/◌, ◌<◌, ◌≤◌, length, nat_le, nat_lt, slice_index_or};
+// Tombstones: `store_tombstone`, which the tomb and report calls use too, and the call "stored tombstone".
+ghost use Rattle.std.specs.Prelude.{◌≡◌, ◌+◌, ◌*◌, ◌/◌, ◌<◌, ◌≤◌, [], ◌∷◌, ◌++◌, length, nat_lt, slice_index_or};
 ghost use Rattle.octets.specs.Bytes.{part, num};
+ghost use Rattle.table.specs.Lists.{remove_at};
 ghost use Rattle.table.specs.Rows.{held};
 ghost use Rattle.table.specs.Codec.{table_of};
 ghost use Rattle.rows.specs.Rows.{tombstone_codec};
 ghost use Rattle.model.specs.Calls.{stored_tombstone};
-ghost use Rattle.model.specs.Tombs.{tombstoned as someTombstone, no_tombstone, remaining};
+ghost use Rattle.model.specs.Tombs.{tombstoned as someTombstone, no_tombstone};
 ghost use Rattle.model.specs.Lent.{Does, actions_lent};
-ghost use Rattle.tombstones.specs.Tombstones.{Least, RoomMade, ChoiceOf, RoomFor, RoomToStore, Added, pushed, HasSlot, device_after, new_tombstone, Stores, says_stored, tombstones_lent};
+ghost use Rattle.tombstones.specs.Tombstones.{Least, ChoiceOf, RoomFor, Room, space_for, spare_at, Pushed, HasSlot, device_after, new_tombstone, Grown, Stores, says_stored, tombstones_lent};
 
 use core::Refusal;
 use rows::{Device, Tombstone};
 
-// At so many or more one goes before another comes.
-const MAX_TOMBSTONES: usize = 1024;
-
-// What storing a tombstone does: nothing if its tag has one.
+// What storing a tombstone does: nothing if its tag has one, and the one at a place goes first if there are too many.
 #[derive(Drop)]
 pub enum Storing {
     Nothing,
-    New,
+    Append,
+    Evict(usize),
 }
 
 #[derive(Drop)]
 pub enum Choice {
     Refused(Refusal),
     Store(Storing),
-}
-
-// How many tombstones are left where room was made, and how many actions that lists.
-#[derive(Drop)]
-pub struct Room {
-    pub rows: usize,
-    pub actions: usize,
 }
 
 // The device after a tombstone is stored, and how many actions are listed.
@@ -59,8 +51,8 @@ pub struct Outcome {
 pub fn tombstoned(tombstones: &[u8], count: usize, tag: [u8; 16]) -> bool
     ensures { result ≡ someTombstone (table_of tombstone_codec count tombstones.now) tag }
 {
-    let n = table::fit(tombstones.len(), rows::TOMBSTONE_WIDTH, count);
-    match table::find(tombstones, rows::TOMBSTONE_WIDTH, n, 8, &tag) {
+    let n = table::fit(tombstones.len(), 44, count);
+    match table::find(tombstones, 44, n, 8, &tag) {
         table::Found::At(_) => true,
         table::Found::Nothing => false,
     }
@@ -75,15 +67,15 @@ fn expiry_at(tombstones: &[u8], at: usize) -> u64
 }
 
 // The tombstone of least expiry, the first among equals: the table has them by slot.
-fn least_expiry(tombstones: &[u8], count: usize) -> usize
+pub fn least_expiry(tombstones: &[u8], count: usize) -> usize
     ensures { Least (table_of tombstone_codec count tombstones.now) result }
 {
-    let n = table::fit(tombstones.len(), rows::TOMBSTONE_WIDTH, count);
+    let n = table::fit(tombstones.len(), 44, count);
     let mut best = 0;
     let mut low = 4294967296;
     let mut i = 0;
     while i < n {
-        let e = expiry_at(tombstones, i * rows::TOMBSTONE_WIDTH);
+        let e = expiry_at(tombstones, i * 44);
         if e < low {
             best = i;
             low = e;
@@ -97,53 +89,8 @@ fn least_expiry(tombstones: &[u8], count: usize) -> usize
 pub fn short_actions(actions: usize, tombstones: usize) -> bool
     ensures { result ≡ nat_lt actions (13 * (512 + tombstones / 44)) }
 {
-    actions < 13 * (512 + tombstones / rows::TOMBSTONE_WIDTH)
+    actions < 13 * (512 + tombstones / 44)
 }
-
-// ---- room for one tombstone, stored or turned
-
-// Number 5: after any deletion, are all R rows used? At the limit one goes, and its row is free.
-pub fn all_rows_used(tombstones: &[u8], count: usize) -> bool
-    ensures { result ≡ nat_le (length tombstones.now / 44) (length (remaining (table_of tombstone_codec count tombstones.now))) }
-{
-    let n = table::fit(tombstones.len(), rows::TOMBSTONE_WIDTH, count);
-    if MAX_TOMBSTONES <= n {
-        return false;
-    }
-    tombstones.len() / rows::TOMBSTONE_WIDTH <= n
-}
-
-// The slot of the tombstone at i.
-fn slot_at(tombstones: &[u8], count: usize, i: usize) -> u64
-    requires { (i < held (length tombstones.now) 44 count) × (held (length tombstones.now) 44 count * 44 ≤ length tombstones.now) }
-    ensures { result ≡ (slice_index_or (table_of tombstone_codec count tombstones.now) i no_tombstone).slot }
-{
-    octets::get_u64(tombstones, i * rows::TOMBSTONE_WIDTH)
-}
-
-// At the limit the tombstone of least expiry is taken out, and its deletion listed at a place.
-pub fn make_room(tombstones: &mut [u8], count: usize, actions: &mut [u8], at: usize) -> Room
-    requires { at + 13 ≤ length actions.old }
-    ensures { RoomMade count at tombstones.old actions.old result.rows result.actions tombstones.new actions.new }
-{
-    let n = table::fit(tombstones.len(), rows::TOMBSTONE_WIDTH, count);
-    if n < MAX_TOMBSTONES {
-        return Room {
-            rows: n,
-            actions: 0,
-        };
-    }
-    let i = least_expiry(tombstones, count);
-    let slot = slot_at(tombstones, count, i);
-    let k = table::remove(tombstones, rows::TOMBSTONE_WIDTH, n, i);
-    answers::delete_courier(actions, at, slot);
-    Room {
-        rows: k,
-        actions: 1,
-    }
-}
-
-// ---- a tombstone that is stored
 
 // Numbers 5 and 6 of a tombstone that is to be stored, or how it is. It reads only.
 pub fn store_choice(device: Device, tag: [u8; 16], tombstones: &[u8]) -> Choice
@@ -152,22 +99,31 @@ pub fn store_choice(device: Device, tag: [u8; 16], tombstones: &[u8]) -> Choice
     if tombstoned(tombstones, device.tombstones, tag) {
         return Choice::Store(Storing::Nothing);
     }
-    if all_rows_used(tombstones, device.tombstones) {
-        return Choice::Refused(Refusal::NoTombstoneRow);
+    let room = tombstones.len() / 44;
+    let n = table::fit(tombstones.len(), 44, device.tombstones);
+    if n < 1024 {
+        if room <= n {
+            return Choice::Refused(Refusal::NoTombstoneRow);
+        }
+        if device.next_slot == 18446744073709551615 {
+            return Choice::Refused(Refusal::NoSlot);
+        }
+        return Choice::Store(Storing::Append);
     }
+    let i = least_expiry(tombstones, device.tombstones);
     if device.next_slot == 18446744073709551615 {
         return Choice::Refused(Refusal::NoSlot);
     }
-    Choice::Store(Storing::New)
+    Choice::Store(Storing::Evict(i))
 }
 
 // Puts a tombstone behind the n that are there.
 fn push_tombstone(tombstones: &mut [u8], n: usize, row: Tombstone) -> usize
     requires { n * 44 + 44 ≤ length tombstones.old }
-    ensures { Added (pushed row) row n tombstones.old result tombstones.new }
+    ensures { Pushed n tombstones.old row result tombstones.new }
 {
     let b = rows::tombstone_bytes(row);
-    table::push(tombstones, rows::TOMBSTONE_WIDTH, n, &b)
+    table::push(tombstones, 44, n, &b)
 }
 
 // The device with a tombstone more stored, so that n are held.
@@ -199,6 +155,35 @@ fn new_tombstone(device: Device, tag: [u8; 16], s: [u8; 16], expiry: u32) -> Tom
     }
 }
 
+// Adds a tombstone.
+fn append(device: Device, row: Tombstone, tombstones: &mut [u8]) -> Device
+    requires { space_for device tombstones.old }
+    ensures { Grown device result tombstones.old tombstones.new (table_of tombstone_codec device.tombstones tombstones.old ++ (row ∷ [])) }
+{
+    let n = table::fit(tombstones.len(), 44, device.tombstones);
+    let m = push_tombstone(tombstones, n, row);
+    device_after(device, m)
+}
+
+// Takes the tombstone at i out, and adds one.
+fn evict(device: Device, i: usize, row: Tombstone, tombstones: &mut [u8]) -> Device
+    requires { spare_at i device tombstones.old }
+    ensures { Grown device result tombstones.old tombstones.new (remove_at i (table_of tombstone_codec device.tombstones tombstones.old) ++ (row ∷ [])) }
+{
+    let n = table::fit(tombstones.len(), 44, device.tombstones);
+    let k = table::remove(tombstones, 44, n, i);
+    let m = push_tombstone(tombstones, k, row);
+    device_after(device, m)
+}
+
+// The slot of the tombstone at i.
+fn slot_at(tombstones: &[u8], count: usize, i: usize) -> u64
+    requires { (i < held (length tombstones.now) 44 count) × (held (length tombstones.now) 44 count * 44 ≤ length tombstones.now) }
+    ensures { result ≡ (slice_index_or (table_of tombstone_codec count tombstones.now) i no_tombstone).slot }
+{
+    octets::get_u64(tombstones, i * 44)
+}
+
 // Stores a tombstone as it was chosen, at the next slot; its actions are listed from a place on.
 pub fn store_tombstone(
     device: Device,
@@ -210,19 +195,28 @@ pub fn store_tombstone(
     actions: &mut [u8],
     at: usize,
 ) -> After
-    requires { RoomToStore how device tombstones.old × (at + 26 ≤ length actions.old) }
+    requires { Room how device tombstones.old × (at + 26 ≤ length actions.old) }
     ensures { Stores how device tag s expiry at tombstones.old actions.old result.device result.actions tombstones.new actions.new × (result.actions ≤ 2) }
 {
+    let row = new_tombstone(device, tag, s, expiry);
     match how {
         Storing::Nothing => After { device, actions: 0 },
-        Storing::New => {
-            let row = new_tombstone(device, tag, s, expiry);
-            let room = make_room(tombstones, device.tombstones, actions, at);
-            let n = push_tombstone(tombstones, room.rows, row);
-            answers::put_courier(actions, at + 13 * room.actions, device.next_slot);
+        Storing::Append => {
+            let d = append(device, row, tombstones);
+            answers::put_courier(actions, at, device.next_slot);
             After {
-                device: device_after(device, n),
-                actions: room.actions + 1,
+                device: d,
+                actions: 1,
+            }
+        }
+        Storing::Evict(i) => {
+            let slot = slot_at(tombstones, device.tombstones, i);
+            let d = evict(device, i, row, tombstones);
+            answers::delete_courier(actions, at, slot);
+            answers::put_courier(actions, at + 13, device.next_slot);
+            After {
+                device: d,
+                actions: 2,
             }
         }
     }

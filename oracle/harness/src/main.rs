@@ -47,18 +47,8 @@ fn drill_from_input() -> ExitCode {
         eprintln!("drill: {error}");
         return ExitCode::FAILURE;
     }
-    let judged = drill::judged(&log);
-    print!("{}", judged.lines);
-    let left = judged.records - judged.of_the_source;
-    if left > 0 {
-        eprintln!(
-            "drill: {} of {} records are the source's; with record {} a row turned with 1,024 tombstones there, and from it on the second statement \
-             answers, with which the third agrees",
-            judged.of_the_source,
-            judged.records,
-            judged.of_the_source + 1
-        );
-    }
+    let (lines, _) = drill::run(reference::Reference::new(post::Sizes::DRILL), &log);
+    print!("{lines}");
     ExitCode::SUCCESS
 }
 

@@ -1,7 +1,6 @@
 //! The deliberately wrong variants of the second and the third statement, and the list of calls that tells each apart.
 
-use crate::compare::judge::Judge;
-use crate::compare::pair::difference;
+use crate::compare::pair::{Judge, difference};
 use crate::garbage;
 use crate::generate::{Generator, Profile};
 use rules::{Rules, Wrong};
@@ -31,7 +30,7 @@ fn run_list(seed: u64, all: &mut [(Wrong, Option<Place>)]) -> Result<(), String>
         if left.is_empty() {
             break;
         }
-        let call = generator.next(judge.held());
+        let call = generator.next(judge.state());
         judge.take(&call, |seen| {
             left.retain_mut(|(at, rules)| {
                 let same = difference(rules, seen).is_ok();

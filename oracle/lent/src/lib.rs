@@ -6,7 +6,6 @@ mod cells;
 mod custody;
 mod exchange;
 mod fields;
-mod holding;
 mod own;
 mod page;
 mod party;

@@ -9,7 +9,6 @@ mod refusals;
 mod searched;
 mod tags;
 mod tombs;
-mod turned;
 mod upkeep;
 mod window;
 mod wrong;

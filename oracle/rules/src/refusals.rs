@@ -10,13 +10,6 @@ const ORDER: [u8; 13] = [13, 1, 12, 2, 3, 8, 7, 10, 11, 4, 5, 6, 9];
 
 const OWN_SIZES: [usize; 8] = [48, 80, 144, 272, 528, 1040, 2064, 4064];
 
-/// A tombstone that a call would add: by the carried row of a place, which turns, or stored.
-#[derive(PartialEq, Eq)]
-enum Added {
-    Turned(usize),
-    Stored,
-}
-
 impl Rules {
     /// Two numbers change places under a switch.
     fn order(&self) -> [u8; 13] {
@@ -125,17 +118,16 @@ impl Rules {
         }
     }
 
-    /// The tombstone that the call would add.
-    fn added_tombstone(&self, call: &Call) -> Option<Added> {
-        let stored = |tag| self.would_store(tag).then_some(Added::Stored);
+    /// A tombstone that the call would add: by a carried row that turns, or stored.
+    fn added_tombstone(&self, call: &Call) -> (bool, bool) {
         match call {
             Call::Tomb { tag, secret, .. } => match self.met(tag, secret) {
-                Met::Carried(place) => Some(Added::Turned(place)),
-                Met::Own(_) => stored(tag),
-                _ => None,
+                Met::Carried(_) => (true, false),
+                Met::Own(_) => (false, self.would_store(tag)),
+                _ => (false, false),
             },
-            Call::Opened { tag, .. } | Call::StoredTombstone { tag, .. } => stored(tag),
-            _ => None,
+            Call::Opened { tag, .. } | Call::StoredTombstone { tag, .. } => (false, self.would_store(tag)),
+            _ => (false, false),
         }
     }
 
@@ -147,14 +139,12 @@ impl Rules {
             let loaded = self.readable(file).map_or(Vec::new(), |(_, rows)| rows);
             return loaded.iter().filter(|row| !row.held.is_carried()).count() > rows;
         }
-        let (gone, before) = match self.added_tombstone(call) {
-            Some(Added::Turned(_)) if self.is(Wrong::TurnedRowNeedsNoRow) => return false,
-            Some(Added::Turned(_)) if self.is(Wrong::TurnedRowRefusedAtTheLimit) && there >= 1024 => return true,
-            Some(Added::Turned(place)) => (self.gone_for(place).len(), Wrong::NoRowBeforeATurnedRowsDeletion),
-            Some(Added::Stored) => (self.displaced().iter().len(), Wrong::NoRowBeforeTheDeletion),
-            None => return false,
-        };
-        there - self.unless(before, gone, 0) >= rows
+        let (turns, stores) = self.added_tombstone(call);
+        let after_deletion = there - usize::from(self.displaced().is_some());
+        let before = self.is(Wrong::NoRowBeforeTheDeletion);
+        let left = if before { there } else { after_deletion };
+        let needs_row = !self.is(Wrong::TurnedRowNeedsNoRow);
+        (turns && needs_row && there >= rows) || (stores && left >= rows)
     }
 
     /// 6: a new slot is needed and next slot is 2^64 − 1.
@@ -165,9 +155,8 @@ impl Rules {
                 window, peer, envelope, ..
             } => self.is(Wrong::NoSlotWhateverTheCode) || self.would_carry(window, *peer, envelope),
             _ => {
-                let turned = self.is(Wrong::TurnedRowNeedsASlot);
-                self.added_tombstone(call)
-                    .is_some_and(|added| added == Added::Stored || turned)
+                let (turns, stores) = self.added_tombstone(call);
+                stores || (turns && self.is(Wrong::TurnedRowNeedsASlot))
             }
         };
         needs && self.state.next_slot >= last

@@ -1,8 +1,7 @@
 //! What the checks build their posts of.
 
-use crate::compare::judge::Judge;
 use crate::compare::maker;
-use crate::compare::pair::difference;
+use crate::compare::pair::{Judge, difference};
 use post::{
     Action, Answer, Areas, Call, Custody, Dir, Envelope, Held, NewOwn, Post, Prefix, Reply, Sizes, State, Tag,
     Verification, WindowRow, encode_window,
@@ -186,7 +185,7 @@ impl Bench {
     }
 
     pub fn state(&self) -> State {
-        self.judge.held().clone()
+        self.judge.state().clone()
     }
 
     pub fn refusal(&mut self, call: Call) -> Option<u8> {

@@ -1,6 +1,8 @@
 //! What a run on garbage areas met, and how often.
 
-use super::{cells, counts, fetches, pages, turns};
+#[cfg(feature = "library")]
+use super::fetches;
+use super::{cells, counts, pages};
 use lent::{Areas, Outcome, Said};
 use post::Call;
 use std::collections::BTreeMap;
@@ -11,24 +13,6 @@ pub struct Reach {
     pages: BTreeMap<&'static str, u64>,
     fetches: BTreeMap<&'static str, u64>,
     counts: BTreeMap<&'static str, u64>,
-    turns: BTreeMap<&'static str, u64>,
-}
-
-/// What a call meets in the areas before it.
-pub struct Before {
-    fetches: Met,
-    counts: Option<counts::Before>,
-    turns: Option<turns::Before>,
-}
-
-impl Before {
-    pub fn of(areas: &Areas, call: &Call) -> Self {
-        Self {
-            fetches: fetches::met(areas, call),
-            counts: counts::Before::of(areas, call),
-            turns: turns::Before::of(areas, call),
-        }
-    }
 }
 
 /// What a call met: each name, and whether.
@@ -41,16 +25,14 @@ fn add(counts: &mut BTreeMap<&'static str, u64>, met: Met) {
 }
 
 impl Reach {
-    /// A call: what it met before it, fetches if it was answered; the areas are those after it.
-    pub fn count(&mut self, before: Before, areas: &Areas, call: &Call, outcome: &Outcome) {
+    /// A call: what it met as to fetches, if it was answered, and what an inventory met as to counts; the areas are those after it.
+    pub fn count(&mut self, before: (Met, Option<counts::Before>), areas: &Areas, call: &Call, outcome: &Outcome) {
+        let (fetches, counted) = before;
         if matches!(outcome.said, Said::Ended { .. }) {
-            add(&mut self.fetches, before.fetches);
+            add(&mut self.fetches, fetches);
         }
-        if let Some(counts) = before.counts {
-            add(&mut self.counts, counts.met(outcome));
-        }
-        if let Some(turns) = before.turns {
-            add(&mut self.turns, turns.met(outcome));
+        if let Some(counted) = counted {
+            add(&mut self.counts, counted.met(outcome));
         }
         add(&mut self.cells, cells::met(areas, call, outcome));
         add(&mut self.pages, pages::met(call, outcome));
@@ -60,13 +42,12 @@ impl Reach {
 #[cfg(feature = "library")]
 impl Reach {
     /// A group of counts: what they are of, the names that should be reached, the counts.
-    fn groups(&self) -> [(&'static str, &'static [&'static str], &BTreeMap<&'static str, u64>); 5] {
+    fn groups(&self) -> [(&'static str, &'static [&'static str], &BTreeMap<&'static str, u64>); 4] {
         [
             ("rows whose cell does not count", &cells::ALL, &self.cells),
             ("pages", &pages::ALL, &self.pages),
             ("fetches and tombstones", &fetches::ALL, &self.fetches),
             ("counts", &counts::ALL, &self.counts),
-            ("rows that turn", &turns::ALL, &self.turns),
         ]
     }
 

@@ -1,7 +1,7 @@
 //! Corners of request Two: window tags that are tombstoned.
 
 use super::Corner;
-use crate::compare::judge::Seen;
+use crate::compare::pair::Seen;
 use crate::lost::Ending;
 use post::{Answer, Reply, Tag};
 

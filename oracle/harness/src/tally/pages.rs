@@ -1,7 +1,7 @@
 //! Corners of the screen page.
 
 use super::Corner;
-use crate::compare::judge::Seen;
+use crate::compare::pair::Seen;
 use post::{Answer, Call, Screen};
 
 const LINE: usize = 81;

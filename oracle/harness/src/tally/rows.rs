@@ -1,7 +1,7 @@
 //! Corners of tombs, tombstones, maintenance, files and the window call.
 
 use super::Corner;
-use crate::compare::judge::Seen;
+use crate::compare::pair::Seen;
 use post::{Action, Answer, Call, ChainRow, Held, Kind, Reply, State, Tag};
 
 const CARRIED: usize = 256;
@@ -116,6 +116,9 @@ fn no_copies(state: &State) -> bool {
 
 pub const CORNERS: &[Corner] = &[
     ("a carried row turns", turned),
+    ("a carried row turns with 1,024 tombstones or more there", |seen| {
+        turned(seen) && tombstones(seen.before) >= TOMBSTONES
+    }),
     ("a carried row turns with the last slot used", |seen| {
         turned(seen) && seen.before.next_slot == u64::MAX
     }),

@@ -1,7 +1,7 @@
 //! Corners of request Three: the count at the end of an inventory.
 
 use super::Corner;
-use crate::compare::judge::Seen;
+use crate::compare::pair::Seen;
 use post::{Answer, Call, Prefix, Reply, State, Tag};
 
 /// An own or a carried row that may be offered.

@@ -198,39 +198,6 @@ fn every_call_answers_on_any_bytes() {
     );
 }
 
-/// Any bytes with so many rows for tombstones; the secret of the first carried row, which has tag 1, is known.
-fn turning(noise: &mut Noise, rows: usize) -> Post {
-    let mut areas = noise.areas();
-    areas.tombstones = noise.bytes(44 * rows + 7);
-    areas.carried[16..32].copy_from_slice(&tag(1).0);
-    areas.carried[32..48].copy_from_slice(&COMMITMENT.0);
-    Post::over(areas).unwrap()
-}
-
-/// Is a call refused by 5?
-fn meets_5<T>(answer: Result<T, Refusal>) -> bool {
-    matches!(answer, Err(Refusal::NoTombstoneRow))
-}
-
-#[test]
-fn in_1024_rows_of_any_bytes_a_row_turns_and_no_tombstone_meets_5() {
-    let mut noise = Noise(9);
-    for rows in [1024, 1025, 1100] {
-        for _ in 0..10 {
-            let mut post = turning(&mut noise, rows);
-            let before = post.counts().tombstones;
-            let turned = tomb(&mut post, tag(1), SECRET).unwrap();
-            let goes = usize::from(before >= 1024);
-            assert_eq!(turned.len(), 1 + goes);
-            assert_eq!(post.counts().tombstones, before + 1 - goes);
-            let own = post.own_rows().next().map_or(tag(2), |row| row.tag);
-            assert!(!meets_5(post.tomb(VERIFIED, own, SECRET)));
-            assert!(!meets_5(post.opened(VERIFIED, tag(3), SECRET, 90)));
-            assert!(!meets_5(post.stored_tombstone(tag(4), SECRET, 90)));
-        }
-    }
-}
-
 /// Areas of one cell more than count, with an own row and a carried row that name these cells; and the own row's tag.
 fn naming(own: u16, carried: u16) -> (Areas, Tag) {
     let most = Sizes {
