@@ -1,11 +1,11 @@
 // The rows of the reply and action areas: what is in them, and functions that write one row at a place.
-ghost use Rattle.core.specs.Prelude.{◌≡◌, ◌+◌, ◌≤◌, ◌++◌, length, drop, replicate};
+ghost use Rattle.std.specs.Prelude.{◌≡◌, ◌+◌, ◌≤◌, ◌++◌, length, drop, replicate};
 ghost use Rattle.octets.specs.Bytes.{splice};
 ghost use Rattle.rows.specs.Rows.{action_bytes, reply_bytes};
 ghost use Rattle.model.specs.Exchange.{own_envelope_of, carried_envelope_of};
 ghost use Rattle.model.specs.Calls.{ofOwn, of_carried, cell_from, reply_cell, put_courier, delete_courier, put_queued, fetch_reply, envelope_row, custody_reply, tomb_reply};
 
-use core::ContactId;
+use courier_core::ContactId;
 use courier::{Custody, Header};
 use rows::{Action, Carried, Own, Reply};
 

@@ -3,7 +3,7 @@
 use Rattle.std.specs.Prelude.{◌≡◌, ℕ, Bool, true, false, cond, not, List, ◌++◌, ◌==◌}
 use Rattle.std.proofs.Math.Option.{Option, none, some}
 use Rattle.octets.specs.Bytes.{part, num, be}
-use Rattle.std.specs.declared.Verification.{Verification}
+use Rattle.courier_core.specs.declared.Verification.{Verification}
 use Rattle.rows.specs.declared.Device.{Device}
 use Rattle.rows.specs.Device.{fresh_device}
 use Rattle.rows.specs.declared.Exchange.{Exchange}

@@ -5,7 +5,7 @@ ghost use Rattle.octets.specs.Bytes.{Bytes, part, num};
 ghost use Rattle.wire.specs.Log.{verification_of};
 ghost use Rattle.boundary.specs.Boundary.{verification_read, is_on, flag_over, device_of, device_bytes, HoldsDevice, FreshArea, peer_from, is_open, peer_over, exchange_of, exchange_bytes, HoldsExchange};
 
-use core::{ContactId, Verification};
+use courier_core::{ContactId, Verification};
 use rows::{Device, Exchange, Peer};
 use state::CourierConfig;
 

@@ -3,9 +3,9 @@
 use Rattle.std.specs.Prelude.{◌≡◌, ℕ, zero, suc, ◌+◌, ◌-◌, ◌*◌, ◌/◌, ◌^◌, ◌≤◌, min, Bool, true, false, cond, ◌||◌, List, [], ◌∷◌, ◌++◌, map, reverse, length, take, ◌==◌, nat_lt, slice_index}
 use mathlib.Core.List.{flat_map}
 use Rattle.octets.specs.Bytes.{part, splice, num, be}
-use Rattle.std.specs.Core.{refusalNumber, first_of}
-use Rattle.std.specs.declared.Refusal.{Refusal}
-use Rattle.std.specs.declared.Refusal.TheVariants as refusal
+use Rattle.courier_core.specs.Core.{refusalNumber, first_of}
+use Rattle.courier_core.specs.declared.Refusal.{Refusal}
+use Rattle.courier_core.specs.declared.Refusal.TheVariants as refusal
 use Rattle.table.specs.Lists.{any}
 use Rattle.table.specs.Rows.{all_rows, join, ragged}
 use Rattle.chain.specs.declared.Dir.{Dir}

@@ -6,7 +6,7 @@ ghost use Rattle.table.specs.Lists.{any};
 ghost use Rattle.table.specs.Rows.{join, all_rows};
 ghost use Rattle.chain.specs.Chain.{dir_label, dir_of, no_dir, is_bucket, key_row, listed_keys, chains_keys, ChainsListed, next_above, wrong_table, wrong_rows, window_says, window_values, window_answer, window_area};
 
-use core::Refusal;
+use courier_core::Refusal;
 
 // The bytes that sealing adds to an inner plaintext.
 pub const TAG_LEN: usize = 16;

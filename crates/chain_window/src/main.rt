@@ -94,7 +94,7 @@ fn show_answer(said: Windowed, answer: &[u8]) {
     match said {
         Windowed::Refused(why) => {
             text(b": refused ");
-            small(core::refusal_number(why));
+            small(courier_core::refusal_number(why));
             show_rest(answer, 0);
         }
         Windowed::Listed(n) => {

@@ -1,7 +1,7 @@
 -- What the calls of this crate answer, in document 01's terms.
 -- Assumes nothing.
 use Rattle.std.specs.Prelude.{ℕ}
-use Rattle.std.specs.Core.{refusalNumber}
+use Rattle.courier_core.specs.Core.{refusalNumber}
 use Rattle.state.specs.declared.CourierConfig.{CourierConfig}
 use Rattle.rows.specs.declared.Device.{Device}
 use Rattle.rows.specs.declared.Exchange.{Exchange}

@@ -11,7 +11,7 @@ ghost use Rattle.model.specs.Window.{window_rows, strangers as someStranger};
 ghost use Rattle.model.specs.Lent.{Does, no_answers, device_in, contacts_in, exchange_in};
 ghost use Rattle.contacts.specs.Answers.{said_of, opened_of, exchange_after, device_with};
 
-use core::{ContactId, Refusal, Verification};
+use courier_core::{ContactId, Refusal, Verification};
 use rows::{Contact, Device, Exchange};
 use state::{Configured, CourierConfig};
 use table::Found;
@@ -226,7 +226,7 @@ pub fn contact(
     let count = device.contacts;
     let row = Contact {
         id,
-        verification: core::verification_byte(verification),
+        verification: courier_core::verification_byte(verification),
     };
     match contact_place(contacts, count, id) {
         Found::At(i) => {

@@ -1,7 +1,7 @@
 // What is written: a line for each row or answer, its parts as document 01 names them.
-ghost use Rattle.core.specs.Prelude.{◌+◌, ◌≤◌};
+ghost use Rattle.std.specs.Prelude.{◌+◌, ◌≤◌};
 
-use core::Refusal;
+use courier_core::Refusal;
 use libc::STDOUT_FILENO;
 use rows::Device;
 
@@ -28,7 +28,7 @@ fn show_tag(tag: [u8; 16]) {
 
 pub fn show_refusal(why: Refusal) {
     text(b"refused");
-    number(core::refusal_number(why) as u64);
+    number(courier_core::refusal_number(why) as u64);
     end();
 }
 

@@ -1,9 +1,9 @@
 // What a peer's list is answered with: fetches, tombs, offers. And our own list, and fetches of a peer.
-ghost use Rattle.core.specs.Prelude.{◌+◌, ◌≤◌};
+ghost use Rattle.std.specs.Prelude.{◌+◌, ◌≤◌};
 
 use crate::lines::text;
 use crate::post::{Post, header, own_tag, sealed, secret, tag, twin};
-use core::ContactId;
+use courier_core::ContactId;
 use rows::Reachable;
 
 // ---- a window and a list

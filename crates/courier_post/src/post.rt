@@ -3,7 +3,7 @@ use crate::lines;
 use crate::lines::{end, number, text};
 use chain::Dir;
 use contacts::Opened;
-use core::{ContactId, Verification};
+use courier_core::{ContactId, Verification};
 use courier::Header;
 use envelope::{Answer, Enveloped};
 use inventory::{Listed, Received};

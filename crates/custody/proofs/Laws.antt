@@ -3,7 +3,7 @@
 use Rattle.std.proofs.Common.{◌≡◌, ℕ, suc, ◌+◌, ◌*◌, ◌<◌, ◌≤◌, Bool, true, false, cond, not, ◌||◌, eqb, ltb, leb, List, length, drop, sym, refl, ap, ◌∙◌, ap₂, arith, drop_of_length-le, ltb-false, ltb-true, le-ltb, lt-ltb}
 use Rattle.octets.specs.Bytes.{part, num}
 use Rattle.octets.proofs.Parts.{part_part}
-use Rattle.std.specs.declared.ContactId.{ContactId}
+use Rattle.courier_core.specs.declared.ContactId.{ContactId}
 use Rattle.courier.specs.declared.Header.{Header}
 use Rattle.courier.specs.declared.Custody.{Custody}
 use Rattle.courier.specs.declared.Custody.TheVariants as custody

@@ -1,7 +1,7 @@
 // What the envelope call tests before it holds a row: `custody` of couriering.rs, and the window.
 ghost use Rattle.std.specs.Prelude.{◌≡◌, ◌+◌, ◌*◌, ◌≤◌, ◌&&◌, ◌||◌, map, length, ◌==◌, nat_lt};
 ghost use Rattle.octets.specs.Bytes.{part, num, same_bytes};
-ghost use Rattle.std.specs.declared.ContactId.{ContactId};
+ghost use Rattle.courier_core.specs.declared.ContactId.{ContactId};
 ghost use Rattle.table.specs.Lists.{any, is_at};
 ghost use Rattle.table.specs.Codec.{table_of};
 ghost use Rattle.rows.specs.Rows.{contact_codec, own_codec, carried_codec, bad_tag_codec, reachable_of};
@@ -15,7 +15,7 @@ ghost use Rattle.model.specs.Custody.{own_of_tag, carried_of_tag, max_carried_by
 
 use chain::no_dir;
 use contacts::is_verified;
-use core::ContactId;
+use courier_core::ContactId;
 use courier::{Custody, Header};
 use octets::least;
 use rows::{Device, Reachable};

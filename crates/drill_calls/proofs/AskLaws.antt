@@ -3,8 +3,8 @@
 use Rattle.std.proofs.Common.{◌≡◌, ℕ, ◌≤◌, List, [], length, sym, refl, ap, ◌∙◌, subst, ne_eqb}
 use mathlib.Core.Option.{some}
 use Rattle.octets.specs.Bytes.{part}
-use Rattle.std.specs.declared.ContactId.{ContactId}
-use Rattle.std.specs.declared.Refusal.TheVariants as refusal
+use Rattle.courier_core.specs.declared.ContactId.{ContactId}
+use Rattle.courier_core.specs.declared.Refusal.TheVariants as refusal
 use Rattle.courier.specs.declared.Header.{Header}
 use Rattle.courier.specs.declared.HeaderRead.{HeaderRead}
 use Rattle.courier.specs.declared.Custody.{Custody}

@@ -10,7 +10,7 @@ ghost use Rattle.drill_run.specs.Drill.{drill_in};
 ghost use Rattle.drill_calls.specs.Asking.{told_with, line_told, rows_told, set_told, Asks, session_lent, envelope_lent, inventory_lent, fetch_lent, tomb_in, maintenance_lent};
 
 use contacts::{Answered, Opened};
-use core::{ContactId, Refusal};
+use courier_core::{ContactId, Refusal};
 use courier::Custody;
 use drill_lines::Last;
 use rows::{Device, Exchange};

@@ -3,7 +3,7 @@
 use Rattle.std.specs.Prelude.{ℕ, Bool, false, cond, List, [], ◌∷◌, ◌++◌, ◌==◌}
 use mathlib.Core.List.{flat_map}
 use Rattle.octets.specs.Bytes.{part, num}
-use Rattle.std.specs.Core.{refusalNumber}
+use Rattle.courier_core.specs.Core.{refusalNumber}
 use Rattle.rows.specs.declared.Reply.{Reply}
 use Rattle.rows.specs.declared.Action.{Action}
 use Rattle.model.specs.State.{State}

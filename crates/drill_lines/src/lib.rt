@@ -9,7 +9,7 @@ ghost use Rattle.model.specs.Areas.{Areas, view};
 ghost use Rattle.saved.specs.Blobs.{held_in};
 ghost use Rattle.drill_lines.specs.Lines.{put_line, del_line, envelope_line, custody_line, tomb_line, reply_line, action_line, blob_length, last_line, record_lines};
 
-use core::Refusal;
+use courier_core::Refusal;
 use rows::{Action, Device, Reply};
 use saved::BlobAnswer;
 
@@ -197,7 +197,7 @@ pub fn last_line(last: Last, out: &mut [u8], at: usize) -> usize
         Last::Malformed => text::put_run(out, at, b"malformed\n"),
         Last::Refused(why) => {
             let p = text::put_run(out, at, b"refused");
-            let p = text::put_spaced(out, p, core::refusal_number(why) as u64);
+            let p = text::put_spaced(out, p, courier_core::refusal_number(why) as u64);
             text::put_run(out, p, b"\n")
         }
     }

@@ -3,7 +3,7 @@ use Rattle.std.proofs.Common.{◌≡◌, ℕ, ◌+◌, ◌-◌, ◌*◌, ◌<◌
 use mathlib.Core.Option.{Option}
 use Rattle.octets.specs.Bytes.{part}
 use Rattle.octets.proofs.Parts.{length_part, part_part, part_add, take_written}
-use Rattle.std.specs.declared.Refusal.TheVariants as refusal
+use Rattle.courier_core.specs.declared.Refusal.TheVariants as refusal
 use Rattle.table.specs.Rows.{held}
 use Rattle.table.proofs.RowLaws.{held_le}
 use Rattle.text.specs.Text.{Puts}

@@ -4,7 +4,7 @@ use Rattle.std.proofs.Common.{◌≡◌, ℕ, ◌<◌, List, [], ◌++◌, map, 
 use mathlib.Core.List.{map-append}
 use lib.Seq.{take-append_seam}
 use Rattle.octets.specs.Bytes.{Bytes}
-use Rattle.std.specs.declared.Refusal.TheVariants as refusal
+use Rattle.courier_core.specs.declared.Refusal.TheVariants as refusal
 use Rattle.table.specs.Lists.{All}
 use Rattle.table.proofs.ListLaws.{all_take}
 use Rattle.wire.specs.declared.Head.TheVariants as head

@@ -6,7 +6,7 @@ ghost use Rattle.drill_lines.specs.Lines.{stops_at};
 ghost use Rattle.drill_run.specs.Drill.{drill_areas};
 ghost use Rattle.drill_log.specs.Run.{Performing, Runs};
 
-use core::Refusal;
+use courier_core::Refusal;
 use drill_lines::Last;
 use rows::{Device, Exchange};
 use wire::{Head, Mark};
@@ -26,7 +26,7 @@ fn stops(last: Last) -> bool
     match last {
         Last::Ok => false,
         Last::Malformed => false,
-        Last::Refused(why) => core::refusal_number(why) == 13,
+        Last::Refused(why) => courier_core::refusal_number(why) == 13,
     }
 }
 

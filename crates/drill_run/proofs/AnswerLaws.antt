@@ -7,9 +7,9 @@ use mathlib.Core.Option.{Option}
 use lib.ListN.{length-map}
 use Rattle.octets.specs.Bytes.{Bytes, be}
 use Rattle.octets.proofs.Numbers.{bytes_append, bytes_be, be_1, bytes_take}
-use Rattle.std.specs.declared.ContactId.{ContactId}
-use Rattle.std.specs.declared.Refusal.{Refusal}
-use Rattle.std.specs.declared.Refusal.TheVariants as refusal
+use Rattle.courier_core.specs.declared.ContactId.{ContactId}
+use Rattle.courier_core.specs.declared.Refusal.{Refusal}
+use Rattle.courier_core.specs.declared.Refusal.TheVariants as refusal
 use Rattle.kdf.specs.Kdf.{hash}
 use Rattle.courier.specs.declared.Header.{Header}
 use Rattle.courier.specs.declared.Custody.{Custody}

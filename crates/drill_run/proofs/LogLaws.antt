@@ -6,7 +6,7 @@ use mathlib.Core.Option.{Option, none, some}
 use lib.Seq.{drop-append-le}
 use Rattle.octets.specs.Bytes.{part, num}
 use Rattle.octets.proofs.Parts.{part_left}
-use Rattle.std.specs.declared.Refusal.TheVariants as refusal
+use Rattle.courier_core.specs.declared.Refusal.TheVariants as refusal
 use Rattle.wire.specs.declared.Mark.{Mark}
 use Rattle.wire.specs.declared.Head.{Head}
 use Rattle.wire.specs.declared.Head.TheVariants as head

@@ -5,7 +5,7 @@ use mathlib.Core.Option.{Option}
 use Rattle.octets.specs.Bytes.{Bytes, part, num}
 use Rattle.octets.proofs.Parts.{length_part}
 use Rattle.octets.proofs.Numbers.{bytes_part, bytes_drop, num_part_lt}
-use Rattle.std.specs.declared.Verification.{Verification}
+use Rattle.courier_core.specs.declared.Verification.{Verification}
 use Rattle.courier.specs.declared.Custody.{Custody}
 use Rattle.courier.specs.Courier.{header_of, from_code}
 use Rattle.table.specs.Lists.{All, none, more}

@@ -4,7 +4,7 @@ use mathlib.Core.List.{flat_map}
 use mathlib.Core.Option as option
 use mathlib.Core.Option.{Option}
 use Rattle.octets.specs.Bytes.{Bytes}
-use Rattle.std.specs.declared.Refusal.TheVariants as refusal
+use Rattle.courier_core.specs.declared.Refusal.TheVariants as refusal
 use Rattle.table.specs.Lists.{All, none, more}
 use Rattle.table.proofs.TableLaws.{table_none}
 use Rattle.rows.specs.Rows.{contact_codec, own_codec, carried_codec, tombstone_codec, bad_tag_codec, offer_codec}

@@ -3,7 +3,7 @@
 use Rattle.std.specs.Prelude.{ℕ, zero, suc, ◌+◌, Bool, true, false, cond, List, [], ◌∷◌, ◌++◌, length, drop}
 use Rattle.std.proofs.Math.Option.{Option, none, some}
 use Rattle.octets.specs.Bytes.{part}
-use Rattle.std.specs.declared.Refusal.TheVariants as refusal
+use Rattle.courier_core.specs.declared.Refusal.TheVariants as refusal
 use Rattle.wire.specs.declared.Head.{Head}
 use Rattle.wire.specs.declared.Head.TheVariants as head
 use Rattle.wire.specs.Log as log

@@ -4,7 +4,7 @@ ghost use Rattle.octets.specs.Bytes.{part};
 ghost use Rattle.drill_run.specs.Drill.{drill_areas};
 ghost use Rattle.drill_turn.specs.Stream.{Inside, first_turn, with_input, read_turn, Keeps, Turned, AtEnd};
 
-use core::Refusal;
+use courier_core::Refusal;
 use drill_lines::Last;
 use rows::{Device, Exchange};
 

@@ -13,7 +13,7 @@ ghost use Rattle.model.specs.Lent.{Does, answers_lent};
 ghost use Rattle.envelope.specs.Answers.{placed, envelope_choice, custody_choice, ours_of, Lends, new_row, device_after, Room, Carries, envelope_says, envelope_in};
 
 use contacts::{known, lifetime_end, now_min, strangers};
-use core::{ContactId, Refusal};
+use courier_core::{ContactId, Refusal};
 use courier::{Custody, Header};
 use custody::{custody_of, free_carried_cell, lookup, wrong_window};
 use rows::{Carried, Device};

@@ -1,7 +1,7 @@
 -- `open_for`: what the form by value answers with one enum is said with the exchange beside it.
 -- Assumes nothing.
 use Rattle.std.proofs.Common.{◌≡◌, ℕ, List, refl, ap, ◌∙◌, subst}
-use Rattle.std.specs.declared.ContactId.{ContactId}
+use Rattle.courier_core.specs.declared.ContactId.{ContactId}
 use Rattle.rows.specs.declared.Device.{Device}
 use Rattle.rows.specs.declared.Exchange.{Exchange}
 use Rattle.model.specs.Calls.{Answer, Result, open_exchange, refused, malformed, done, ours, found, missing, own_row, no_envelope, wrote}

@@ -10,7 +10,7 @@ ghost use Rattle.handover.specs.Handing.{says, code_lent};
 ghost use Rattle.exchange.specs.Exchange.{inventory_leaves, code_leaves, fresh_leaves, Lends, fresh_in};
 
 use contacts::Opened;
-use core::ContactId;
+use courier_core::ContactId;
 use courier::Custody;
 use rows::{Device, Exchange};
 

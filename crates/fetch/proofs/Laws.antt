@@ -3,7 +3,7 @@
 use Rattle.std.proofs.Common.{◌≡◌, ℕ, ◌+◌, ◌-◌, ◌*◌, ◌<◌, ◌≤◌, min, Bool, false, cond, not, ◌&&◌, eqb, List, length, take, drop, sym, ap, ◌∙◌, subst, ap₂, arith, eq-eqb, ne_eqb}
 use Rattle.octets.specs.Bytes.{part, splice, num, same_bytes}
 use Rattle.octets.proofs.Parts.{part_part, part_whole}
-use Rattle.std.specs.declared.ContactId.{ContactId}
+use Rattle.courier_core.specs.declared.ContactId.{ContactId}
 use Rattle.table.specs.declared.Found.TheVariants.{At, Nothing}
 use Rattle.table.specs.Lists.{position_from}
 use Rattle.table.specs.Rows.{held}

@@ -2,8 +2,8 @@
 -- Assumes nothing.
 use Rattle.std.specs.Prelude.{◌≡◌, ℕ, Bool, ◌&&◌, List, []}
 use Rattle.octets.specs.Bytes.{part, splice}
-use Rattle.std.specs.Core.{refusalNumber}
-use Rattle.std.specs.declared.ContactId.{ContactId}
+use Rattle.courier_core.specs.Core.{refusalNumber}
+use Rattle.courier_core.specs.declared.ContactId.{ContactId}
 use Rattle.rows.specs.declared.Own.{Own}
 use Rattle.rows.specs.declared.Device.{Device}
 use Rattle.rows.specs.Rows.{reply_bytes}

@@ -11,7 +11,7 @@ ghost use Rattle.model.specs.Exchange.{own_envelope_of, carried_envelope_of};
 ghost use Rattle.model.specs.Lent.{Does, replies_lent};
 ghost use Rattle.fetch.specs.Fetch.{for_others, Given, fetched_as, fetch_says, fetch_in};
 
-use core::ContactId;
+use courier_core::ContactId;
 use octets::least;
 use rows::Device;
 use table::Found;

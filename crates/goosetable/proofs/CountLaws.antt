@@ -4,10 +4,10 @@ use Rattle.std.proofs.Common.{◌≡◌, ℕ, zero, suc, Bool, true, false, cond
 use mathlib.Core.Bool.{false≢true}
 use mathlib.Core.Option.{Option, none, some}
 use lib.Dec.{eqb-suc-zero}
-use Rattle.std.specs.Core.{refusalNumber}
-use Rattle.std.specs.declared.ContactId.{ContactId}
-use Rattle.std.specs.declared.Refusal.{Refusal}
-use Rattle.std.specs.declared.Verification.{Verification}
+use Rattle.courier_core.specs.Core.{refusalNumber}
+use Rattle.courier_core.specs.declared.ContactId.{ContactId}
+use Rattle.courier_core.specs.declared.Refusal.{Refusal}
+use Rattle.courier_core.specs.declared.Verification.{Verification}
 use Rattle.table.specs.Lists.{position}
 use Rattle.chain.specs.declared.Dir.{Dir}
 use Rattle.courier.specs.declared.Header.{Header}

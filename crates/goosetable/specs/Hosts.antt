@@ -2,8 +2,8 @@
 -- Assumes nothing.
 use Rattle.std.specs.Prelude.{◌≡◌, ℕ, ◌≤◌, List, length}
 use Rattle.std.proofs.Math.Option.{Option, none, some}
-use Rattle.std.specs.declared.ContactId.{ContactId}
-use Rattle.std.specs.declared.Refusal.{Refusal}
+use Rattle.courier_core.specs.declared.ContactId.{ContactId}
+use Rattle.courier_core.specs.declared.Refusal.{Refusal}
 use Rattle.chain.specs.declared.Dir.{Dir}
 use Rattle.chain.specs.declared.DirRead.{DirRead}
 use Rattle.chain.specs.declared.DirRead.TheVariants as dirs

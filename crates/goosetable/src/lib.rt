@@ -33,7 +33,7 @@ use boundary::{
     verification_of,
 };
 use chain::{Dir, DirRead};
-use core::ContactId;
+use courier_core::ContactId;
 use courier::{Custody, CustodyRead, Header};
 use host_answers::{
     Answer, DONE, Row, answer_of, blob_answer, code_answer, contact_answer, envelope_answer,

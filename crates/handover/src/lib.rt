@@ -12,7 +12,7 @@ ghost use Rattle.model.specs.Lent.{Does, actions_lent};
 ghost use Rattle.handover.specs.Handing.{TakenOffCarried, TakenOffOwn, HandedAs, Settles, device_with, exchange_with, says, code_lent};
 
 use contacts::known;
-use core::{ContactId, Refusal};
+use courier_core::{ContactId, Refusal};
 use courier::Custody;
 use rows::{Carried, Device, Exchange, Own, Peer};
 use table::Found;

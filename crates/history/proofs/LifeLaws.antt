@@ -3,7 +3,7 @@
 use Rattle.std.proofs.Common.{◌≡◌, ℕ, ◌<◌, ◌≤◌, Bool, true, false, cond, not, ◌⊎◌, List, [], ◌∷◌, length, sym, refl, ap, ◌∙◌, subst, inl, inr, arith, leb-false}
 use mathlib.Core.Bool.{false≢true}
 use borrow.Author.Tests.{not-true}
-use Rattle.std.specs.declared.Refusal.TheVariants as refusal
+use Rattle.courier_core.specs.declared.Refusal.TheVariants as refusal
 use Rattle.table.specs.Lists.{All}
 use Rattle.table.proofs.ListLaws.{filter_holds}
 use Rattle.courier.specs.declared.Custody.TheVariants as custody

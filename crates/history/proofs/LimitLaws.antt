@@ -5,7 +5,7 @@ use mathlib.Core.Bool.{false≢true}
 use borrow.Author.Tests.{eqb-false}
 use Rattle.octets.specs.Bytes.{same_bytes}
 use Rattle.octets.proofs.Compare.{same_refl}
-use Rattle.std.specs.declared.ContactId.{ContactId}
+use Rattle.courier_core.specs.declared.ContactId.{ContactId}
 use Rattle.table.specs.Lists.{All, none, more, any, filter, count_by}
 use Rattle.table.proofs.ListLaws.{all_imp, all_push, count_append}
 use Rattle.table.proofs.FindLaws.{any_none}

@@ -7,7 +7,7 @@ use mathlib.Core.Option as option
 use Rattle.octets.specs.Bytes.{same_bytes}
 use Rattle.octets.proofs.Compare.{same_eq}
 use Rattle.octets.proofs.Numbers.{bytes_take}
-use Rattle.std.specs.declared.ContactId.{ContactId}
+use Rattle.courier_core.specs.declared.ContactId.{ContactId}
 use Rattle.table.specs.declared.Found.{Found}
 use Rattle.table.specs.declared.Found.TheVariants.{At, Nothing}
 use Rattle.table.specs.Lists.{All, none, more, any, filter, position, position_from, is_at, remove_at, replace_at}

@@ -4,7 +4,7 @@ use Rattle.std.proofs.Common.{◌≡◌, ℕ, ◌+◌, ◌*◌, ◌<◌, ◌≤�
 use mathlib.Core.Bool.{false≢true}
 use borrow.Author.Tests.{eqb-false}
 use Rattle.octets.specs.Bytes.{splice}
-use Rattle.std.specs.declared.ContactId.{ContactId}
+use Rattle.courier_core.specs.declared.ContactId.{ContactId}
 use Rattle.table.specs.Lists.{All, filter, remove_at}
 use Rattle.table.proofs.ListLaws.{all_each, all_imp, all_get, all_push, all_insert_at, all_remove_at, all_filter}
 use Rattle.table.proofs.FindLaws.{position_first, any_none}

@@ -4,7 +4,7 @@ use Rattle.std.proofs.Common.{◌≡◌, ℕ, ◌+◌, ◌-◌, ◌*◌, ◌≤�
 use borrow.Author.Tests.{not-false}
 use Rattle.octets.specs.Bytes.{splice, same_bytes}
 use Rattle.octets.proofs.Compare.{same_eq}
-use Rattle.std.specs.declared.ContactId.{ContactId}
+use Rattle.courier_core.specs.declared.ContactId.{ContactId}
 use Rattle.table.specs.declared.Found.TheVariants.{At}
 use Rattle.table.specs.Lists.{position, remove_at, replace_at}
 use Rattle.table.proofs.ListLaws.{all_each, all_imp}

@@ -1,8 +1,8 @@
 -- The life of a carried row: the call that gives it, what calls take off it, and how it leaves. It is read off calls, answers and rows.
 -- Assumes nothing.
 use Rattle.std.specs.Prelude.{◌≡◌, ℕ, ◌≤◌, Bool, true, false, cond, ◌&&◌, List, [], ◌∷◌, slice_index_or}
-use Rattle.std.specs.declared.ContactId.{ContactId}
-use Rattle.std.specs.declared.Verification.{Verification}
+use Rattle.courier_core.specs.declared.ContactId.{ContactId}
+use Rattle.courier_core.specs.declared.Verification.{Verification}
 use Rattle.table.specs.Lists.{position}
 use Rattle.courier.specs.declared.Custody.{Custody}
 use Rattle.courier.specs.Tags.{commitment_of}

@@ -4,9 +4,9 @@ use Rattle.std.proofs.Common.{◌≡◌, ℕ, zero, suc, ◌*◌, ◌<◌, Bool,
 use lib.ListN.{length-replicate}
 use Rattle.octets.specs.Bytes.{Bytes, splice, part, num, be, same_bytes}
 use Rattle.octets.proofs.Compare.{same_refl}
-use Rattle.std.specs.declared.ContactId.{ContactId}
-use Rattle.std.specs.declared.Verification.{Verification}
-use Rattle.std.specs.declared.Verification.TheVariants as verification
+use Rattle.courier_core.specs.declared.ContactId.{ContactId}
+use Rattle.courier_core.specs.declared.Verification.{Verification}
+use Rattle.courier_core.specs.declared.Verification.TheVariants as verification
 use Rattle.table.specs.Rows as table
 use Rattle.table.specs.Lists as lists
 use Rattle.table.specs.Lists.{All, none, more}

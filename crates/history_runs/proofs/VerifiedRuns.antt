@@ -1,7 +1,7 @@
 -- A depositor that is verified, on fresh areas, computed: at 32 rows it is answered Full.
 -- Assumes nothing.
 use Rattle.std.proofs.Common.{◌≡◌, ℕ, zero, suc, List, [], ◌∷◌, ◌++◌, refl}
-use Rattle.std.specs.declared.Verification.TheVariants as verification
+use Rattle.courier_core.specs.declared.Verification.TheVariants as verification
 use Rattle.courier.specs.declared.Custody.TheVariants as custody
 use Rattle.rows.specs.declared.Reply.{Reply}
 use Rattle.rows.specs.declared.Action.{Action}

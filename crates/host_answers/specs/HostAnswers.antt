@@ -3,8 +3,8 @@
 -- Assumes nothing.
 use Rattle.std.specs.Prelude.{ℕ, cond, List, ◌==◌}
 use Rattle.std.proofs.Math.ListN as lists
-use Rattle.std.specs.Core.{refusalNumber}
-use Rattle.std.specs.declared.Refusal.{Refusal}
+use Rattle.courier_core.specs.Core.{refusalNumber}
+use Rattle.courier_core.specs.declared.Refusal.{Refusal}
 use Rattle.rows.specs.declared.Own.{Own}
 use Rattle.rows.specs.Rows.{own_bytes}
 use Rattle.chain.specs.declared.Windowed.{Windowed}

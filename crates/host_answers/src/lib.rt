@@ -69,10 +69,10 @@ pub fn answer_of(said: u8, replies: usize, actions: usize, length: usize) -> Ans
     }
 }
 
-pub fn refused(why: core::Refusal) -> Answer
+pub fn refused(why: courier_core::Refusal) -> Answer
     ensures { result ≡ refusing why }
 {
-    answer_of(core::refusal_number(why), 0, 0, 0)
+    answer_of(courier_core::refusal_number(why), 0, 0, 0)
 }
 
 pub fn contact_answer(said: contacts::Said) -> Answer

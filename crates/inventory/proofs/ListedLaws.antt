@@ -6,7 +6,7 @@ use mathlib.Core.Option.{Option, some, none}
 use lib.ListN.{length-replicate}
 use Rattle.octets.specs.Bytes.{part, splice, same_bytes}
 use Rattle.octets.proofs.Parts.{part_part, length_part}
-use Rattle.std.specs.declared.ContactId.{ContactId}
+use Rattle.courier_core.specs.declared.ContactId.{ContactId}
 use Rattle.table.specs.declared.Found.TheVariants.{At, Nothing}
 use Rattle.table.specs.Rows.{held}
 use Rattle.table.specs.Codec.{table_of}

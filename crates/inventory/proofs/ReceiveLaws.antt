@@ -4,8 +4,8 @@ use Rattle.std.proofs.Common.{◌≡◌, ℕ, ◌+◌, ◌*◌, ◌/◌, ◌%◌
 use mathlib.Core.List.{map-append, flat_map}
 use lib.ListN.{length-map}
 use Rattle.octets.specs.Bytes.{splice}
-use Rattle.std.specs.declared.ContactId.{ContactId}
-use Rattle.std.specs.declared.Refusal.{Refusal}
+use Rattle.courier_core.specs.declared.ContactId.{ContactId}
+use Rattle.courier_core.specs.declared.Refusal.{Refusal}
 use Rattle.table.specs.Rows.{held, rows, join, written}
 use Rattle.table.specs.Codec.{table_of, with_table}
 use Rattle.table.proofs.RowLaws.{held_all, length_rows, join_append, join_rows, splice_written, written_splice}

@@ -2,7 +2,7 @@
 -- Assumes nothing.
 use Rattle.std.specs.Prelude.{◌≡◌, ℕ, true, cond, List, [], ◌∷◌, ◌++◌, map, length}
 use mathlib.Core.List.{flat_map}
-use Rattle.std.specs.declared.ContactId.{ContactId}
+use Rattle.courier_core.specs.declared.ContactId.{ContactId}
 use Rattle.table.specs.Lists.{filter}
 use Rattle.table.specs.Codec.{table_of, with_table}
 use Rattle.rows.specs.declared.Own.{Own}

@@ -1,8 +1,8 @@
 // Inventories: the prefixes of what is held here, and what a peer's list of prefixes is answered with.
 ghost use Rattle.std.specs.Prelude.{◌≡◌, ◌+◌, ◌*◌, ◌/◌, ◌%◌, ◌<◌, ◌≤◌, min, not, ◌||◌, ◌++◌, map, length, take, nat_lt};
 ghost use mathlib.Core.List.{flat_map};
-ghost use Rattle.std.specs.Core.{first_of};
-ghost use Rattle.std.specs.declared.ContactId.{ContactId};
+ghost use Rattle.courier_core.specs.Core.{first_of};
+ghost use Rattle.courier_core.specs.declared.ContactId.{ContactId};
 ghost use Rattle.octets.specs.Bytes.{part, splice};
 ghost use Rattle.table.specs.Rows.{Fits, ragged};
 ghost use Rattle.table.specs.Codec.{table_of};
@@ -18,7 +18,7 @@ ghost use Rattle.offers.specs.Entries.{entries};
 ghost use Rattle.inventory.specs.Inventory.{prefix_for, prefix_of, inventory_says, held_in, tomb_of, offers_of, searched_of, replies_for, completed_with, lengthened_to, Terminated, Lengthened, received_says, received_in, Performs, Reads};
 ghost use Rattle.inventory.specs.declared.Test.TheVariants.{Refused, Passed};
 
-use core::{ContactId, Refusal};
+use courier_core::{ContactId, Refusal};
 use offers::Row;
 use rows::{Device, Exchange, Peer};
 use table::Found;

@@ -1,7 +1,7 @@
 -- A load is refused exactly if one of its tests holds, with the first that does, and then nothing changes.
 -- Assumes nothing.
 use Rattle.std.proofs.Common.{ℕ, List, length, refl}
-use Rattle.std.specs.declared.Refusal.{Refusal}
+use Rattle.courier_core.specs.declared.Refusal.{Refusal}
 use Rattle.model.specs.State.{State}
 use Rattle.model.specs.Calls.{Result, refused, only}
 use Rattle.model.proofs.RefusalLaws.{RefusedExactly, says, exactly, of_step}

@@ -2,8 +2,8 @@
 -- Assumes nothing.
 use Rattle.std.proofs.Common.{◌≡◌, ℕ, ◌<◌, ◌≤◌, Bool, true, false, cond, ◌||◌, leb, List, [], ◌∷◌, map, length, take, sym, refl, ap, ◌∙◌, subst}
 use mathlib.Core.Option.{Option, none}
-use Rattle.std.specs.declared.Refusal.{Refusal}
-use Rattle.std.specs.declared.Refusal.TheVariants as refusal
+use Rattle.courier_core.specs.declared.Refusal.{Refusal}
+use Rattle.courier_core.specs.declared.Refusal.TheVariants as refusal
 use Rattle.table.specs.Lists.{All, any}
 use Rattle.table.proofs.ListLaws.{all_imp, all_map}
 use Rattle.courier.proofs.Laws.{not_valid}

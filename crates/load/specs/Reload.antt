@@ -1,7 +1,7 @@
 -- What is asked of a state whose saved file is read back as it was written, and of the post that loads it.
 -- Assumes nothing.
 use Rattle.std.specs.Prelude.{◌≡◌, ◌^◌, ◌<◌, ◌≤◌, true, length, ◌≢◌}
-use Rattle.std.specs.declared.ContactId.{ContactId}
+use Rattle.courier_core.specs.declared.ContactId.{ContactId}
 use Rattle.table.specs.Lists.{All}
 use Rattle.courier.specs.Courier.{carried_length}
 use Rattle.rows.specs.declared.Carried.{Carried}

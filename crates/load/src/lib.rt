@@ -9,7 +9,7 @@ ghost use Rattle.rows.specs.Proper.{ProperCarried, ProperTombstone};
 ghost use Rattle.load.specs.Load.{carried_slot, tombstone_slot, carried_row, tombstone_row, loaded};
 ghost use Rattle.load.specs.Laying.{higher, Rise, Inserted, Carries, Room, Loads, Fine, Laid, device_with, load_lent, DoesLoad};
 
-use core::Refusal;
+use courier_core::Refusal;
 use load_tests::Tested;
 use rows::{Carried, Device, Tombstone};
 use state::HeldKind;

@@ -4,8 +4,8 @@ use Rattle.std.proofs.Common.{◌≡◌, ℕ, ◌+◌, ◌-◌, ◌/◌, ◌<◌
 use borrow.Author.Tests.{lt-leb}
 use Rattle.octets.specs.Bytes.{part, num, same_bytes}
 use Rattle.octets.proofs.Parts.{part_part, part_whole}
-use Rattle.std.specs.declared.ContactId.{ContactId}
-use Rattle.std.specs.declared.Refusal.TheVariants as refusal
+use Rattle.courier_core.specs.declared.ContactId.{ContactId}
+use Rattle.courier_core.specs.declared.Refusal.TheVariants as refusal
 use Rattle.table.specs.Lists.{any, count_by}
 use Rattle.table.specs.Rows.{has_key}
 use Rattle.table.proofs.ListLaws.{any_append}

@@ -8,7 +8,7 @@ ghost use Rattle.rows.specs.Rows.{contact_codec};
 ghost use Rattle.load_tests.specs.Records.{record_size, records, WholeAt, counted, SlotsOnce, Gathered};
 ghost use Rattle.load_tests.specs.Tests.{fails, kind_tests, row_tests, record_tests, carried_fails, RowAsked, cut_short, carried_count, holds, wrongs, load_tests, tested_as};
 
-use core::{ContactId, Refusal};
+use courier_core::{ContactId, Refusal};
 use state::HeldKind;
 
 // What the tests of a load say.

@@ -3,7 +3,7 @@
 use Rattle.std.proofs.Common.{◌≡◌, ℕ, ◌+◌, ◌*◌, ◌/◌, ◌<◌, ◌≤◌, not, List, [], ◌++◌, map, length, sym, refl, ap, ◌∙◌, ap₂, arith, le-ltb, lt-ltb}
 use lib.ListN.{length-map}
 use Rattle.octets.specs.Bytes.{splice}
-use Rattle.std.specs.declared.Refusal.TheVariants as refusal
+use Rattle.courier_core.specs.declared.Refusal.TheVariants as refusal
 use Rattle.table.specs.Lists.{filter}
 use Rattle.table.specs.Rows.{held, join, written}
 use Rattle.table.specs.Codec.{table_of, with_table, TableNow}

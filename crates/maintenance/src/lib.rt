@@ -10,7 +10,7 @@ ghost use Rattle.model.specs.Maintenance.{own_expired, carried_expired, tombston
 ghost use Rattle.model.specs.Lent.{Does, actions_lent};
 ghost use Rattle.maintenance.specs.Expiry.{live_row, Listed, Moving, Moved, Rewritten, maintained_device, maintained_of, lent_tables};
 
-use core::Refusal;
+use courier_core::Refusal;
 use rows::{Device, Own};
 
 // What the call answers: a refusal, or how many actions are listed.

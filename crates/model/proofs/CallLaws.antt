@@ -2,7 +2,7 @@
 -- Assumes nothing.
 use Rattle.std.proofs.Common.{◌≡◌, ℕ, Bool, true, false, List, [], ◌∷◌, refl, ap}
 use Rattle.octets.specs.Bytes.{splice}
-use Rattle.std.specs.declared.Refusal.{Refusal}
+use Rattle.courier_core.specs.declared.Refusal.{Refusal}
 use Rattle.table.specs.Rows.{join, written}
 use Rattle.table.specs.Codec.{with_table}
 use Rattle.model.specs.State.{Change, nothing}

@@ -7,7 +7,7 @@ use mathlib.Core.Option.{Option, some}
 use lib.Seq.{take-append_seam, drop-append-add, get_or-append_seam}
 use Rattle.octets.specs.Bytes.{be, same_bytes}
 use Rattle.octets.proofs.Compare.{same_refl, same_eq}
-use Rattle.std.specs.declared.ContactId.{ContactId}
+use Rattle.courier_core.specs.declared.ContactId.{ContactId}
 use Rattle.table.specs.declared.Found.{Found}
 use Rattle.table.specs.declared.Found.TheVariants.{At, Nothing}
 use Rattle.table.specs.Lists.{All, more, any, filter, position, position_from, is_at, insert_at, remove_at, replace_at, unwrap_or}

@@ -4,8 +4,8 @@ use Rattle.std.proofs.Common.{◌≡◌, ℕ, ◌/◌, ◌^◌, ◌<◌, min, Bo
 use mathlib.Core.Option as option
 use native.Mathlib.Nat.{min-le_right}
 use Rattle.octets.specs.Bytes.{Bytes}
-use Rattle.std.specs.declared.ContactId.{ContactId}
-use Rattle.std.specs.declared.Verification.{Verification}
+use Rattle.courier_core.specs.declared.ContactId.{ContactId}
+use Rattle.courier_core.specs.declared.Verification.{Verification}
 use Rattle.table.specs.Lists.{none}
 use Rattle.table.specs.Codec.{table_of}
 use Rattle.table.proofs.TableLaws.{table_proper}

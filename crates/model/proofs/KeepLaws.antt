@@ -1,8 +1,8 @@
 -- Every call keeps what the store needs (`Good`): each part that a call changes is shown to be in range and to fit.
 -- Assumes nothing.
 use Rattle.std.proofs.Common.{◌≡◌, ℕ, ◌*◌, ◌^◌, ◌<◌, ◌≤◌, Bool, true, false, cond, List, [], ◌∷◌, length, refl}
-use Rattle.std.specs.declared.Refusal.{Refusal}
-use Rattle.std.specs.Core.{first_of}
+use Rattle.courier_core.specs.declared.Refusal.{Refusal}
+use Rattle.courier_core.specs.Core.{first_of}
 use Rattle.table.specs.Lists.{All}
 use Rattle.state.specs.declared.CourierConfig.{CourierConfig}
 use Rattle.rows.specs.declared.Own.{Own}

@@ -4,7 +4,7 @@ use Rattle.std.proofs.Common.{◌≡◌, ℕ, ◌+◌, ◌-◌, ◌*◌, ◌^◌
 use native.Mathlib.Nat.{min-le_right}
 use lib.ListN.{length-map}
 use Rattle.octets.specs.Bytes.{splice}
-use Rattle.std.specs.declared.ContactId.{ContactId}
+use Rattle.courier_core.specs.declared.ContactId.{ContactId}
 use Rattle.table.specs.declared.Found.{Found}
 use Rattle.table.specs.declared.Found.TheVariants.{At, Nothing}
 use Rattle.table.specs.Lists.{All, none, filter, position, is_at, unwrap_or, insert_at, remove_at, replace_at}

@@ -5,10 +5,10 @@ use mathlib.Core.Bool.{false≢true}
 use native.Mathlib.Nat.{min-le_left, min-le_right}
 use lib.ListN.{length-map}
 use borrow.Author.Tests.{eqb-false}
-use Rattle.std.specs.Core.{verificationByte}
-use Rattle.std.specs.declared.ContactId.{ContactId}
-use Rattle.std.specs.declared.Verification.{Verification}
-use Rattle.std.specs.declared.Verification.TheVariants as verification
+use Rattle.courier_core.specs.Core.{verificationByte}
+use Rattle.courier_core.specs.declared.ContactId.{ContactId}
+use Rattle.courier_core.specs.declared.Verification.{Verification}
+use Rattle.courier_core.specs.declared.Verification.TheVariants as verification
 use Rattle.table.specs.declared.Found.{Found}
 use Rattle.table.specs.declared.Found.TheVariants.{At, Nothing}
 use Rattle.table.specs.Lists.{All, more, any, filter, position, is_at, unwrap_or, replace_at}

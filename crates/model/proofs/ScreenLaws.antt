@@ -5,7 +5,7 @@ use mathlib.Core.List.{map-append, Perm}
 use lib.ListN.{length-map}
 use lib.Seq.{take-append_seam, drop-append_seam}
 use Rattle.octets.proofs.Parts.{length_part}
-use Rattle.std.specs.declared.Refusal.TheVariants as refusal
+use Rattle.courier_core.specs.declared.Refusal.TheVariants as refusal
 use Rattle.table.specs.Lists.{All}
 use Rattle.table.specs.Lists as lists
 use Rattle.table.specs.Rows.{held as held_of, rows, join}

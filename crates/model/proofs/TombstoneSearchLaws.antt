@@ -5,7 +5,7 @@ use mathlib.Core.List.{flat_map}
 use mathlib.Core.Option.{Option, some, none}
 use lib.ListN.{length-map}
 use Rattle.octets.specs.Bytes.{same_bytes}
-use Rattle.std.specs.declared.ContactId.{ContactId}
+use Rattle.courier_core.specs.declared.ContactId.{ContactId}
 use Rattle.table.specs.declared.Found.{Found}
 use Rattle.table.specs.declared.Found.TheVariants.{At, Nothing}
 use Rattle.table.specs.Lists.{any, filter, count_by}

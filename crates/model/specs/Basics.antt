@@ -2,7 +2,7 @@
 -- Assumes nothing.
 use Rattle.std.specs.Prelude.{ℕ, Bool, cond, List, [], ◌∷◌, take, ◌==◌, nat_le}
 use Rattle.std.proofs.Math.Option.{Option, none, some}
-use Rattle.std.specs.declared.ContactId.{ContactId}
+use Rattle.courier_core.specs.declared.ContactId.{ContactId}
 use Rattle.table.specs.declared.Found.{Found}
 use Rattle.table.specs.declared.Found.TheVariants.{At, Nothing}
 

@@ -3,7 +3,7 @@
 use Rattle.std.specs.Prelude.{ℕ, Bool, true, cond, not, ◌&&◌, List, [], ◌∷◌, ◌++◌, map, length, ◌==◌, nat_lt, slice_index_or, slice_set}
 use mathlib.Core.List.{flat_map}
 use Rattle.octets.specs.Bytes.{same_bytes}
-use Rattle.std.specs.declared.ContactId.{ContactId}
+use Rattle.courier_core.specs.declared.ContactId.{ContactId}
 use Rattle.table.specs.Lists.{any, filter}
 use Rattle.rows.specs.declared.BadTag.{BadTag}
 use Rattle.rows.specs.declared.Tombstone.{Tombstone}

@@ -1,10 +1,10 @@
 -- The calls, what they answer, and how every call goes: the first refusal that holds, or what it performs.
 -- Assumes nothing.
 use Rattle.std.specs.Prelude.{ℕ, ◌+◌, ◌*◌, Bool, cond, ◌||◌, List, [], ◌∷◌, ◌++◌, replicate, nat_lt, slice_index}
-use Rattle.std.specs.Core.{first_of}
-use Rattle.std.specs.declared.ContactId.{ContactId}
-use Rattle.std.specs.declared.Verification.{Verification}
-use Rattle.std.specs.declared.Refusal.{Refusal}
+use Rattle.courier_core.specs.Core.{first_of}
+use Rattle.courier_core.specs.declared.ContactId.{ContactId}
+use Rattle.courier_core.specs.declared.Verification.{Verification}
+use Rattle.courier_core.specs.declared.Refusal.{Refusal}
 use Rattle.chain.specs.declared.Dir.{Dir}
 use Rattle.courier.specs.declared.Header.{Header}
 use Rattle.courier.specs.declared.Custody.{Custody}

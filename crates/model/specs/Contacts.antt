@@ -1,11 +1,11 @@
 -- The clock in minutes, contacts, and the calls that set them: contact, setting, clock, fresh exchange.
 -- Assumes nothing.
 use Rattle.std.specs.Prelude.{ℕ, ◌+◌, ◌/◌, min, Bool, false, not, ◌&&◌, List, [], ◌∷◌, ◌++◌, length, nat_eq, nat_le, slice_index_or}
-use Rattle.std.specs.Core.{verificationByte}
-use Rattle.std.specs.declared.ContactId.{ContactId}
-use Rattle.std.specs.declared.Verification.{Verification}
-use Rattle.std.specs.declared.Refusal.{Refusal}
-use Rattle.std.specs.declared.Refusal.TheVariants as refusal
+use Rattle.courier_core.specs.Core.{verificationByte}
+use Rattle.courier_core.specs.declared.ContactId.{ContactId}
+use Rattle.courier_core.specs.declared.Verification.{Verification}
+use Rattle.courier_core.specs.declared.Refusal.{Refusal}
+use Rattle.courier_core.specs.declared.Refusal.TheVariants as refusal
 use Rattle.table.specs.declared.Found.{Found}
 use Rattle.table.specs.Lists.{any, position, unwrap_or, replace_at}
 use Rattle.state.specs.declared.CourierConfig.{CourierConfig}

@@ -3,7 +3,7 @@
 use Rattle.std.specs.Prelude.{ℕ, List, []}
 use Rattle.rows.specs.declared.Device.{Device}
 use Rattle.rows.specs.declared.Exchange.{Exchange}
-use Rattle.std.specs.declared.Refusal.{Refusal}
+use Rattle.courier_core.specs.declared.Refusal.{Refusal}
 use Rattle.model.specs.Calls.{Call, Answer, Result, refused, malformed, done, ours, found, missing, own_row, no_envelope, wrote}
 use Rattle.model.specs.Step.{step}
 use Rattle.model.specs.Areas.{Areas, SessionAreas, AnswerAreas, Written, view, with_session_areas}

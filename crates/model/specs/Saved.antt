@@ -3,8 +3,8 @@
 use Rattle.std.specs.Prelude.{◌≡◌, ℕ, ◌+◌, ◌*◌, Bool, List, [], ◌∷◌, ◌++◌, map, length, take, nat_eq, nat_lt}
 use mathlib.Core.List.{Perm}
 use Rattle.octets.specs.Bytes.{be}
-use Rattle.std.specs.declared.Refusal.{Refusal}
-use Rattle.std.specs.declared.Refusal.TheVariants as refusal
+use Rattle.courier_core.specs.declared.Refusal.{Refusal}
+use Rattle.courier_core.specs.declared.Refusal.TheVariants as refusal
 use Rattle.table.specs.Rows.{join}
 use Rattle.state.specs.Held.{Held, held_row}
 use Rattle.state.specs.Held as held

@@ -1,8 +1,8 @@
 -- The post's screen page: every held row by slot, 19 to a page, a line each.
 -- Assumes nothing.
 use Rattle.std.specs.Prelude.{ℕ, ◌-◌, ◌*◌, Bool, cond, List, [], ◌∷◌, ◌++◌, map, take, drop, nat_lt}
-use Rattle.std.specs.declared.Refusal.{Refusal}
-use Rattle.std.specs.declared.Refusal.TheVariants as refusal
+use Rattle.courier_core.specs.declared.Refusal.{Refusal}
+use Rattle.courier_core.specs.declared.Refusal.TheVariants as refusal
 use Rattle.table.specs.Rows.{join}
 use Rattle.columns.specs.Columns.{blank, blanks, column, hexes}
 use Rattle.rows.specs.declared.Carried.{Carried}

@@ -1,7 +1,7 @@
 -- A call, and a list of calls.
 -- Assumes nothing.
 use Rattle.std.specs.Prelude.{ℕ, Bool, List, [], ◌∷◌, length, slice_index_or, slice_set}
-use Rattle.std.specs.declared.Refusal.{Refusal}
+use Rattle.courier_core.specs.declared.Refusal.{Refusal}
 use Rattle.state.specs.declared.CourierConfig.{CourierConfig}
 use Rattle.model.specs.State.{State, Session, apply, no_session, with_session}
 use Rattle.model.specs.Calls

@@ -1,9 +1,9 @@
 -- `store_tombstone` and `receive_tomb`, and what follows local opening: the calls stored tombstone, tomb, report opened, report failed.
 -- Assumes nothing.
 use Rattle.std.specs.Prelude.{ℕ, suc, ◌+◌, ◌^◌, min, Bool, false, cond, not, ◌&&◌, ◌||◌, ltb, List, [], ◌∷◌, ◌++◌, length, nat_le, nat_lt, slice_index_or}
-use Rattle.std.specs.declared.ContactId.{ContactId}
-use Rattle.std.specs.declared.Refusal.{Refusal}
-use Rattle.std.specs.declared.Refusal.TheVariants as refusal
+use Rattle.courier_core.specs.declared.ContactId.{ContactId}
+use Rattle.courier_core.specs.declared.Refusal.{Refusal}
+use Rattle.courier_core.specs.declared.Refusal.TheVariants as refusal
 use Rattle.table.specs.Lists.{any, position, unwrap_or, insert_at, remove_at}
 use Rattle.courier.specs.Tags.{commitment_of, tombstone_matches}
 use Rattle.rows.specs.declared.Own.{Own}

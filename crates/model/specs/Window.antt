@@ -2,7 +2,7 @@
 -- Assumes nothing.
 use Rattle.std.specs.Prelude.{ℕ, ◌/◌, Bool, true, not, ◌&&◌, ◌||◌, List, [], ◌∷◌, length, take, ◌==◌, nat_lt}
 use Rattle.octets.specs.Bytes.{same_bytes}
-use Rattle.std.specs.declared.ContactId.{ContactId}
+use Rattle.courier_core.specs.declared.ContactId.{ContactId}
 use Rattle.table.specs.Rows.{ragged}
 use Rattle.chain.specs.Chain.{dir_of, no_dir}
 use Rattle.table.specs.declared.Found.{Found}

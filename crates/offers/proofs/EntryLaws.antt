@@ -5,7 +5,7 @@ use mathlib.Core.List.{map-append, flat_map}
 use lib.ListN
 use lib.ListN.{length-map, get_or-append}
 use Rattle.octets.specs.Bytes.{part}
-use Rattle.std.specs.declared.ContactId.{ContactId}
+use Rattle.courier_core.specs.declared.ContactId.{ContactId}
 use Rattle.table.specs.Lists.{filter}
 use Rattle.table.specs.Rows.{held}
 use Rattle.table.specs.Codec.{table_of}

@@ -4,7 +4,7 @@ use Rattle.std.proofs.Common.{◌≡◌, ℕ, ◌+◌, ◌*◌, ◌<◌, ◌≤�
 use mathlib.Core.List.{map-append}
 use Rattle.octets.specs.Bytes.{part, same_bytes}
 use Rattle.octets.proofs.Parts.{part_part, part_whole}
-use Rattle.std.specs.declared.ContactId.{ContactId}
+use Rattle.courier_core.specs.declared.ContactId.{ContactId}
 use Rattle.table.specs.Lists.{any, count_by}
 use Rattle.table.specs.Rows.{held}
 use Rattle.table.specs.Codec.{table_of}

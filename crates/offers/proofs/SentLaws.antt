@@ -2,7 +2,7 @@
 -- Assumes nothing.
 use Rattle.std.proofs.Common.{◌≡◌, ℕ, Bool, true, false, cond, List, [], ◌∷◌, map, length, sym, refl, ap, ◌∙◌}
 use lib.ListN.{length-map}
-use Rattle.std.specs.declared.ContactId.{ContactId}
+use Rattle.courier_core.specs.declared.ContactId.{ContactId}
 use Rattle.table.specs.Lists.{filter}
 use Rattle.table.proofs.ListLaws.{count_filter}
 use Rattle.rows.specs.declared.Own.{Own}

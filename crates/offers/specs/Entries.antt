@@ -2,7 +2,7 @@
 -- Assumes nothing.
 use Rattle.std.specs.Prelude.{ℕ, ◌-◌, ◌*◌, Bool, true, cond, ◌&&◌, List, ◌++◌, map, nat_lt}
 use Rattle.octets.specs.Bytes.{part}
-use Rattle.std.specs.declared.ContactId.{ContactId}
+use Rattle.courier_core.specs.declared.ContactId.{ContactId}
 use Rattle.rows.specs.declared.Own.{Own}
 use Rattle.rows.specs.declared.Carried.{Carried}
 use Rattle.rows.specs.Rows.{own_of, carried_of}

@@ -1,6 +1,6 @@
 // What is offered to a peer: of the rows held here, own rows first, those that are offered are flagged; then the flagged ones are written, as replies and as offers.
 ghost use Rattle.std.specs.Prelude.{◌≡◌, ◌+◌, ◌*◌, ◌/◌, ◌<◌, ◌≤◌, ◌&&◌, length, nat_lt};
-ghost use Rattle.std.specs.declared.ContactId.{ContactId};
+ghost use Rattle.courier_core.specs.declared.ContactId.{ContactId};
 ghost use Rattle.table.specs.Codec.{table_of};
 ghost use Rattle.rows.specs.Rows.{own_codec, carried_codec, tombstone_codec};
 ghost use Rattle.model.specs.Window.{prefix_codec};
@@ -8,7 +8,7 @@ ghost use Rattle.model.specs.Exchange.{own_envelope_of, carried_envelope_of, hal
 ghost use Rattle.offers.specs.Entries.{held_envelopes, envelope_at, own_entry, carried_entry, entries, entry_at, row_of};
 ghost use Rattle.offers.specs.Offers.{half_of, offered_of, Inserted, Handed, ListsOffers, halves_of, WritesOffers};
 
-use core::ContactId;
+use courier_core::ContactId;
 use courier::Header;
 use rows::{Carried, Offer, Own};
 use table::Found;

@@ -2,8 +2,8 @@
 -- Assumes nothing.
 use Rattle.std.proofs.Common.{◌≡◌, ℕ, ◌*◌, Bool, true, false, cond, not, ◌&&◌, List, [], map, length, sym, refl, ap, ◌∙◌, ap₂}
 use Rattle.octets.specs.Bytes.{splice}
-use Rattle.std.specs.declared.ContactId.{ContactId}
-use Rattle.std.specs.declared.Refusal.TheVariants as refusal
+use Rattle.courier_core.specs.declared.ContactId.{ContactId}
+use Rattle.courier_core.specs.declared.Refusal.TheVariants as refusal
 use Rattle.chain.specs.declared.Dir.{Dir}
 use Rattle.courier.specs.Tags.{route_tag}
 use Rattle.table.specs.declared.Found.{Found}

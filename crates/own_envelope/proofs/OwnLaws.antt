@@ -12,7 +12,7 @@ use Rattle.table.specs.Rows.{held}
 use Rattle.table.specs.Codec.{table_of, TableNow}
 use Rattle.table.proofs.FindLaws.{position_le}
 use Rattle.table.proofs.TableLaws.{length_table}
-use Rattle.std.specs.declared.ContactId.{ContactId}
+use Rattle.courier_core.specs.declared.ContactId.{ContactId}
 use Rattle.rows.specs.declared.Contact.{Contact}
 use Rattle.rows.specs.declared.Own.{Own}
 use Rattle.rows.specs.Rows.{own_codec, contact_codec}

@@ -1,7 +1,7 @@
 -- What the own envelope call answers and is lent, and the parts of what it does.
 -- Assumes nothing.
 use Rattle.std.specs.Prelude.{ℕ, List, length, replicate}
-use Rattle.std.specs.declared.ContactId.{ContactId}
+use Rattle.courier_core.specs.declared.ContactId.{ContactId}
 use Rattle.table.specs.Lists.{position, unwrap_or}
 use Rattle.rows.specs.declared.Device.{Device}
 use Rattle.rows.specs.declared.Contact.{Contact}

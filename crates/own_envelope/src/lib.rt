@@ -11,7 +11,7 @@ ghost use Rattle.model.specs.Lent.{Does, no_answers};
 ghost use Rattle.own_envelope.specs.OwnEnvelope.{no_row, own_says, lent_own, own_device, made_own, own_place};
 
 use chain::Dir;
-use core::{ContactId, Refusal};
+use courier_core::{ContactId, Refusal};
 use rows::{Device, Own};
 use table::Found;
 

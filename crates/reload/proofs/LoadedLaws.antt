@@ -8,7 +8,7 @@ use Rattle.octets.specs.Bytes.{Bytes, part, num, be, same_bytes}
 use Rattle.octets.proofs.Compare.{same_refl}
 use Rattle.octets.proofs.Parts.{length_part, part_part}
 use Rattle.octets.proofs.Numbers.{bytes_drop, bytes_part, num_part_lt, be_num_part}
-use Rattle.std.specs.declared.ContactId.{ContactId}
+use Rattle.courier_core.specs.declared.ContactId.{ContactId}
 use Rattle.table.specs.Lists.{All, count_by, position, unwrap_or, insert_at}
 use Rattle.table.specs.Lists as lists
 use Rattle.table.proofs.ListLaws.{all_imp, count_append}

@@ -1,10 +1,10 @@
 // The calls of a sample that set, hold, list and hand over: each is made with the inputs of its record, on the areas of a post, and
 // says what it answered.
-ghost use Rattle.core.specs.Prelude.{◌≤◌};
+ghost use Rattle.std.specs.Prelude.{◌≤◌};
 
 use chain::{Dir, DirRead};
 use contacts::{Answered, Opened, Said};
-use core::{ContactId, Refusal, Verification};
+use courier_core::{ContactId, Refusal, Verification};
 use courier::{Custody, CustodyRead, Header};
 use inventory::Listed;
 use own_envelope::Made;
@@ -64,7 +64,7 @@ pub fn answer_of(said: u8, replies: usize, actions: usize, length: usize) -> Ans
 }
 
 pub fn refused(why: Refusal) -> Answer {
-    answer_of(core::refusal_number(why), 0, 0, 0)
+    answer_of(courier_core::refusal_number(why), 0, 0, 0)
 }
 
 pub fn outcome_of(device: Device, exchange: Exchange, answer: Answer) -> Outcome {

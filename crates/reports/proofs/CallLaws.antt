@@ -3,9 +3,9 @@
 use Rattle.std.proofs.Common.{◌≡◌, ℕ, ◌+◌, ◌*◌, ◌/◌, ◌<◌, ◌≤◌, min, Bool, true, false, cond, not, ◌&&◌, ◌||◌, ltb, leb, List, [], ◌∷◌, ◌++◌, length, sym, refl, ap, ◌∙◌, subst, ap₂, arith, ltb-false, le-leb}
 use borrow.Author.Tests.{lt-leb}
 use Rattle.octets.specs.Bytes.{splice}
-use Rattle.std.specs.declared.ContactId.{ContactId}
-use Rattle.std.specs.declared.Refusal.{Refusal}
-use Rattle.std.specs.declared.Refusal.TheVariants as refusal
+use Rattle.courier_core.specs.declared.ContactId.{ContactId}
+use Rattle.courier_core.specs.declared.Refusal.{Refusal}
+use Rattle.courier_core.specs.declared.Refusal.TheVariants as refusal
 use Rattle.table.specs.Rows.{held}
 use Rattle.table.specs.Codec.{table_of, TableNow}
 use Rattle.table.proofs.TableLaws.{length_table, with_one}

@@ -10,7 +10,7 @@ ghost use Rattle.tombs.specs.Tombs.{says};
 ghost use Rattle.reports.specs.Reports.{opened_lent, failed_lent};
 
 use contacts::known;
-use core::{ContactId, Refusal};
+use courier_core::{ContactId, Refusal};
 use rows::{BadTag, Device};
 use tombs::{Outcome, Said};
 use tombstones::{Choice, short_actions, store_choice, store_tombstone};

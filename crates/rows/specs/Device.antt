@@ -1,7 +1,7 @@
 -- The state that goes by value, at its start, and an exchange as it is opened.
 -- Assumes nothing.
 use Rattle.std.specs.Prelude.{false}
-use Rattle.std.specs.declared.ContactId.{ContactId}
+use Rattle.courier_core.specs.declared.ContactId.{ContactId}
 use Rattle.state.specs.Config.{config_default}
 use Rattle.rows.specs.declared.Device.{Device}
 use Rattle.rows.specs.declared.Exchange.{Exchange}

@@ -5,7 +5,7 @@ ghost use Rattle.octets.specs.Bytes.{part, splice, num, be};
 ghost use Rattle.rows.specs.Rows.{carried_width, carried_of, carried_bytes, own_width, own_of, own_bytes, tombstone_width, tombstone_of, tombstone_bytes, contact_width, contact_of, contact_bytes, bad_tag_width, bad_tag_of, bad_tag_bytes, offer_width, offer_of, offer_bytes, reply_width, reply_of, reply_bytes, action_width, action_of, action_bytes, reachable_width, reachable_of, reachable_bytes};
 ghost use Rattle.rows.specs.Device.{fresh_device, closed_exchange, fresh_exchange};
 
-use core::ContactId;
+use courier_core::ContactId;
 use state::CourierConfig;
 
 // A carried envelope. Its ciphertext is the first len bytes of its cell.

@@ -3,7 +3,7 @@
 use Rattle.std.proofs.Common.{◌≡◌, ℕ, ◌+◌, ◌*◌, ◌<◌, ◌≤◌, Bool, true, eqb, List, [], ◌++◌, map, length, get_or, sym, refl, ap, ◌∙◌, append-nil, arith, le-ltb, lt-ltb}
 use mathlib.Core.Option.{Option, some}
 use Rattle.octets.specs.Bytes.{part}
-use Rattle.std.specs.declared.Refusal.TheVariants as refusal
+use Rattle.courier_core.specs.declared.Refusal.TheVariants as refusal
 use Rattle.table.specs.declared.Found.TheVariants.{At, Nothing}
 use Rattle.table.specs.Lists.{position, filter}
 use Rattle.table.specs.Rows.{held}

@@ -4,7 +4,7 @@ use Rattle.std.proofs.Common.{◌≡◌, ℕ, ◌+◌, ◌*◌, ◌/◌, ◌≤�
 use mathlib.Core.List.{map-map}
 use lib.Seq.{take-append_seam}
 use Rattle.octets.specs.Bytes.{splice}
-use Rattle.std.specs.declared.Refusal.TheVariants as refusal
+use Rattle.courier_core.specs.declared.Refusal.TheVariants as refusal
 use Rattle.table.specs.Rows.{held, rows}
 use Rattle.table.specs.Codec.{Codec, table_of}
 use Rattle.table.proofs.ListLaws.{map_take}

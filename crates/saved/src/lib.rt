@@ -13,7 +13,7 @@ ghost use Rattle.saved.specs.Blobs.{has_slot, carried_in_slot, tombstone_in_slot
 ghost use Rattle.by_slot.specs.BySlot.{Reached};
 ghost use Rattle.saved.specs.Saving.{RecordPut, Recorded, RoomFor, More, left, Rooms, Records, Filled, save_says};
 
-use core::Refusal;
+use courier_core::Refusal;
 use octets::least;
 use rows::{Carried, Device, Tombstone};
 use state::RowAnswer;

@@ -5,7 +5,7 @@ use mathlib.Core.List.{map-map}
 use lib.ListN.{length-map}
 use Rattle.octets.specs.Bytes.{splice}
 use Rattle.octets.proofs.Parts.{splice_then}
-use Rattle.std.specs.declared.Refusal.TheVariants as refusal
+use Rattle.courier_core.specs.declared.Refusal.TheVariants as refusal
 use Rattle.table.specs.Rows.{held, rows, join}
 use Rattle.table.specs.Codec.{table_of}
 use Rattle.table.proofs.RowLaws.{length_rows}

@@ -8,7 +8,7 @@ ghost use Rattle.by_slot.specs.BySlot.{Reached};
 ghost use Rattle.screen.specs.Page.{InTables, Passed, RowPut, RowsFit, RowsPut, page_says, held_in};
 
 use columns::{put_blanks, put_column, put_hex};
-use core::{ContactId, Refusal};
+use courier_core::{ContactId, Refusal};
 use rows::{Carried, Device, Tombstone};
 
 // A line, its end among its bytes; the most rows of a page; the area that is asked for: heading and rows.

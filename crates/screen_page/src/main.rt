@@ -1,5 +1,5 @@
 // Pages of the post's screen, printed as they are. Before each a line says what is shown, and how many bytes were answered.
-use core::ContactId;
+use courier_core::ContactId;
 use libc::STDOUT_FILENO;
 use rows::{Carried, Device, Tombstone};
 use screen::PageAnswer;
@@ -184,7 +184,7 @@ fn show(what: &[u8], post: Post, page: u64, size: usize) {
     match screen::page(post.device, page, &carried, &tombstones, area) {
         PageAnswer::Refused(why) => {
             text(b": refused");
-            number(core::refusal_number(why) as u64);
+            number(courier_core::refusal_number(why) as u64);
             text(b", left alone");
             number(left_alone(area) as u64);
             end();

@@ -2,7 +2,7 @@
 -- Assumes nothing.
 use Rattle.std.proofs.Common.{◌≡◌, ℕ, ◌≤◌, Bool, true, false, ◌&&◌, leb, refl, le-leb, leb-true}
 use Rattle.courier.proofs.Laws.{both}
-use Rattle.std.specs.declared.Refusal.TheVariants as refusal
+use Rattle.courier_core.specs.declared.Refusal.TheVariants as refusal
 use Rattle.state.specs.declared.Configured.TheVariants as configured
 use Rattle.state.specs.Config.{in_range, config_new, IsConfigured}
 

@@ -6,7 +6,7 @@ use Rattle.octets.specs.Bytes.{splice, be}
 use Rattle.octets.proofs.Parts.{splice_then, splice_all}
 use Rattle.octets.proofs.Numbers.{length_be}
 use Rattle.courier.specs.Courier.{header_bytes}
-use Rattle.std.specs.declared.Refusal.TheVariants as refusal
+use Rattle.courier_core.specs.declared.Refusal.TheVariants as refusal
 use Rattle.state.specs.declared.Carried.{Carried}
 use Rattle.state.specs.declared.Tombstone.{Tombstone}
 use Rattle.state.specs.declared.RowAnswer.TheVariants as rowAnswer

@@ -1,8 +1,8 @@
 -- Document 01's `CourierConfig::new` and its default.
 -- Assumes nothing.
 use Rattle.std.specs.Prelude.{◌≡◌, ℕ, Bool, true, cond, ◌&&◌, nat_le}
-use Rattle.std.specs.Core.{refusalNumber}
-use Rattle.std.specs.declared.Refusal.TheVariants as refusal
+use Rattle.courier_core.specs.Core.{refusalNumber}
+use Rattle.courier_core.specs.declared.Refusal.TheVariants as refusal
 use Rattle.state.specs.declared.CourierConfig.{CourierConfig}
 use Rattle.state.specs.declared.Configured.{Configured}
 use Rattle.state.specs.declared.Configured.TheVariants as configured

@@ -5,7 +5,7 @@ ghost use Rattle.state.specs.Config.{IsConfigured, config_default};
 ghost use Rattle.state.specs.Held.{carried, tombstone, no_carried, no_tombstone, carried_head, held_row, RowWritten, carried_in, tombstone_in, kind_of, held_decode, held_read};
 ghost use Rattle.state.specs.Reader.{byte_at, array_at, u32_at, u64_at};
 
-use core::{ContactId, Refusal};
+use courier_core::{ContactId, Refusal};
 use courier::Header;
 
 // Does this device carry for others, with how many copies at most, and for how many minutes.

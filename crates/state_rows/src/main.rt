@@ -1,6 +1,6 @@
 // Boundary values of courier and state, one short line for each.
 use chain::Dir;
-use core::ContactId;
+use courier_core::ContactId;
 use courier::{Custody, CustodyRead, Header};
 use libc::STDOUT_FILENO;
 use state::{Carried, Configured, CourierConfig, HeldKind, RowAnswer, Tombstone};
@@ -159,7 +159,7 @@ fn show_new(enabled: bool, copies: u8, lifetime: u16) {
     match CourierConfig::new(enabled, copies, lifetime) {
         Configured::Refused(why) => {
             text(b" refused");
-            number(core::refusal_number(why) as u64);
+            number(courier_core::refusal_number(why) as u64);
             end();
         }
         Configured::As(config) => show_config(config),
@@ -212,7 +212,7 @@ fn show_answer(r: RowAnswer) {
     match r {
         RowAnswer::Refused(why) => {
             text(b" refused");
-            number(core::refusal_number(why) as u64);
+            number(courier_core::refusal_number(why) as u64);
         }
         RowAnswer::Written(n) => {
             text(b" written");

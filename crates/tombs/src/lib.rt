@@ -15,7 +15,7 @@ ghost use Rattle.tombs.specs.Tombs.{Meets, higher, device_with, Ends, EndsBy, sa
 
 use answers::put_courier;
 use contacts::known;
-use core::{ContactId, Refusal};
+use courier_core::{ContactId, Refusal};
 use rows::{Carried, Device, Tombstone};
 use table::Found;
 use tombstones::{Choice, Storing, short_actions, store_choice, store_tombstone};

@@ -1,9 +1,9 @@
 -- Laws of the calls that store a tombstone: what the choice says of the model's tests, and what storing leaves in the areas.
 -- Assumes nothing.
 use Rattle.std.proofs.Common.{◌≡◌, ℕ, ◌+◌, ◌*◌, ◌/◌, Bool, true, false, cond, ltb, List, [], ◌∷◌, ◌++◌, map, length, sym, refl, ap, ◌∙◌, arith}
-use Rattle.std.specs.declared.Refusal.{Refusal}
-use Rattle.std.specs.declared.Refusal.TheVariants as refusal
-use Rattle.std.specs.Core.{first_of}
+use Rattle.courier_core.specs.declared.Refusal.{Refusal}
+use Rattle.courier_core.specs.declared.Refusal.TheVariants as refusal
+use Rattle.courier_core.specs.Core.{first_of}
 use Rattle.octets.specs.Bytes.{splice}
 use Rattle.table.specs.Rows.{join, written}
 use Rattle.table.specs.Codec.{with_table}

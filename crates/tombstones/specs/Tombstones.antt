@@ -1,9 +1,9 @@
 -- What the functions say of the tombstones, by the model's definitions.
 -- Assumes nothing.
 use Rattle.std.specs.Prelude.{◌≡◌, ℕ, ◌+◌, ◌-◌, ◌*◌, ◌/◌, ◌<◌, ◌≤◌, Bool, cond, List, [], ◌∷◌, ◌++◌, map, length, nat_le}
-use Rattle.std.specs.Core.{first_of}
-use Rattle.std.specs.declared.Refusal.{Refusal}
-use Rattle.std.specs.declared.Refusal.TheVariants as refusal
+use Rattle.courier_core.specs.Core.{first_of}
+use Rattle.courier_core.specs.declared.Refusal.{Refusal}
+use Rattle.courier_core.specs.declared.Refusal.TheVariants as refusal
 use Rattle.octets.specs.Bytes.{Bytes, splice}
 use Rattle.table.specs.Rows.{held, join}
 use Rattle.table.specs.Codec.{table_of, with_table, TableNow}

@@ -10,7 +10,7 @@ ghost use Rattle.model.specs.Tombs.{tombstoned as someTombstone, no_tombstone};
 ghost use Rattle.model.specs.Lent.{Does, actions_lent};
 ghost use Rattle.tombstones.specs.Tombstones.{Least, ChoiceOf, RoomFor, Room, space_for, spare_at, Pushed, HasSlot, device_after, new_tombstone, Grown, Stores, says_stored, tombstones_lent};
 
-use core::Refusal;
+use courier_core::Refusal;
 use rows::{Device, Tombstone};
 
 // What storing a tombstone does: nothing if its tag has one, and the one at a place goes first if there are too many.

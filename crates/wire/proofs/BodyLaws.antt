@@ -3,7 +3,7 @@ use Rattle.std.proofs.Common.{◌≡◌, ℕ, ◌≤◌, Bool, true, false, cond
 use mathlib.Core.Option.{Option, none, some}
 use Rattle.octets.specs.Bytes.{part, num}
 use Rattle.courier.specs.Courier.{from_code}
-use Rattle.std.specs.declared.Verification.{Verification}
+use Rattle.courier_core.specs.declared.Verification.{Verification}
 use Rattle.courier.specs.declared.Custody.{Custody}
 use Rattle.wire.specs.declared.Mark.{Mark}
 use Rattle.wire.specs.declared.Mark.TheVariants as mark

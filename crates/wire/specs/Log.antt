@@ -3,9 +3,9 @@
 use Rattle.std.specs.Prelude.{ℕ, ◌-◌, ◌%◌, Bool, true, false, cond, ◌&&◌, List, length, drop, ◌==◌, nat_le, nat_lt}
 use Rattle.std.proofs.Math.Option.{Option, none, some}
 use Rattle.octets.specs.Bytes.{part, num}
-use Rattle.std.specs.declared.ContactId.{ContactId}
-use Rattle.std.specs.declared.Verification.{Verification}
-use Rattle.std.specs.declared.Verification.TheVariants as verification
+use Rattle.courier_core.specs.declared.ContactId.{ContactId}
+use Rattle.courier_core.specs.declared.Verification.{Verification}
+use Rattle.courier_core.specs.declared.Verification.TheVariants as verification
 use Rattle.courier.specs.declared.Header.{Header}
 use Rattle.courier.specs.declared.Custody.{Custody}
 use Rattle.courier.specs.declared.CustodyRead.{CustodyRead}

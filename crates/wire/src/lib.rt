@@ -5,7 +5,7 @@ ghost use Rattle.wire.specs.declared.Mark.TheVariants as mark;
 ghost use Rattle.wire.specs.Log.{mark_of, shaped, fits, head_of, peer_in, values_of, body_of};
 ghost use Rattle.wire.specs.Read.{read_as, Told};
 
-use core::{ContactId, Verification};
+use courier_core::{ContactId, Verification};
 use courier::{Custody, CustodyRead};
 
 // ---- the head

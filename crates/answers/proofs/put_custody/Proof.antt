@@ -1,6 +1,6 @@
 -- The body is the tag and the code.
 use mathlib.Core.Path.{ap, ◌∙◌}
-use Rattle.core.specs.Prelude.{ℕ, ◌∷◌, ◌++◌, replicate}
+use Rattle.std.specs.Prelude.{ℕ, ◌∷◌, ◌++◌, replicate}
 use Rattle.answers.proofs.Laws.{reply_body}
 use borrow.Author.Rules.{rules}
 use Rattle.answers.proofs.put_custody.Statement.{statement}

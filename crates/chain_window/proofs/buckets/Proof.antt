@@ -1,5 +1,5 @@
 -- `chain_window::buckets` is safe and ends: n counts up to 5,000. Assumes nothing.
-use Rattle.core.specs.Prelude.{◌-◌, ◌≤◌}
+use Rattle.std.specs.Prelude.{◌-◌, ◌≤◌}
 use borrow.Author.Rules.{rules}
 use Rattle.chain_window.proofs.buckets.Statement.{statement}
 use Rattle.chain_window.proofs.buckets.Tie as tie

@@ -1,5 +1,5 @@
 -- `chain_window::kept` is safe and ends: what is left of the area falls. Assumes nothing.
-use Rattle.core.specs.Prelude.{◌-◌, ◌≤◌, length}
+use Rattle.std.specs.Prelude.{◌-◌, ◌≤◌, length}
 use borrow.Author.Rules.{rules}
 use Rattle.chain_window.proofs.kept.Statement.{statement}
 use Rattle.chain_window.proofs.kept.Tie as tie

@@ -1,5 +1,5 @@
 -- `chain_window::labels` is safe and ends: b counts up to 255. Assumes nothing.
-use Rattle.core.specs.Prelude.{◌-◌, ◌≤◌}
+use Rattle.std.specs.Prelude.{◌-◌, ◌≤◌}
 use borrow.Author.Rules.{rules}
 use Rattle.chain_window.proofs.labels.Statement.{statement}
 use Rattle.chain_window.proofs.labels.Tie as tie

@@ -1,5 +1,5 @@
 -- `chain_window::put_skipped` is safe and ends: i counts up to 501, and the area keeps its length. Assumes nothing.
-use Rattle.core.specs.Prelude.{◌≡◌, ◌-◌, ◌≤◌, length}
+use Rattle.std.specs.Prelude.{◌≡◌, ◌-◌, ◌≤◌, length}
 use borrow.Author.Rules.{rules}
 use Rattle.chain_window.proofs.put_skipped.Statement.{statement}
 use Rattle.chain_window.proofs.put_skipped.Tie as tie

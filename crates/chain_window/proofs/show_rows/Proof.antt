@@ -1,5 +1,5 @@
 -- `chain_window::show_rows` is safe and ends: i counts up to n. Assumes nothing.
-use Rattle.core.specs.Prelude.{◌-◌, ◌≤◌}
+use Rattle.std.specs.Prelude.{◌-◌, ◌≤◌}
 use borrow.Author.Rules.{rules}
 use Rattle.chain_window.proofs.show_rows.Statement.{statement}
 use Rattle.chain_window.proofs.show_rows.Tie as tie

@@ -1,5 +1,5 @@
 -- `chain_window::sum` is safe and ends: i counts up to the length. Assumes nothing.
-use Rattle.core.specs.Prelude.{◌-◌, ◌≤◌, length}
+use Rattle.std.specs.Prelude.{◌-◌, ◌≤◌, length}
 use borrow.Author.Rules.{rules}
 use Rattle.chain_window.proofs.sum.Statement.{statement}
 use Rattle.chain_window.proofs.sum.Tie as tie

@@ -41,10 +41,10 @@ use Rattle.rows.specs.contracts.Exchange as T
 use Rattle.rows.proofs.Exchange.TheLaws as T'
 use Rattle.rows.specs.contracts.Device as D
 use Rattle.rows.proofs.Device.TheLaws as D'
-use Rattle.std.specs.contracts.ContactId as I
-use Rattle.std.proofs.ContactId.Laws as I'
+use Rattle.courier_core.specs.contracts.ContactId as I
+use Rattle.courier_core.proofs.ContactId.Laws as I'
 use Rattle.rows.specs.declared.Device.{Device}
-use Rattle.std.specs.declared.ContactId.{ContactId}
+use Rattle.courier_core.specs.declared.ContactId.{ContactId}
 use Rattle.exchange.specs.declared.Fresh.{Fresh}
 use Rattle.exchange.specs.contracts.Fresh as O
 use Rattle.exchange.proofs.Fresh.TheLaws as O'

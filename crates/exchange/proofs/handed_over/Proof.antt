@@ -42,12 +42,12 @@ use Rattle.rows.specs.contracts.Exchange as T
 use Rattle.rows.proofs.Exchange.TheLaws as T'
 use Rattle.rows.specs.contracts.Device as D
 use Rattle.rows.proofs.Device.TheLaws as D'
-use Rattle.std.specs.contracts.ContactId as I
-use Rattle.std.proofs.ContactId.Laws as I'
+use Rattle.courier_core.specs.contracts.ContactId as I
+use Rattle.courier_core.proofs.ContactId.Laws as I'
 use Rattle.courier.specs.contracts.Custody as K
 use Rattle.courier.proofs.Custody.TheLaws as K'
 use Rattle.rows.specs.declared.Device.{Device}
-use Rattle.std.specs.declared.ContactId.{ContactId}
+use Rattle.courier_core.specs.declared.ContactId.{ContactId}
 use Rattle.courier.specs.declared.Custody.{Custody}
 use Rattle.exchange.specs.declared.Settled.{Settled}
 use Rattle.exchange.specs.contracts.Settled as O

@@ -1,5 +1,5 @@
 -- The count does not pass the area's end.
-use Rattle.core.specs.Prelude.{◌≤◌, length}
+use Rattle.std.specs.Prelude.{◌≤◌, length}
 use native.Mathlib.Omega.{arith}
 use borrow.Author.Rules.{rules}
 use Rattle.screen_page.proofs.left_alone.Statement.{statement}

@@ -1,5 +1,5 @@
 -- The rows are counted up to their number.
-use Rattle.core.specs.Prelude.{◌-◌, ◌≤◌}
+use Rattle.std.specs.Prelude.{◌-◌, ◌≤◌}
 use native.Mathlib.Omega.{arith}
 use borrow.Author.Rules.{rules}
 use Rattle.screen_page.proofs.mixed.Statement.{statement}

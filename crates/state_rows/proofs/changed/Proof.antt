@@ -1,5 +1,5 @@
 -- `state_rows::changed` is safe and ends: no more are changed than were passed. Assumes nothing.
-use Rattle.core.specs.Prelude.{◌-◌, ◌≤◌, length}
+use Rattle.std.specs.Prelude.{◌-◌, ◌≤◌, length}
 use mathlib.Core.Logic.{⊎_elim}
 use native.Mathlib.Omega.{arith}
 use borrow.Author.Rules.{rules}

@@ -1,5 +1,5 @@
 -- `state_rows::codes` is safe and ends: the byte rises to 256. Assumes nothing.
-use Rattle.core.specs.Prelude.{◌-◌, ◌≤◌}
+use Rattle.std.specs.Prelude.{◌-◌, ◌≤◌}
 use native.Mathlib.Omega.{arith}
 use borrow.Author.Rules.{rules}
 use Rattle.state_rows.proofs.codes.Statement.{statement}

@@ -1,5 +1,5 @@
 -- `state_rows::fronts` is safe and ends: the length rises to 49. Assumes nothing.
-use Rattle.core.specs.Prelude.{◌-◌, ◌≤◌}
+use Rattle.std.specs.Prelude.{◌-◌, ◌≤◌}
 use native.Mathlib.Omega.{arith}
 use borrow.Author.Rules.{rules}
 use Rattle.state_rows.proofs.fronts.Statement.{statement}

@@ -3,8 +3,8 @@ use Rattle.wire.specs.declared.Body.TheVariants as body
 use Rattle.wire.specs.Log.{peer_in, values_of, verification_of}
 use Rattle.wire.specs.Log
 use Rattle.wire.proofs.BodyLaws.{read_some, read_none, no_verification}
-use Rattle.std.specs.declared.ContactId.{ContactId}
-use Rattle.std.specs.declared.Verification.TheVariants as verification
+use Rattle.courier_core.specs.declared.ContactId.{ContactId}
+use Rattle.courier_core.specs.declared.Verification.TheVariants as verification
 use Rattle.wire.proofs.contact_in.Statement.{statement}
 use Rattle.wire.proofs.contact_in.Tie as tie
 

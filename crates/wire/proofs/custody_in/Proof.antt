@@ -4,7 +4,7 @@ use Rattle.wire.specs.declared.Body.TheVariants as body
 use Rattle.wire.specs.Log.{peer_in, values_of, code_read}
 use Rattle.wire.specs.Log
 use Rattle.wire.proofs.BodyLaws.{read_some, read_none}
-use Rattle.std.specs.declared.ContactId.{ContactId}
+use Rattle.courier_core.specs.declared.ContactId.{ContactId}
 use Rattle.courier.specs.Courier.{from_code}
 use Rattle.wire.proofs.custody_in.Statement.{statement}
 use Rattle.wire.proofs.custody_in.Tie as tie

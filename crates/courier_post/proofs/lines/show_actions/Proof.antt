@@ -1,5 +1,5 @@
 -- `lines::show_actions` is safe and ends: i counts up to n. Assumes nothing.
-use Rattle.core.specs.Prelude.{◌-◌, ◌≤◌}
+use Rattle.std.specs.Prelude.{◌-◌, ◌≤◌}
 use borrow.Author.Rules.{rules}
 use Rattle.courier_post.proofs.lines.show_actions.Statement.{statement}
 use Rattle.courier_post.proofs.lines.show_actions.Tie as tie

@@ -1,5 +1,5 @@
 -- `lines::show_prefixes` is safe and ends: i counts up to n. Assumes nothing.
-use Rattle.core.specs.Prelude.{◌-◌, ◌≤◌}
+use Rattle.std.specs.Prelude.{◌-◌, ◌≤◌}
 use borrow.Author.Rules.{rules}
 use Rattle.courier_post.proofs.lines.show_prefixes.Statement.{statement}
 use Rattle.courier_post.proofs.lines.show_prefixes.Tie as tie

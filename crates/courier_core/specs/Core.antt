@@ -1,10 +1,10 @@
 -- Document 01's numbers of the refusals ("Refused calls") and bytes of a verification ("Drill program", PT).
 -- Assumes nothing.
-use Rattle.core.specs.Prelude.{ℕ, Bool, cond, List, [], ◌∷◌}
-use Rattle.core.specs.declared.Refusal.{Refusal}
-use Rattle.core.specs.declared.Refusal.TheVariants as refusal
-use Rattle.core.specs.declared.Verification.{Verification}
-use Rattle.core.specs.declared.Verification.TheVariants as verification
+use Rattle.std.specs.Prelude.{ℕ, Bool, cond, List, [], ◌∷◌}
+use Rattle.courier_core.specs.declared.Refusal.{Refusal}
+use Rattle.courier_core.specs.declared.Refusal.TheVariants as refusal
+use Rattle.courier_core.specs.declared.Verification.{Verification}
+use Rattle.courier_core.specs.declared.Verification.TheVariants as verification
 
 abbrev pub refusal_number : Refusal → ℕ
 refusal_number refusal.ShortArea = 1  -- an area is shorter than its size

@@ -1,6 +1,6 @@
 // What core.rs has for the courier part: contacts by number, their verification; and the refusals of document 01.
-ghost use Rattle.core.specs.Prelude.{◌≡◌};
-ghost use Rattle.core.specs.Core.{refusal_number, verification_byte};
+ghost use Rattle.std.specs.Prelude.{◌≡◌};
+ghost use Rattle.courier_core.specs.Core.{refusal_number, verification_byte};
 
 // A contact's number: a kind of its own beside slots and message numbers.
 #[derive(Drop)]
