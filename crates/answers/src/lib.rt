@@ -1,9 +1,10 @@
 // The rows of the reply and action areas: what is in them, and functions that write one row at a place.
+#![tactic(auto)]
 ghost use Rattle.std.specs.Prelude.{◌≡◌, ◌+◌, ◌≤◌, ◌++◌, length, drop, replicate};
 ghost use Rattle.octets.specs.Bytes.{splice};
 ghost use Rattle.rows.specs.Rows.{action_bytes, reply_bytes};
 ghost use Rattle.model.specs.Exchange.{own_envelope_of, carried_envelope_of};
-ghost use Rattle.model.specs.Calls.{ofOwn, of_carried, cell_from, reply_cell, put_courier, delete_courier, put_queued, fetch_reply, envelope_row, custody_reply, tomb_reply};
+ghost use Rattle.model.specs.Calls.{of_own, of_carried, cell_from, reply_cell, put_courier, delete_courier, put_queued, fetch_reply, envelope_row, custody_reply, tomb_reply};
 
 use courier_core::ContactId;
 use courier::{Custody, Header};
@@ -50,7 +51,7 @@ fn cell_from(first: u16, cell: u16) -> u16
 }
 
 pub fn own_cell(cell: u16) -> u16
-    ensures { result ≡ reply_cell ofOwn cell }
+    ensures { result ≡ reply_cell of_own cell }
 {
     cell_from(0, cell)
 }

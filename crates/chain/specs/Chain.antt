@@ -3,7 +3,7 @@
 use Rattle.std.specs.Prelude.{◌≡◌, ℕ, zero, suc, ◌+◌, ◌-◌, ◌*◌, ◌/◌, ◌^◌, ◌≤◌, min, Bool, true, false, cond, ◌||◌, List, [], ◌∷◌, ◌++◌, map, reverse, length, take, ◌==◌, nat_lt, slice_index}
 use mathlib.Core.List.{flat_map}
 use Rattle.octets.specs.Bytes.{part, splice, num, be}
-use Rattle.courier_core.specs.Core.{refusalNumber, first_of}
+use Rattle.courier_core.specs.Core.{refusal_number, first_of}
 use Rattle.courier_core.specs.declared.Refusal.{Refusal}
 use Rattle.courier_core.specs.declared.Refusal.TheVariants as refusal
 use Rattle.table.specs.Lists.{any}
@@ -98,7 +98,7 @@ window_tests answer skipped chains =
 
 -- an answer in document 01's terms: the number of its refusal (0 for none), and how many rows it lists
 abbrev pub window_values : Windowed → ℕ × ℕ
-window_values (Refused why) = (refusalNumber why, 0)
+window_values (Refused why) = (refusal_number why, 0)
 window_values (Listed n) = (0, n)
 
 -- the window call: its answer, the same in document 01's terms, and the answer area with the listed rows at its front
@@ -108,7 +108,7 @@ window_says answer skipped chains =
 
 unfoldable pub window_answer : List ℕ → List ℕ → List ℕ → ℕ × ℕ
 window_answer answer skipped chains =
-    first_of (window_tests answer skipped chains) (λ why. (refusalNumber why, 0)) (0, length (window skipped chains))
+    first_of (window_tests answer skipped chains) (λ why. (refusal_number why, 0)) (0, length (window skipped chains))
 
 unfoldable pub window_area : List ℕ → List ℕ → List ℕ → List ℕ
 window_area answer skipped chains =

@@ -1,4 +1,5 @@
 // Runs the window call on its boundary cases and writes what it answers and what it leaves in the answer area.
+#![tactic(auto)]
 use chain::{Dir, DirRead, Windowed};
 use libc::STDOUT_FILENO;
 

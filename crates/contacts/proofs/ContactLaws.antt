@@ -2,7 +2,7 @@
 -- Assumes nothing.
 use Rattle.std.proofs.Common.{◌≡◌, ℕ, ◌<◌, ◌≤◌, Bool, true, false, cond, not, ◌&&◌, ◌||◌, ltb, leb, List, [], ◌∷◌, ◌++◌, length, sym, refl, ap, ◌∙◌, ap₂, arith, le-ltb, lt-ltb, le-leb}
 use borrow.Author.Tests.{lt-leb}
-use Rattle.courier_core.specs.Core.{verificationByte}
+use Rattle.courier_core.specs.Core.{verification_byte}
 use Rattle.courier_core.specs.declared.ContactId.{ContactId}
 use Rattle.courier_core.specs.declared.Verification.{Verification}
 use Rattle.courier_core.specs.declared.Refusal.{Refusal}
@@ -50,7 +50,7 @@ module _ (d : Device) (x : List ℕ) (id : ContactId) (v : Verification) where
   put f b = match_found f (λ i. replace_at i (entry b) T) (T ++ (entry b ∷ []))
 
   module _ {f : Found} (e : f ≡ contact_place T id) where
-    put_at : {b : ℕ} → b ≡ verificationByte v → put_contact T id v ≡ put f b
+    put_at : {b : ℕ} → b ≡ verification_byte v → put_contact T id v ≡ put f b
     unfolding put_contact put
     put_at q = ap₂ put (sym e) (sym q)
 
@@ -73,7 +73,7 @@ module _ (d : Device) (x : List ℕ) (id : ContactId) (v : Verification) where
         ∙ ap₂ (λ (m : ℕ) (z : List ℕ). device_in (device_with d.courier d.now_s m d) (contacts_in z a)) (N.count ∙ ap length (sym e))
         (N.area ∙ ap (with_table contact_codec x) (sym e)))
 
-    module _ {b n : ℕ} {y : List ℕ} {r : Device} (w : b ≡ verificationByte v) (q : r ≡ device_with d.courier d.now_s n d) where
+    module _ {b n : ℕ} {y : List ℕ} {r : Device} (w : b ≡ verification_byte v) (q : r ≡ device_with d.courier d.now_s n d) where
       pub altered : {i : ℕ} → At i ≡ contact_place T id → TableNow contact_codec x (replace_at i (entry b) T) n y
           → Written said_of (step (view lent) (contact id v)) said.Done lent (device_in r (contacts_in y a)) no_answers no_answers
       unfolding put

@@ -1,7 +1,7 @@
 -- What the calls of this crate answer, in document 01's terms.
 -- Assumes nothing.
 use Rattle.std.specs.Prelude.{ℕ}
-use Rattle.courier_core.specs.Core.{refusalNumber}
+use Rattle.courier_core.specs.Core.{refusal_number}
 use Rattle.state.specs.declared.CourierConfig.{CourierConfig}
 use Rattle.rows.specs.declared.Device.{Device}
 use Rattle.rows.specs.declared.Exchange.{Exchange}
@@ -19,7 +19,7 @@ said_of o = refused_or said.Refused said.Done o.answer
 
 -- the number by which a call is refused, or 0
 abbrev pub said_number : Said → ℕ
-said_number (said.Refused why) = refusalNumber why
+said_number (said.Refused why) = refusal_number why
 said_number said.Done = 0
 
 -- a fresh exchange: a refusal, or the exchange that the change makes, whatever stood there
@@ -27,7 +27,7 @@ abbrev pub opened_of : Result → Opened
 opened_of o = refused_or opened.Refused (opened.As (store_session no_session_areas o.change).exchange) o.answer
 
 abbrev pub opened_number : Opened → ℕ
-opened_number (opened.Refused why) = refusalNumber why
+opened_number (opened.Refused why) = refusal_number why
 opened_number (opened.As e) = 0
 
 -- the exchange that a host has after the call: the fresh one, or the one that it had

@@ -1,13 +1,14 @@
 // Contacts and the clock in minutes, and the calls that set them: contact, setting, clock, fresh exchange.
+#![tactic(auto)]
 ghost use Rattle.std.specs.Prelude.{◌≡◌, ◌+◌, ◌*◌, ◌<◌, ◌≤◌, true, not, [], ◌∷◌, ◌++◌, length};
 ghost use Rattle.table.specs.Lists.{replace_at};
 ghost use Rattle.table.specs.Rows.{held};
 ghost use Rattle.table.specs.Codec.{table_of, TableNow};
 ghost use Rattle.rows.specs.declared.Exchange.{Exchange as AnExchange};
 ghost use Rattle.rows.specs.Rows.{contact_width, contact_codec};
-ghost use Rattle.model.specs.Calls.{contact as contactCall, setting as settingCall, clock as clockCall, open_exchange};
+ghost use Rattle.model.specs.Calls.{contact as contact_call, setting as setting_call, clock as clock_call, open_exchange};
 ghost use Rattle.model.specs.Contacts.{now_min, lifetime_end, contact_place, known as known_of, is_verified, added_before};
-ghost use Rattle.model.specs.Window.{window_rows, strangers as someStranger};
+ghost use Rattle.model.specs.Window.{window_rows, strangers as some_stranger};
 ghost use Rattle.model.specs.Lent.{Does, no_answers, device_in, contacts_in, exchange_in};
 ghost use Rattle.contacts.specs.Answers.{said_of, opened_of, exchange_after, device_with};
 
@@ -102,7 +103,7 @@ fn is_stranger(contacts: &[u8], count: usize, before: u64, id: u64) -> bool
 
 // Number 2 of a window: a contact in it isn't known. The rows of a contact follow each other.
 pub fn strangers(contacts: &[u8], count: usize, window: &[u8]) -> bool
-    ensures { result ≡ someStranger (table_of contact_codec count contacts.now) (window_rows window.now) }
+    ensures { result ≡ some_stranger (table_of contact_codec count contacts.now) (window_rows window.now) }
 {
     let n = table::fit(
         window.len(),
@@ -167,7 +168,7 @@ fn device_with(device: Device, courier: CourierConfig, seconds: u64, contacts: u
 
 // Sets the clock.
 pub fn clock(device: Device, seconds: u64) -> Answered
-    ensures { Does said_of (clockCall seconds) result.said (device_in device) (device_in result.device) no_answers no_answers }
+    ensures { Does said_of (clock_call seconds) result.said (device_in device) (device_in result.device) no_answers no_answers }
 {
     let courier = device.courier;
     Answered {
@@ -178,7 +179,7 @@ pub fn clock(device: Device, seconds: u64) -> Answered
 
 // Sets the configuration, if it is in its range.
 pub fn setting(device: Device, enabled: bool, copies: u8, lifetime: u16) -> Answered
-    ensures { Does said_of (settingCall enabled copies lifetime) result.said (device_in device) (device_in result.device) no_answers no_answers }
+    ensures { Does said_of (setting_call enabled copies lifetime) result.said (device_in device) (device_in result.device) no_answers no_answers }
 {
     match CourierConfig::new(enabled, copies, lifetime) {
         Configured::As(courier) => Answered {
@@ -220,7 +221,7 @@ pub fn contact(
     verification: Verification,
     contacts: &mut [u8; 2304],
 ) -> Answered
-    ensures { Does said_of (contactCall id verification) result.said (λ a. device_in device (contacts_in contacts.old a)) (λ a. device_in result.device (contacts_in contacts.new a)) no_answers no_answers }
+    ensures { Does said_of (contact_call id verification) result.said (λ a. device_in device (contacts_in contacts.old a)) (λ a. device_in result.device (contacts_in contacts.new a)) no_answers no_answers }
 {
     let courier = device.courier;
     let count = device.contacts;

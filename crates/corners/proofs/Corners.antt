@@ -17,7 +17,7 @@ use Rattle.courier.proofs.Laws.{valid_if, not_valid, not_carried}
 use Rattle.state.specs.declared.Carried.{Carried}
 use Rattle.state.specs.declared.Tombstone.{Tombstone}
 use Rattle.state.specs.declared.Configured.TheVariants as configured
-use Rattle.state.specs.declared.RowAnswer.TheVariants as rowAnswer
+use Rattle.state.specs.declared.RowAnswer.TheVariants as row_answer
 use Rattle.state.specs.Config.{in_range, config_new, config_number}
 use Rattle.state.specs.Held.{carried, tombstone, held_row, row_answered, row_area, held_decode}
 use Rattle.state.proofs.RowLaws.{ProperTombstone}
@@ -66,7 +66,7 @@ pub record Corners : Type 0 where
   pub lifetime_10081 : (enabled : Bool) (copies : ℕ) → config_number (config_new enabled copies 10081) ≡ 7
   -- a carried row whose copies fell to 0 is still written: its bytes, the copies 0, at the front of the area, and the rest of it stays
   pub no_copies_written : (r : Carried) (ct area : List ℕ) → ProperCarried r → r.header.copies ≡ 0 → 2110 ≤ length area
-      → (row_answered (held_row (carried r ct)) area ≡ rowAnswer.Written (46 + length (take 2064 ct)))
+      → (row_answered (held_row (carried r ct)) area ≡ row_answer.Written (46 + length (take 2064 ct)))
       × (row_area (held_row (carried r ct)) area
       ≡ (0 ∷ []) ++ be 8 r.depositor.0 ++ r.header.tag ++ r.header.c ++ be 4 r.header.expiry_min ++ (0 ∷ []) ++ take 2064 ct
       ++ drop (46 + length (take 2064 ct)) area)

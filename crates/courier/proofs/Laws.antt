@@ -10,11 +10,11 @@ use borrow.Author.Tests.{le-leb, lt-leb, leb-true, leb-false, ltb-true, lt-ltb}
 use Rattle.chain.specs.Chain.{is_bucket}
 use Rattle.courier.specs.declared.Custody.{Custody}
 use Rattle.courier.specs.declared.Custody.TheVariants as custody
-use Rattle.courier.specs.declared.CustodyRead.TheVariants as custodyRead
+use Rattle.courier.specs.declared.CustodyRead.TheVariants as custody_read
 use Rattle.courier.specs.Courier.{carried_length, envelope_valid, custody_code, custody_codes, from_code}
 
 -- the custody byte and back
-pub code_back : (c : Custody) → from_code (custody_code c) ≡ custodyRead.Known c
+pub code_back : (c : Custody) → from_code (custody_code c) ≡ custody_read.Known c
 unfolding from_code
 code_back custody.Accepted = refl
 code_back custody.Full = refl
@@ -22,11 +22,11 @@ code_back custody.Duplicate = refl
 code_back custody.Off = refl
 code_back custody.Invalid = refl
 
-same : (a c : Custody) → custodyRead.Known a ≡ custodyRead.Known c → custody_code a ≡ custody_code c
+same : (a c : Custody) → custody_read.Known a ≡ custody_read.Known c → custody_code a ≡ custody_code c
 same a c e = cc
 
 -- a byte that is a code is the code's byte
-pub byte_back : (n : ℕ) (c : Custody) → from_code n ≡ custodyRead.Known c → n ≡ custody_code c
+pub byte_back : (n : ℕ) (c : Custody) → from_code n ≡ custody_read.Known c → n ≡ custody_code c
 unfolding from_code
 byte_back zero c e = same custody.Accepted c e
 byte_back (suc zero) c e = same custody.Full c e
@@ -36,9 +36,9 @@ byte_back (suc (suc (suc (suc zero)))) c e = same custody.Invalid c e
 byte_back (suc (suc (suc (suc (suc n))))) c e = let z : ◌≡◌ {A = ℕ} 0 1 = cc in absurd (omega arith)
 
 -- every byte above 4 is refused
-pub no_code : (n : ℕ) → 4 < n → custodyRead.Unknown ≡ from_code n
+pub no_code : (n : ℕ) → 4 < n → custody_read.Unknown ≡ from_code n
 unfolding from_code
-no_code n h = sym (get_or-eq_default custody_codes custodyRead.Unknown h)
+no_code n h = sym (get_or-eq_default custody_codes custody_read.Unknown h)
 
 pub both : (a b : Bool) → (a && b) ≡ true → (a ≡ true) × (b ≡ true)
 both true b e = (refl, e)

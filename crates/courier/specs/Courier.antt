@@ -8,7 +8,7 @@ use Rattle.courier.specs.declared.HeaderRead.{HeaderRead}
 use Rattle.courier.specs.declared.Custody.{Custody}
 use Rattle.courier.specs.declared.Custody.TheVariants as custody
 use Rattle.courier.specs.declared.CustodyRead.{CustodyRead}
-use Rattle.courier.specs.declared.CustodyRead.TheVariants as custodyRead
+use Rattle.courier.specs.declared.CustodyRead.TheVariants as custody_read
 
 -- `Envelope::encode`: tag 16, commitment 16, expiry 4, copies 1; the ciphertext follows
 unfoldable pub header_bytes : Header → List ℕ
@@ -45,9 +45,9 @@ custody_code custody.Invalid = 4
 
 abbrev pub custody_codes : List CustodyRead
 custody_codes =
-    custodyRead.Known custody.Accepted ∷ custodyRead.Known custody.Full ∷ custodyRead.Known custody.Duplicate
-    ∷ custodyRead.Known custody.Off ∷ custodyRead.Known custody.Invalid ∷ []
+    custody_read.Known custody.Accepted ∷ custody_read.Known custody.Full ∷ custody_read.Known custody.Duplicate
+    ∷ custody_read.Known custody.Off ∷ custody_read.Known custody.Invalid ∷ []
 
 -- `Custody::from_code`: a byte above 4 is no code
 unfoldable pub from_code : ℕ → CustodyRead
-from_code code = get_or custody_codes code custodyRead.Unknown
+from_code code = get_or custody_codes code custody_read.Unknown

@@ -1,4 +1,5 @@
 // What the envelope call tests before it holds a row: `custody` of couriering.rs, and the window.
+#![tactic(auto)]
 ghost use Rattle.std.specs.Prelude.{◌≡◌, ◌+◌, ◌*◌, ◌≤◌, ◌&&◌, ◌||◌, map, length, ◌==◌, nat_lt};
 ghost use Rattle.octets.specs.Bytes.{part, num, same_bytes};
 ghost use Rattle.courier_core.specs.declared.ContactId.{ContactId};

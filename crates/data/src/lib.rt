@@ -1,6 +1,7 @@
 // data.rs: of it only `leb128`, for 32 bits.
+#![tactic(auto)]
 ghost use Rattle.std.specs.Prelude.{◌≡◌};
-ghost use Rattle.data.specs.Leb128.{leb128 as lebOf, encoded};
+ghost use Rattle.data.specs.Leb128.{leb128 as leb_of, encoded};
 
 // The encoding is the first `len` bytes; the rest are zeros.
 #[derive(Drop)]
@@ -11,7 +12,7 @@ pub struct Encoded {
 
 // The minimal unsigned LEB128 encoding of `value`.
 pub fn leb128(value: u32) -> Encoded
-    ensures { result ≡ encoded (lebOf value) }
+    ensures { result ≡ encoded (leb_of value) }
 {
     let mut bytes = [0u8; 5];
     let mut v = value;

@@ -1,4 +1,5 @@
 // Reads a log from standard input, and writes its lines to standard output. What it keeps, hands on and puts at the end is `drill_turn`'s.
+#![tactic(auto)]
 ghost use Rattle.std.specs.Prelude.{◌≡◌, ◌≤◌, ◌<◌, length, take, replicate};
 ghost use Rattle.drill_run.specs.Drill.{drill_start};
 ghost use Rattle.drill_turn.specs.Stream.{Inside, Waits, Stops};

@@ -27,7 +27,7 @@ use Rattle.fetch.specs.Fetch.{Fetched, fetched_as, fetch_says, fetch_in}
 use Rattle.handover.specs.declared.Said.{Said as Settled}
 use Rattle.handover.specs.Handing.{says, code_lent}
 use Rattle.tombs.specs.declared.Said.{Said as Met}
-use Rattle.tombs.specs.Tombs.{says as tombSays, tomb_lent}
+use Rattle.tombs.specs.Tombs.{says as tomb_says, tomb_lent}
 use Rattle.maintenance.specs.declared.Maintained.{Maintained}
 use Rattle.maintenance.specs.Expiry.{maintained_of, lent_tables}
 use Rattle.drill_lines.specs.declared.Last.TheVariants as last
@@ -107,7 +107,7 @@ module _ (d d' : Device) (e : Exchange) (peer : ContactId) (contacts own carried
 
   pub tomb_asked : (m : ℕ) (t tag s secret tombstones actions own' carried' tombstones' actions' : List ℕ) {said k : Met} {r : Told}
       → m ≡ 19968 → t ≡ tag → s ≡ secret
-      → Does tombSays (calls.tomb m peer t s) said (tomb_lent d contacts own carried tombstones) (tomb_lent d' contacts own' carried' tombstones')
+      → Does tomb_says (calls.tomb m peer t s) said (tomb_lent d contacts own carried tombstones) (tomb_lent d' contacts own' carried' tombstones')
       (actions_lent actions) (actions_lent actions')
       → said ≡ k → r ≡ told_with d' e (tomb_told k)
       → Asks (some (log.tomb peer tag secret)) r (tomb_in d e contacts own carried tombstones) (tomb_in r.device r.exchange contacts own' carried' tombstones')

@@ -27,7 +27,7 @@ use Rattle.envelope.specs.Answers.{envelope_says}
 use Rattle.inventory.specs.Inventory.{received_says}
 use Rattle.fetch.specs.Fetch.{fetch_says}
 use Rattle.handover.specs.Handing.{says}
-use Rattle.tombs.specs.Tombs.{says as tombSays}
+use Rattle.tombs.specs.Tombs.{says as tomb_says}
 use Rattle.maintenance.specs.Expiry.{maintained_of}
 use Rattle.drill_run.specs.Drill.{tells}
 use Rattle.drill_calls.specs.Asking.{Summary, set_told, opened_told, envelope_told, inventory_told, fetch_told, custody_told, tomb_told, maintained_told}
@@ -101,13 +101,13 @@ module _ (s : State) where
       go (At i) = refl
       go Nothing = refl
 
-  pub tomb_told_lem : (actions : ℕ) (peer : ContactId) (tag secret : List ℕ) → Same tomb_told tombSays (step s (calls.tomb actions peer tag secret))
+  pub tomb_told_lem : (actions : ℕ) (peer : ContactId) (tag secret : List ℕ) → Same tomb_told tomb_says (step s (calls.tomb actions peer tag secret))
   unfolding step tests perform tells receive_tomb turn end_own
   tomb_told_lem actions peer tag secret =
-      by_step (Same tomb_told tombSays) (tomb_tests s actions peer tag (meets s.own s.carried tag secret))
+      by_step (Same tomb_told tomb_says) (tomb_tests s actions peer tag (meets s.own s.carried tag secret))
       (receive_tomb s tag secret (meets s.own s.carried tag secret)) (λ why. refl) (go (meets s.own s.carried tag secret))
     where
-      go : (m : Met) → Same tomb_told tombSays (receive_tomb s tag secret m)
+      go : (m : Met) → Same tomb_told tomb_says (receive_tomb s tag secret m)
       go (met.carried_at i) = refl
       go (met.own_at i) = refl
       go met.wrong = refl

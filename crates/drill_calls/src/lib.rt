@@ -1,4 +1,5 @@
 // The call of each record of a log.
+#![tactic(auto)]
 ghost use Rattle.std.specs.Prelude.{◌≡◌, ◌≤◌, length, drop};
 ghost use Rattle.std.proofs.Math.Option.{some};
 ghost use Rattle.octets.specs.Bytes.{part};

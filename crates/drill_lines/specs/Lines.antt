@@ -3,7 +3,7 @@
 use Rattle.std.specs.Prelude.{ℕ, Bool, false, cond, List, [], ◌∷◌, ◌++◌, ◌==◌}
 use mathlib.Core.List.{flat_map}
 use Rattle.octets.specs.Bytes.{part, num}
-use Rattle.courier_core.specs.Core.{refusalNumber}
+use Rattle.courier_core.specs.Core.{refusal_number}
 use Rattle.rows.specs.declared.Reply.{Reply}
 use Rattle.rows.specs.declared.Action.{Action}
 use Rattle.model.specs.State.{State}
@@ -68,13 +68,13 @@ refused_line number = (114 ∷ 101 ∷ 102 ∷ 117 ∷ 115 ∷ 101 ∷ 100 ∷ [
 abbrev pub last_line : Last → List ℕ
 last_line last.Ok = 111 ∷ 107 ∷ 10 ∷ []  -- ok
 last_line last.Malformed = 109 ∷ 97 ∷ 108 ∷ 102 ∷ 111 ∷ 114 ∷ 109 ∷ 101 ∷ 100 ∷ 10 ∷ []  -- malformed
-last_line (last.Refused why) = refused_line (refusalNumber why)
+last_line (last.Refused why) = refused_line (refusal_number why)
 
 -- the program stops at number 13
 abbrev pub stops_at : Last → Bool
 stops_at last.Ok = false
 stops_at last.Malformed = false
-stops_at (last.Refused why) = refusalNumber why == 13
+stops_at (last.Refused why) = refusal_number why == 13
 
 abbrev pub last_of : Answer → Last
 last_of (calls.refused why) = last.Refused why

@@ -1,4 +1,5 @@
 // The drill's lines: what is printed for the answer of a record.
+#![tactic(auto)]
 ghost use Rattle.std.specs.Prelude.{◌≡◌, ◌+◌, ◌*◌, ◌≤◌, length};
 ghost use mathlib.Core.List.{flat_map};
 ghost use Rattle.table.specs.Rows.{held};

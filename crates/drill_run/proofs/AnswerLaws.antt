@@ -36,7 +36,7 @@ use Rattle.wire.specs.Log as log
 use Rattle.wire.specs.Log.{Record}
 use Rattle.model.specs.Basics.{match_found, match_some, find}
 use Rattle.model.specs.State.{State, Change, apply}
-use Rattle.model.specs.Calls.{Answer, Result, result, only, refused, done, malformed, missing, step_of, Cells, ofOwn, of_carried, put_courier, delete_courier, put_queued, custody_reply, tomb_reply, no_cell, cell_from, reply_cell}
+use Rattle.model.specs.Calls.{Answer, Result, result, only, refused, done, malformed, missing, step_of, Cells, of_own, of_carried, put_courier, delete_courier, put_queued, custody_reply, tomb_reply, no_cell, cell_from, reply_cell}
 use Rattle.model.specs.Cells.{max_cells}
 use Rattle.model.specs.Contacts.{contact_tests, set_contact, setting_tests, set_config, set_clock, open_exchange_tests, open_exchanged, minute_of}
 use Rattle.model.specs.Window.{window_rows, prefix_rows, no_reachable, lookup}
@@ -155,7 +155,7 @@ from_proper first cell h = go (ltb cell max_cells) refl
     go false e = omega arith
 
 cell_proper : (cells : Cells) (cell : ℕ) → reply_cell cells cell < 2 ^ 16
-cell_proper ofOwn cell = from_proper 0 cell (omega arith)
+cell_proper of_own cell = from_proper 0 cell (omega arith)
 cell_proper of_carried cell = from_proper max_cells cell (omega arith)
 
 header_run : (h : Header) → ProperHeader h → Run 37 (header_bytes h)

@@ -2,7 +2,7 @@
 -- Assumes nothing.
 use Rattle.std.specs.Prelude.{◌≡◌, ℕ, ◌+◌, ◌*◌, ◌<◌, ◌≤◌, min, cond, List, [], ◌∷◌, ◌++◌, length, ◌==◌}
 use Rattle.octets.specs.Bytes.{splice}
-use Rattle.courier_core.specs.Core.{first_of, refusalNumber}
+use Rattle.courier_core.specs.Core.{first_of, refusal_number}
 use Rattle.courier_core.specs.declared.ContactId.{ContactId}
 use Rattle.courier_core.specs.declared.Refusal.TheVariants as refusal
 use Rattle.courier.specs.declared.Header.{Header}
@@ -119,7 +119,7 @@ says_of (calls.wrote count) replies actions = answer.Done replies actions
 
 -- the number by which a call is refused, or 0
 abbrev pub answer_number : Answer → ℕ
-answer_number (answer.Refused why) = refusalNumber why
+answer_number (answer.Refused why) = refusal_number why
 answer_number (answer.Ours contact generation idx) = 0
 answer_number (answer.Done replies actions) = 0
 

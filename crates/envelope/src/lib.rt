@@ -1,12 +1,13 @@
 // The envelope call: `receive_envelope`, `carry` and `put_held` of couriering.rs.
+#![tactic(auto)]
 ghost use Rattle.std.specs.Prelude.{◌≡◌, ◌+◌, ◌*◌, ◌/◌, ◌<◌, ◌≤◌, min, not, ◌||◌, [], ◌∷◌, ◌++◌, map, length, nat_lt};
 ghost use Rattle.octets.specs.Bytes.{part};
 ghost use Rattle.table.specs.Rows.{held};
 ghost use Rattle.table.specs.Codec.{table_of, TableNow};
 ghost use Rattle.rows.specs.Rows.{carried_width, contact_codec, carried_codec, reachable_of};
-ghost use Rattle.model.specs.Calls.{envelope as envelopeCall, short_replies};
+ghost use Rattle.model.specs.Calls.{envelope as envelope_call, short_replies};
 ghost use Rattle.model.specs.Contacts.{known as known_of};
-ghost use Rattle.model.specs.Window.{window_rows, strangers as someStranger};
+ghost use Rattle.model.specs.Window.{window_rows, strangers as some_stranger};
 ghost use Rattle.model.specs.Custody.{is_accepted};
 ghost use Rattle.model.specs.Areas.{Areas, view};
 ghost use Rattle.model.specs.Lent.{Does, answers_lent};
@@ -56,7 +57,7 @@ fn too_short(replies: usize, actions: usize, tombstones: usize) -> bool
 
 // Number 2: the peer, or a contact in the window, isn't known.
 fn unknown(contacts: &[u8], count: usize, peer: ContactId, window: &[u8]) -> bool
-    ensures { result ≡ (not (known_of (table_of contact_codec count contacts.now) peer) || someStranger (table_of contact_codec count contacts.now) (window_rows window.now)) }
+    ensures { result ≡ (not (known_of (table_of contact_codec count contacts.now) peer) || some_stranger (table_of contact_codec count contacts.now) (window_rows window.now)) }
 {
     if known(contacts, count, peer) {
         return strangers(contacts, count, window);
@@ -260,7 +261,7 @@ pub fn envelope(
     replies: &mut [u8],
     actions: &mut [u8],
 ) -> Enveloped
-    ensures { Does envelope_says (envelopeCall (length replies.old) (length actions.old) window.now peer head ct.now) result.answer
+    ensures { Does envelope_says (envelope_call (length replies.old) (length actions.old) window.now peer head ct.now) result.answer
         (envelope_in device contacts.now own.now carried.old tombstones.now carried_cells.old)
         (envelope_in result.device contacts.now own.now carried.new tombstones.now carried_cells.new)
         (answers_lent replies.old actions.old) (answers_lent replies.new actions.new) }

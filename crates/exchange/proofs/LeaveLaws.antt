@@ -30,7 +30,7 @@ use Rattle.contacts.specs.Answers.{said_of}
 use Rattle.inventory.specs.declared.Said.{Said as Listing}
 use Rattle.inventory.specs.Inventory.{received_says, received_in}
 use Rattle.handover.specs.declared.Said.{Said as Settling}
-use Rattle.handover.specs.Handing.{says as codeSays, code_lent}
+use Rattle.handover.specs.Handing.{says as code_says, code_lent}
 use Rattle.exchange.specs.Exchange.{exchange_of, inventory_leaves, code_leaves, fresh_leaves, if_done, Lends, fresh_in}
 
 -- ---- of a call's step: what holds of every refusal and of what is performed holds of it
@@ -149,10 +149,10 @@ module _ (d d' : Device) (e x : Exchange) (contacts own carried own' carried' to
     abbrev CodeCall : Call
     CodeCall = custody_answer actions peer tag code
 
-    pub code_lends : Does codeSays CodeCall r CodeBefore CodeAfter lent back → Lends codeSays CodeCall r CodeBefore CodeAfter lent back (code_leaves tag e) e x
+    pub code_lends : Does code_says CodeCall r CodeBefore CodeAfter lent back → Lends code_says CodeCall r CodeBefore CodeAfter lent back (code_leaves tag e) e x
     unfolding perform
     code_lends =
-        lends codeSays CodeCall r CodeBefore CodeAfter lent back (code_leaves tag e) e x (λ a. refl) (λ a. refl)
+        lends code_says CodeCall r CodeBefore CodeAfter lent back (code_leaves tag e) e x (λ a. refl) (λ a. refl)
         (λ a. code_leaves_lem (CodeBefore a).session (view (CodeBefore a)) tag code)
 
 module _ (d : Device) (contacts : List ℕ) (e x : Exchange) (prefixes offers : List ℕ) (peer : ContactId) (r : Opening) where

@@ -19,7 +19,7 @@ use Rattle.rows.specs.declared.Reply.{Reply}
 use Rattle.rows.specs.Rows.{contact_codec, own_codec, own_of, carried_codec, carried_of, reply_codec, reply_bytes}
 use Rattle.model.specs.Basics.{find, match_some}
 use Rattle.model.specs.State.{nothing}
-use Rattle.model.specs.Calls.{Call, Cells, ofOwn, of_carried, fetch, missing, only}
+use Rattle.model.specs.Calls.{Call, Cells, of_own, of_carried, fetch, missing, only}
 use Rattle.model.specs.Contacts.{known}
 use Rattle.model.specs.Cells.{cell_start, cell_length, ciphertext}
 use Rattle.model.specs.Custody.{carried_of_tag}
@@ -91,7 +91,7 @@ module _ (d : Device) (peer : ContactId) (tag contacts own carried oc cc lent : 
 
       area : (c : Cells) → cells_of oc cc c ≡ cell_area (view B) c
       unfolding view
-      area ofOwn = refl
+      area of_own = refl
       area of_carried = refl
 
       given : (e : Envelope) (r back : List ℕ) → step (view B) C ≡ fetched (view B) e → Given e (cells_of oc cc e.cells) lent r back → Says 0 r back

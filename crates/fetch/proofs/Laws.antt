@@ -14,7 +14,7 @@ use Rattle.rows.specs.declared.Own.{Own}
 use Rattle.rows.specs.declared.Carried.{Carried}
 use Rattle.rows.specs.Rows.{own_codec, own_of, reply_bytes}
 use Rattle.courier.specs.declared.Header.{Header}
-use Rattle.model.specs.Calls.{ofOwn, of_carried, reply_cell, envelope_row}
+use Rattle.model.specs.Calls.{of_own, of_carried, reply_cell, envelope_row}
 use Rattle.model.specs.Exchange.{own_envelope_of, carried_envelope_of}
 use Rattle.model.specs.Cells.{cell_size, max_cells, cell_start, cell_length, ciphertext}
 use Rattle.fetch.specs.Fetch.{for_others, Given}
@@ -67,7 +67,7 @@ module _ (a : List ℕ) (cell len : ℕ) {end : ℕ} (e : end ≡ min (length a)
 -- ---- what is written
 
 module _ (cells lent ct back : List ℕ) (head : Header) where
-  pub given_own : (k : ℕ) (o x : Own) → o ≡ x → k ≡ reply_cell ofOwn o.cell → head ≡ (own_envelope_of o).head
+  pub given_own : (k : ℕ) (o x : Own) → o ≡ x → k ≡ reply_cell of_own o.cell → head ≡ (own_envelope_of o).head
       → back ≡ splice lent 0 (reply_bytes (envelope_row k head)) → ct ≡ ciphertext cells o.cell o.len → Given (own_envelope_of x) cells lent ct back
   unfolding own_envelope_of
   given_own k o x e q h f g =

@@ -2,12 +2,12 @@
 -- Assumes nothing.
 use Rattle.std.specs.Prelude.{◌≡◌, ℕ, Bool, ◌&&◌, List, []}
 use Rattle.octets.specs.Bytes.{part, splice}
-use Rattle.courier_core.specs.Core.{refusalNumber}
+use Rattle.courier_core.specs.Core.{refusal_number}
 use Rattle.courier_core.specs.declared.ContactId.{ContactId}
 use Rattle.rows.specs.declared.Own.{Own}
 use Rattle.rows.specs.declared.Device.{Device}
 use Rattle.rows.specs.Rows.{reply_bytes}
-use Rattle.model.specs.Calls.{Cells, ofOwn, of_carried, Answer, Result, refused, malformed, done, ours, found, missing, own_row, no_envelope, wrote}
+use Rattle.model.specs.Calls.{Cells, of_own, of_carried, Answer, Result, refused, malformed, done, ours, found, missing, own_row, no_envelope, wrote}
 use Rattle.model.specs.Areas.{Areas}
 use Rattle.model.specs.Cells.{ciphertext}
 use Rattle.model.specs.Custody.{own_of_tag}
@@ -34,12 +34,12 @@ abbrev pub fetched_as : ℕ → List ℕ → Fetched
 fetched_as n b = record { number = n; bytes = b }
 
 abbrev pub cells_of : List ℕ → List ℕ → Cells → List ℕ
-cells_of own carried ofOwn = own
+cells_of own carried of_own = own
 cells_of own carried of_carried = carried
 
 -- the part of the cell area that is the ciphertext, by the position and length that the answer has
 abbrev pub fetched_of : List ℕ → List ℕ → Answer → Fetched
-fetched_of own carried (refused why) = fetched_as (refusalNumber why) []
+fetched_of own carried (refused why) = fetched_as (refusal_number why) []
 fetched_of own carried malformed = fetched_as 255 []
 fetched_of own carried done = fetched_as 255 []
 fetched_of own carried (ours contact generation idx) = fetched_as 255 []

@@ -1,10 +1,11 @@
 // Fetch: the envelope with a tag, and the part of the cell area that is its ciphertext.
+#![tactic(auto)]
 ghost use Rattle.std.specs.Prelude.{◌≡◌, ◌+◌, ◌≤◌, min, not, ◌&&◌, length, ◌==◌};
 ghost use Rattle.octets.specs.Bytes.{part, num, same_bytes};
 ghost use Rattle.table.specs.Lists.{position};
 ghost use Rattle.table.specs.Codec.{table_of};
 ghost use Rattle.rows.specs.Rows.{own_codec, carried_codec, own_of, carried_of};
-ghost use Rattle.model.specs.Calls.{fetch as fetchCall};
+ghost use Rattle.model.specs.Calls.{fetch as fetch_call};
 ghost use Rattle.model.specs.Cells.{ciphertext};
 ghost use Rattle.model.specs.Custody.{carried_of_tag};
 ghost use Rattle.model.specs.Exchange.{own_envelope_of, carried_envelope_of};
@@ -116,7 +117,7 @@ pub fn fetch<'c>(
     replies: &mut [u8],
     answer: &mut u8,
 ) -> &'c [u8]
-    ensures { Does (fetch_says own_cells.now carried_cells.now) (fetchCall (length replies.old) peer tag)
+    ensures { Does (fetch_says own_cells.now carried_cells.now) (fetch_call (length replies.old) peer tag)
         (fetched_as answer.new result.now)
         (fetch_in device contacts.now own.now carried.now own_cells.now carried_cells.now)
         (fetch_in device contacts.now own.now carried.now own_cells.now carried_cells.now)

@@ -4,7 +4,7 @@ use Rattle.std.proofs.Common.{◌≡◌, ℕ, zero, suc, Bool, true, false, cond
 use mathlib.Core.Bool.{false≢true}
 use mathlib.Core.Option.{Option, none, some}
 use lib.Dec.{eqb-suc-zero}
-use Rattle.courier_core.specs.Core.{refusalNumber}
+use Rattle.courier_core.specs.Core.{refusal_number}
 use Rattle.courier_core.specs.declared.ContactId.{ContactId}
 use Rattle.courier_core.specs.declared.Refusal.{Refusal}
 use Rattle.courier_core.specs.declared.Verification.{Verification}
@@ -31,16 +31,16 @@ use Rattle.envelope.specs.Answers.{envelope_says}
 use Rattle.fetch.specs.Fetch.{fetch_says}
 use Rattle.own_envelope.specs.OwnEnvelope.{own_says}
 use Rattle.inventory.specs.Inventory.{inventory_says, received_says}
-use Rattle.handover.specs.Handing.{says as codeSays}
+use Rattle.handover.specs.Handing.{says as code_says}
 use Rattle.tombstones.specs.Tombstones.{says_stored}
-use Rattle.tombs.specs.Tombs.{says as tombSays}
+use Rattle.tombs.specs.Tombs.{says as tomb_says}
 use Rattle.maintenance.specs.Expiry.{maintained_of}
 use Rattle.saved.specs.Blobs.{blob_says}
 use Rattle.saved.specs.Saving.{save_says}
 use Rattle.screen.specs.Page.{page_says}
 use Rattle.load.specs.Load.{load_held_rows, load_step}
 use Rattle.load.proofs.ExactLaws.{of_load}
-use Rattle.load.specs.Laying.{says as loadSays}
+use Rattle.load.specs.Laying.{says as load_says}
 use Rattle.host_answers.specs.HostAnswers.{answered, contact_answer, opened_answer, envelope_answer, fetch_answer, fetched_answer, own_answer, listed_answer, inventory_answer, code_answer, stored_answer, tomb_answer, maintained_answer, blob_answer, save_answer, page_answer, load_answer}
 use Rattle.host_answers.specs.declared.Answer.{Answer}
 use Rattle.goosetable.specs.Hosts.{Counted, Length}
@@ -61,10 +61,10 @@ abbrev host_inventory : Result → Answer
 host_inventory o = inventory_answer (received_says o)
 
 abbrev host_code : Result → Answer
-host_code o = code_answer (codeSays o)
+host_code o = code_answer (code_says o)
 
 abbrev host_tomb : Result → Answer
-host_tomb o = tomb_answer (length o.replies) (tombSays o)
+host_tomb o = tomb_answer (length o.replies) (tomb_says o)
 
 abbrev host_stored : Result → Answer
 host_stored o = stored_answer (says_stored o)
@@ -82,7 +82,7 @@ abbrev host_blob : Result → Answer
 host_blob o = blob_answer (blob_says o)
 
 abbrev host_load : Result → Answer
-host_load o = load_answer (loadSays o)
+host_load o = load_answer (load_says o)
 
 abbrev host_save : Result → Answer
 host_save o = save_answer (save_says o)
@@ -192,7 +192,7 @@ load_counted file s =
 
 -- a tomb or a report of so many replies
 abbrev Replies : ℕ → Result → Type 0
-Replies n o = tomb_answer n (tombSays o) ≡ host_tomb o
+Replies n o = tomb_answer n (tomb_says o) ≡ host_tomb o
 
 meeting : (s : State) (tag secret : List ℕ) (m : Met) → Replies 0 (receive_tomb s tag secret m)
 unfolding receive_tomb turn end_own
@@ -237,7 +237,7 @@ module _ (own carried : List ℕ) where
   pub fetch_counted : (replies : ℕ) (peer : ContactId) (tag : List ℕ) → Counts host_fetch (fetch replies peer tag)
   unfolding perform receive_fetch fetched
   fetch_counted replies peer tag =
-      of_call host_fetch (fetch replies peer tag) (λ why. no_reply_lem (eqb (refusalNumber why) 0) (eqb (refusalNumber why) 255) (refusalNumber why) (only (refused why)) refl refl refl)
+      of_call host_fetch (fetch replies peer tag) (λ why. no_reply_lem (eqb (refusal_number why) 0) (eqb (refusal_number why) 255) (refusal_number why) (only (refused why)) refl refl refl)
       (λ s. by_found (CountedBy host_fetch) (find (envelope_of_tag tag) (envelopes s.own s.carried peer)) (λ e. counts refl refl tt) (counts refl refl refl))
 
   finding : (s : State) (f : Option Envelope) → Fetches (match_some f (fetched s) (only missing))
@@ -248,5 +248,5 @@ module _ (own carried : List ℕ) where
   pub fetch_counts : (replies : ℕ) (peer : ContactId) (tag : List ℕ) (s : State) → Fetches (step s (fetch replies peer tag))
   unfolding step perform receive_fetch
   fetch_counts replies peer tag s =
-      of_step Fetches (tests s (fetch replies peer tag)) (perform s (fetch replies peer tag)) (λ why. unread (refusalNumber why) (numbered why) 1 0 0)
+      of_step Fetches (tests s (fetch replies peer tag)) (perform s (fetch replies peer tag)) (λ why. unread (refusal_number why) (numbered why) 1 0 0)
       (finding s (find (envelope_of_tag tag) (envelopes s.own s.carried peer)))

@@ -3,7 +3,7 @@
 use Rattle.std.proofs.Common.{◌≡◌, ℕ, ◌≤◌, Bool, true, false, cond, eqb, List, [], ◌∷◌, length, sym, refl, ap, ◌∙◌, arith}
 use mathlib.Core.Bool.{false≢true}
 use Rattle.octets.specs.Bytes.{Bytes}
-use Rattle.courier_core.specs.Core.{first_of, refusalNumber}
+use Rattle.courier_core.specs.Core.{first_of, refusal_number}
 use Rattle.courier_core.specs.declared.ContactId.{ContactId}
 use Rattle.courier_core.specs.declared.Refusal.{Refusal}
 use Rattle.rows.specs.declared.Device.{Device}
@@ -19,7 +19,7 @@ use Rattle.model.specs.Step.{tests, perform, step}
 use Rattle.model.specs.Areas.{Areas, AnswerAreas, view}
 use Rattle.model.proofs.RefusalLaws.{of_step, by_test}
 use Rattle.inventory.specs.Inventory.{received_says}
-use Rattle.tombs.specs.Tombs.{says as tombSays}
+use Rattle.tombs.specs.Tombs.{says as tomb_says}
 use Rattle.boundary.specs.Boundary.{device_kept, exchange_kept}
 use Rattle.boundary.proofs.AreaLaws.{device_stays, exchange_stays}
 use Rattle.host_answers.specs.HostAnswers.{tomb_answer, inventory_answer, window_answer}
@@ -32,11 +32,11 @@ use Rattle.goosetable.proofs.StayLaws.{is_other, numbered, Places, held_by, leav
 abbrev Malformed : (Result → Answer) → Result → Type 0
 Malformed says o = (says o).said ≡ 128 → o ≡ only malformed
 
-no_number : {A : Type 0} (why : Refusal) → refusalNumber why ≡ 128 → A
+no_number : {A : Type 0} (why : Refusal) → refusal_number why ≡ 128 → A
 no_number why e = absurd (false≢true (sym (numbered why) ∙ ap is_other e))
 
 abbrev tomb_replies : Result → Answer
-tomb_replies o = tomb_answer (length o.replies) (tombSays o)
+tomb_replies o = tomb_answer (length o.replies) (tomb_says o)
 
 meeting : (s : State) (tag secret : List ℕ) (m : Met) → Malformed tomb_replies (receive_tomb s tag secret m)
 unfolding receive_tomb turn end_own

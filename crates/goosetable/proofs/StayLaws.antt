@@ -3,7 +3,7 @@
 use Rattle.std.proofs.Common.{◌≡◌, ℕ, Bool, true, false, not, ◌&&◌, leb, List, [], sym, refl, ap, ◌∙◌, subst, ap₂, le-leb}
 use mathlib.Core.Bool.{false≢true}
 use Rattle.courier_core.specs.declared.ContactId.{ContactId}
-use Rattle.courier_core.specs.Core.{refusalNumber}
+use Rattle.courier_core.specs.Core.{refusal_number}
 use Rattle.courier_core.specs.declared.Refusal.{Refusal}
 use Rattle.courier_core.specs.declared.Refusal.TheVariants as refusal
 use Rattle.rows.specs.declared.Device.{Device}
@@ -34,7 +34,7 @@ pub record Refuses (a : Answer) : Type 0 where
 abbrev pub is_other : ℕ → Bool
 is_other n = not (leb 1 n && leb n 127)
 
-pub numbered : (why : Refusal) → is_other (refusalNumber why) ≡ false
+pub numbered : (why : Refusal) → is_other (refusal_number why) ≡ false
 numbered refusal.ShortArea = refl
 numbered refusal.UnknownContact = refl
 numbered refusal.WrongExchange = refl

@@ -1,5 +1,6 @@
 // The calls as a host of another language links them: numbers, and areas by pointer and length. The device and an exchange lie in
 // small areas of their own (crate boundary); a table of fixed size is a pointer alone. No two areas may overlap, but for ones that are only read.
+#![tactic(auto)]
 ghost use Rattle.std.specs.Prelude.{◌≡◌, [], ◌∷◌, length};
 ghost use Rattle.chain.specs.Chain.{dir_of, window_says, window_area};
 ghost use Rattle.courier.specs.Courier.{from_code};
@@ -7,23 +8,23 @@ ghost use Rattle.courier.specs.Tags.{route_tag, delivered_secret, commitment_of}
 ghost use Rattle.state.specs.Held.{held_decode, held_read};
 ghost use Rattle.wire.specs.Log.{enabled_of, verification_of, code_read};
 ghost use Rattle.boundary.specs.Boundary.{FreshArea, device_kept, device_read, exchange_kept, both_kept};
-ghost use Rattle.model.specs.Calls.{contact as contactCall, setting as settingCall, clock as clockCall, open_exchange, envelope as envelopeCall, fetch as fetchCall, add_own, inventory_of_ours, inventory_received, custody_answer, stored_tombstone, tomb as tombCall, opened as openedCall, failed as failedCall, maintenance as maintenanceCall, row_blob, save as saveCall, page as pageCall};
+ghost use Rattle.model.specs.Calls.{contact as contact_call, setting as setting_call, clock as clock_call, open_exchange, envelope as envelope_call, fetch as fetch_call, add_own, inventory_of_ours, inventory_received, custody_answer, stored_tombstone, tomb as tomb_call, opened as opened_call, failed as failed_call, maintenance as maintenance_call, row_blob, save as save_call, page as page_call};
 ghost use Rattle.model.specs.Lent.{no_answers, replies_lent, actions_lent, answers_lent, bytes_lent, device_in, contacts_in, exchange_in};
 ghost use Rattle.contacts.specs.Answers.{said_of, opened_of};
 ghost use Rattle.envelope.specs.Answers.{envelope_says, envelope_in};
 ghost use Rattle.fetch.specs.Fetch.{fetch_says, fetch_in};
 ghost use Rattle.own_envelope.specs.OwnEnvelope.{own_says, lent_own};
-ghost use Rattle.inventory.specs.Inventory.{inventory_says, held_in as rowsLent, received_says, received_in};
-ghost use Rattle.handover.specs.Handing.{says as codeSays, code_lent};
+ghost use Rattle.inventory.specs.Inventory.{inventory_says, held_in as rows_lent, received_says, received_in};
+ghost use Rattle.handover.specs.Handing.{says as code_says, code_lent};
 ghost use Rattle.tombstones.specs.Tombstones.{says_stored, tombstones_lent};
-ghost use Rattle.tombs.specs.Tombs.{says as tombSays, tomb_lent};
+ghost use Rattle.tombs.specs.Tombs.{says as tomb_says, tomb_lent};
 ghost use Rattle.reports.specs.Reports.{opened_lent, failed_lent};
 ghost use Rattle.maintenance.specs.Expiry.{maintained_of, lent_tables};
 ghost use Rattle.saved.specs.Blobs.{blob_says, held_in};
 ghost use Rattle.saved.specs.Saving.{save_says};
-ghost use Rattle.screen.specs.Page.{page_says, held_in as pageLent};
+ghost use Rattle.screen.specs.Page.{page_says, held_in as page_lent};
 ghost use Rattle.load.specs.Load.{load_step};
-ghost use Rattle.load.specs.Laying.{says as loadSays, load_lent};
+ghost use Rattle.load.specs.Laying.{says as load_says, load_lent};
 ghost use Rattle.host_answers.specs.HostAnswers.{contact_answer, opened_answer, envelope_answer, fetched_answer, own_answers, listed_answer, inventory_answer, code_answer, stored_answer, tomb_answer, maintained_answer, blob_answer, save_answer, page_answer, load_answer, window_answer, row_of};
 ghost use Rattle.goosetable.specs.Hosts.{Hosts, HostsCall, HostsOwn, alone, OnRead, dir_read, Stays, Fills, contact_id, header_from};
 ghost use Rattle.goosetable.specs.Version.{version};
@@ -57,7 +58,7 @@ pub extern "C" fn goosetable_fresh(device: &mut [u8; 60])
 
 #[unsafe(no_mangle)]
 pub extern "C" fn goosetable_clock(device: &mut [u8; 60], seconds: u64) -> Answer
-    ensures { HostsCall device_kept (λ o. contact_answer (said_of o)) (clockCall seconds) result device.old device.new device_in device_in no_answers no_answers }
+    ensures { HostsCall device_kept (λ o. contact_answer (said_of o)) (clock_call seconds) result device.old device.new device_in device_in no_answers no_answers }
 {
     let a = contacts::clock(device_of(device), seconds);
     let after = a.device;
@@ -74,7 +75,7 @@ pub extern "C" fn goosetable_setting(
     copies: u8,
     lifetime: u16,
 ) -> Answer
-    ensures { OnRead (enabled_of enabled) (λ on. HostsCall device_kept (λ o. contact_answer (said_of o)) (settingCall on copies lifetime) result device.old device.new device_in device_in no_answers no_answers) (Stays 13 result (device.old ∷ []) (device.new ∷ [])) }
+    ensures { OnRead (enabled_of enabled) (λ on. HostsCall device_kept (λ o. contact_answer (said_of o)) (setting_call on copies lifetime) result device.old device.new device_in device_in no_answers no_answers) (Stays 13 result (device.old ∷ []) (device.new ∷ [])) }
 {
     if 1 < enabled {
         return answer_of(13, 0, 0, 0);
@@ -94,7 +95,7 @@ pub extern "C" fn goosetable_contact(
     verification: u8,
     contacts: &mut [u8; 2304],
 ) -> Answer
-    ensures { OnRead (verification_of verification) (λ v. HostsCall device_kept (λ o. contact_answer (said_of o)) (contactCall (contact_id id) v) result device.old device.new
+    ensures { OnRead (verification_of verification) (λ v. HostsCall device_kept (λ o. contact_answer (said_of o)) (contact_call (contact_id id) v) result device.old device.new
         (λ d a. device_in d (contacts_in contacts.old a)) (λ d a. device_in d (contacts_in contacts.new a)) no_answers no_answers)
         (Stays 13 result (device.old ∷ contacts.old ∷ []) (device.new ∷ contacts.new ∷ [])) }
 {
@@ -151,7 +152,7 @@ pub extern "C" fn goosetable_envelope(
     actions: &mut [u8],
 ) -> Answer
     ensures { HostsCall device_kept (λ o. envelope_answer (envelope_says o))
-        (envelopeCall (length replies.old) (length actions.old) window.now (contact_id peer) (header_from tag.now c.now expiry copies) ct.now) result device.old device.new
+        (envelope_call (length replies.old) (length actions.old) window.now (contact_id peer) (header_from tag.now c.now expiry copies) ct.now) result device.old device.new
         (λ d. envelope_in d contacts.now own.now carried.old tombstones.now carried_cells.old)
         (λ d. envelope_in d contacts.now own.now carried.new tombstones.now carried_cells.new)
         (answers_lent replies.old actions.old) (answers_lent replies.new actions.new) }
@@ -197,7 +198,7 @@ pub extern "C" fn goosetable_fetch<'c>(
     carried_cells: &'c [u8],
     replies: &mut [u8],
 ) -> Answer
-    ensures { HostsCall device_read (λ o. fetched_answer (length o.replies) (fetch_says own_cells.now carried_cells.now o)) (fetchCall (length replies.old) (contact_id peer) tag.now) result device.now device.now
+    ensures { HostsCall device_read (λ o. fetched_answer (length o.replies) (fetch_says own_cells.now carried_cells.now o)) (fetch_call (length replies.old) (contact_id peer) tag.now) result device.now device.now
         (λ d. fetch_in d contacts.now own.now carried.now own_cells.now carried_cells.now)
         (λ d. fetch_in d contacts.now own.now carried.now own_cells.now carried_cells.now)
         (replies_lent replies.old) (replies_lent replies.new) }
@@ -280,7 +281,7 @@ pub extern "C" fn goosetable_inventory_of_ours(
     prefixes: &mut [u8],
 ) -> Answer
     ensures { HostsCall device_read (λ o. listed_answer (inventory_says o)) (inventory_of_ours (length prefixes.old) (contact_id peer)) result device.now device.now
-        (λ d. rowsLent d contacts.now own.now carried.now) (λ d. rowsLent d contacts.now own.now carried.now)
+        (λ d. rows_lent d contacts.now own.now carried.now) (λ d. rows_lent d contacts.now own.now carried.now)
         (bytes_lent prefixes.old) (bytes_lent prefixes.new) }
 {
     let d = device_of(device);
@@ -346,7 +347,7 @@ pub extern "C" fn goosetable_custody_code(
     offers: &mut [u8],
     actions: &mut [u8],
 ) -> Answer
-    ensures { OnRead (code_read (from_code code)) (λ k. HostsCall both_kept (λ o. code_answer (codeSays o)) (custody_answer (length actions.old) (contact_id peer) tag.now k) result
+    ensures { OnRead (code_read (from_code code)) (λ k. HostsCall both_kept (λ o. code_answer (code_says o)) (custody_answer (length actions.old) (contact_id peer) tag.now k) result
         (device.old, exchange.old) (device.new, exchange.new)
         (λ p. code_lent p.0 p.1 contacts.now own.old carried.old tombstones.now prefixes.now offers.old)
         (λ p. code_lent p.0 p.1 contacts.now own.new carried.new tombstones.now prefixes.now offers.new)
@@ -413,7 +414,7 @@ pub extern "C" fn goosetable_tomb(
     tombstones: &mut [u8],
     actions: &mut [u8],
 ) -> Answer
-    ensures { HostsCall device_kept (λ o. tomb_answer (length o.replies) (tombSays o)) (tombCall (length actions.old) (contact_id peer) tag.now s.now) result device.old device.new
+    ensures { HostsCall device_kept (λ o. tomb_answer (length o.replies) (tomb_says o)) (tomb_call (length actions.old) (contact_id peer) tag.now s.now) result device.old device.new
         (λ d. tomb_lent d contacts.now own.old carried.old tombstones.old)
         (λ d. tomb_lent d contacts.now own.new carried.new tombstones.new)
         (actions_lent actions.old) (actions_lent actions.new) }
@@ -448,7 +449,7 @@ pub extern "C" fn goosetable_opened(
     replies: &mut [u8],
     actions: &mut [u8],
 ) -> Answer
-    ensures { HostsCall device_kept (λ o. tomb_answer (length o.replies) (tombSays o)) (openedCall (length replies.old) (length actions.old) (contact_id peer) tag.now s.now expiry) result device.old device.new
+    ensures { HostsCall device_kept (λ o. tomb_answer (length o.replies) (tomb_says o)) (opened_call (length replies.old) (length actions.old) (contact_id peer) tag.now s.now expiry) result device.old device.new
         (λ d. opened_lent d contacts.now tombstones.old) (λ d. opened_lent d contacts.now tombstones.new)
         (answers_lent replies.old actions.old) (answers_lent replies.new actions.new) }
 {
@@ -478,7 +479,7 @@ pub extern "C" fn goosetable_failed(
     contacts: &[u8; 2304],
     bad_tags: &mut [u8],
 ) -> Answer
-    ensures { HostsCall device_kept (λ o. tomb_answer (length o.replies) (tombSays o)) (failedCall (contact_id peer) tag.now) result device.old device.new
+    ensures { HostsCall device_kept (λ o. tomb_answer (length o.replies) (tomb_says o)) (failed_call (contact_id peer) tag.now) result device.old device.new
         (λ d. failed_lent d contacts.now bad_tags.old) (λ d. failed_lent d contacts.now bad_tags.new) no_answers no_answers }
 {
     let d = device_of(device);
@@ -499,7 +500,7 @@ pub extern "C" fn goosetable_maintenance(
     tombstones: &mut [u8],
     actions: &mut [u8],
 ) -> Answer
-    ensures { HostsCall device_kept (λ o. maintained_answer (maintained_of o)) (maintenanceCall (length actions.old)) result device.old device.new
+    ensures { HostsCall device_kept (λ o. maintained_answer (maintained_of o)) (maintenance_call (length actions.old)) result device.old device.new
         (λ d. lent_tables d own.old carried.old tombstones.old) (λ d. lent_tables d own.new carried.new tombstones.new)
         (actions_lent actions.old) (actions_lent actions.new) }
 {
@@ -540,7 +541,7 @@ pub extern "C" fn goosetable_save(
     carried_cells: &[u8],
     file: &mut [u8],
 ) -> Answer
-    ensures { HostsCall device_read (λ o. save_answer (save_says o)) (saveCall (length file.old)) result device.now device.now
+    ensures { HostsCall device_read (λ o. save_answer (save_says o)) (save_call (length file.old)) result device.now device.now
         (λ d. held_in d carried.now tombstones.now carried_cells.now) (λ d. held_in d carried.now tombstones.now carried_cells.now)
         (bytes_lent file.old) (bytes_lent file.new) }
 {
@@ -557,8 +558,8 @@ pub extern "C" fn goosetable_page(
     tombstones: &[u8],
     area: &mut [u8],
 ) -> Answer
-    ensures { HostsCall device_read (λ o. page_answer (page_says o)) (pageCall (length area.old) page) result device.now device.now
-        (λ d. pageLent d carried.now tombstones.now) (λ d. pageLent d carried.now tombstones.now)
+    ensures { HostsCall device_read (λ o. page_answer (page_says o)) (page_call (length area.old) page) result device.now device.now
+        (λ d. page_lent d carried.now tombstones.now) (λ d. page_lent d carried.now tombstones.now)
         (bytes_lent area.old) (bytes_lent area.new) }
 {
     let d = device_of(device);
@@ -575,7 +576,7 @@ pub extern "C" fn goosetable_load(
     carried_cells: &mut [u8],
     file: &[u8],
 ) -> Answer
-    ensures { Hosts device_kept alone (λ o. load_answer (loadSays o)) (λ s. load_step s file.now) result device.old device.new
+    ensures { Hosts device_kept alone (λ o. load_answer (load_says o)) (λ s. load_step s file.now) result device.old device.new
         (λ d. load_lent d contacts.now carried.old tombstones.old carried_cells.old)
         (λ d. load_lent d contacts.now carried.new tombstones.new carried_cells.new) no_answers no_answers }
 {

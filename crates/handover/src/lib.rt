@@ -1,4 +1,5 @@
 // Custody codes: an offer that is answered is cleared, and accepted copies are taken off their row (`handed_over`).
+#![tactic(auto)]
 ghost use Rattle.std.specs.Prelude.{◌≡◌, ◌+◌, ◌-◌, ◌*◌, ◌/◌, ◌<◌, ◌≤◌, min, ◌||◌, length, nat_lt};
 ghost use Rattle.table.specs.Lists.{position, remove_at, replace_at};
 ghost use Rattle.table.specs.Rows.{held};
@@ -7,7 +8,7 @@ ghost use Rattle.rows.specs.Rows.{own_width, own_codec, carried_width, carried_c
 ghost use Rattle.model.specs.Calls.{custody_answer};
 ghost use Rattle.model.specs.Contacts.{is_for};
 ghost use Rattle.model.specs.Custody.{is_accepted};
-ghost use Rattle.model.specs.Exchange.{offer_of_tag, lowered as loweredBy, own_lowered};
+ghost use Rattle.model.specs.Exchange.{offer_of_tag, lowered as lowered_by, own_lowered};
 ghost use Rattle.model.specs.Lent.{Does, actions_lent};
 ghost use Rattle.handover.specs.Handing.{TakenOffCarried, TakenOffOwn, HandedAs, Settles, device_with, exchange_with, says, code_lent};
 
@@ -68,7 +69,7 @@ fn less(a: u8, b: u8) -> u8
 }
 
 fn lowered(row: Carried, n: u8) -> Carried
-    ensures { result ≡ loweredBy n row }
+    ensures { result ≡ lowered_by n row }
 {
     let tag = row.tag;
     let c = row.c;

@@ -3,7 +3,7 @@
 use Rattle.std.proofs.Common.{◌≡◌, ℕ, suc, ◌+◌, ◌≤◌, Bool, true, false, cond, not, ◌&&◌, ◌||◌, eqb, leb, List, [], ◌∷◌, ◌++◌, length, get_or, take, drop, sym, refl, ap, ◌∙◌, subst, arith, eqb-true, le-leb}
 use mathlib.Core.Bool.{false≢true}
 use borrow.Author.Tests.{eqb-false}
-use Rattle.courier_core.specs.Core.{verificationByte}
+use Rattle.courier_core.specs.Core.{verification_byte}
 use Rattle.courier_core.specs.declared.ContactId.{ContactId}
 use Rattle.courier_core.specs.declared.Verification.{Verification}
 use Rattle.courier_core.specs.declared.Verification.TheVariants as verification
@@ -18,7 +18,7 @@ use Rattle.history.specs.Order.{Sorted, empty, next}
 use Rattle.history.specs.Share.{says1}
 
 abbrev contact_of : ContactId → Verification → Contact
-contact_of id v = record { id = id; verification = verificationByte v }
+contact_of id v = record { id = id; verification = verification_byte v }
 
 -- ---- the place of a contact, one contact at a time
 
@@ -75,7 +75,7 @@ module _ (id : ContactId) (q : Contact) (qs : List Contact) where
 
 -- ---- after a contact call
 
-byte_says : (v : Verification) → eqb (verificationByte v) 1 ≡ says1 v
+byte_says : (v : Verification) → eqb (verification_byte v) 1 ≡ says1 v
 byte_says verification.Unverified = refl
 byte_says verification.Verified = refl
 byte_says verification.Compromised = refl

@@ -51,15 +51,15 @@ module _ (prk info out t : List ℕ) (L have i : ℕ) (s : Expanding prk info ou
       let lv : length v ≡ min (L - 48 * i) 48 = length-take (L - 48 * i) r ∙ ap (min (L - 48 * i)) lr in
       let fits : 48 * i + length v ≤ length out = omega (arith, s.size) in
       let size : length out' ≡ L = ap length eo ∙ length_splice out (48 * i) v fits ∙ s.size in
-      let eT : r ≡ T prk info (suc i) =
+      let e_t : r ≡ T prk info (suc i) =
       er ∙ (λ j. keyed (K0 prk) (s.last j ++ info ++ ((add-one i j) ∷ []))) in
-      let all : up_to prk info (suc i) ≡ up_to prk info i ++ r = ap (λ (l : List ℕ). up_to prk info i ++ l) (sym eT) in
+      let all : up_to prk info (suc i) ≡ up_to prk info i ++ r = ap (λ (l : List ℕ). up_to prk info i ++ l) (sym e_t) in
       let before : take (48 * i) out ≡ up_to prk info i = s.done ∙ take_all L (up_to prk info i) (omega (arith, s.full)) in
       let left : take L (up_to prk info i ++ r) ≡ up_to prk info i ++ v =
       ap (λ (n : ℕ). take n (up_to prk info i ++ r)) (sum L i s.full h) ∙ take-append-add (up_to prk info i) r (L - 48 * i) in
       let ends : take (48 * (i + 1)) out' ≡ take (48 * i + length v) out' = reach out' L i (length v) size lv in
       record {
-        last = take_all 48 r (omega arith) ∙ eT ∙ ap (T prk info) (sym (add-one i));
+        last = take_all 48 r (omega arith) ∙ e_t ∙ ap (T prk info) (sym (add-one i));
         few = omega arith;
         size = size;
         near = omega arith;

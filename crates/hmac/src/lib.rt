@@ -1,10 +1,11 @@
 // HMAC (FIPS 198-1) and HKDF (RFC 5869) with SHA-384.
+#![tactic(auto)]
 ghost use Rattle.std.specs.Prelude.{◌≡◌, List, [], ◌∷◌, ◌++◌, ℕ, ◌+◌, ◌-◌, ◌*◌, ◌^◌, ◌≤◌, ◌<◌, length, take};
 ghost use Rattle.octets.specs.Bytes.{splice};
 ghost use Rattle.sha_block.specs.Constants.{K};
 ghost use Rattle.hasher.specs.Taken.{Taken};
-ghost use Rattle.hmac.specs.Hmac.{K0, padded, ipad, keyed, hmac as hmacOf};
-ghost use Rattle.hmac.specs.Hkdf.{extract as extractOf, expand as expandOf, longest, derived, filled};
+ghost use Rattle.hmac.specs.Hmac.{K0, padded, ipad, keyed, hmac as hmac_of};
+ghost use Rattle.hmac.specs.Hkdf.{extract as extract_of, expand as expand_of, longest, derived, filled};
 
 use hasher::Hasher;
 use octets::least;
@@ -59,7 +60,7 @@ fn end(k: &[u64; 80], k0: [u8; 128], s: Hasher) -> [u8; 48]
 // HMAC of a text in three parts. The first two are short, so that the length of the whole has 64 bits.
 pub fn hmac_parts(key: &[u8], first: &[u8], second: &[u8], third: &[u8]) -> [u8; 48]
     requires { length first.now + length second.now < 2 ^ 62 }
-    ensures { result ≡ hmacOf key.now (first.now ++ second.now ++ third.now) }
+    ensures { result ≡ hmac_of key.now (first.now ++ second.now ++ third.now) }
 {
     let k = sha_block::constants();
     let k0 = block_key(key);
@@ -70,14 +71,14 @@ pub fn hmac_parts(key: &[u8], first: &[u8], second: &[u8], third: &[u8]) -> [u8;
 
 // HMAC of a text under a key, both of any length.
 pub fn hmac(key: &[u8], text: &[u8]) -> [u8; 48]
-    ensures { result ≡ hmacOf key.now text.now }
+    ensures { result ≡ hmac_of key.now text.now }
 {
     hmac_parts(key, b"", b"", text)
 }
 
 // RFC 5869, 2.2.
 pub fn extract(salt: &[u8], ikm: &[u8]) -> [u8; 48]
-    ensures { result ≡ extractOf salt.now ikm.now }
+    ensures { result ≡ extract_of salt.now ikm.now }
 {
     if salt.len() == 0 {
         let zeros = [0u8; 48];
@@ -134,7 +135,7 @@ fn expand_more(
 // 2.3, with an info in three parts, of which the first two are short.
 pub fn expand(prk: [u8; 48], first: &[u8], second: &[u8], third: &[u8], out: &mut [u8])
     requires { (length out.old ≤ longest) × (length first.now + length second.now < 2 ^ 62) }
-    ensures { out.new ≡ expandOf prk (first.now ++ second.now ++ third.now) (length out.old) }
+    ensures { out.new ≡ expand_of prk (first.now ++ second.now ++ third.now) (length out.old) }
 {
     let k = sha_block::constants();
     let k0 = block_key(&prk);

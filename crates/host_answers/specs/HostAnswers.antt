@@ -3,7 +3,7 @@
 -- Assumes nothing.
 use Rattle.std.specs.Prelude.{ℕ, cond, List, ◌==◌}
 use Rattle.std.proofs.Math.ListN as lists
-use Rattle.courier_core.specs.Core.{refusalNumber}
+use Rattle.courier_core.specs.Core.{refusal_number}
 use Rattle.courier_core.specs.declared.Refusal.{Refusal}
 use Rattle.rows.specs.declared.Own.{Own}
 use Rattle.rows.specs.Rows.{own_bytes}
@@ -15,24 +15,24 @@ use Rattle.state.specs.declared.HeldRead.{HeldRead}
 use Rattle.state.specs.declared.Carried.{Carried}
 use Rattle.state.specs.declared.Tombstone.{Tombstone}
 use Rattle.contacts.specs.declared.Said.{Said as ContactSaid}
-use Rattle.contacts.specs.declared.Said.TheVariants as contactSaid
+use Rattle.contacts.specs.declared.Said.TheVariants as contact_said
 use Rattle.contacts.specs.declared.Opened.{Opened}
 use Rattle.contacts.specs.declared.Opened.TheVariants as opening
 use Rattle.envelope.specs.declared.Answer.{Answer as EnvelopeSaid}
-use Rattle.envelope.specs.declared.Answer.TheVariants as envelopeSaid
+use Rattle.envelope.specs.declared.Answer.TheVariants as envelope_said
 use Rattle.fetch.specs.Fetch.{Fetched}
 use Rattle.own_envelope.specs.declared.Made.{Made}
 use Rattle.own_envelope.specs.declared.Made.TheVariants as made
 use Rattle.inventory.specs.declared.Listed.{Listed}
 use Rattle.inventory.specs.declared.Listed.TheVariants as listing
 use Rattle.inventory.specs.declared.Said.{Said as InventorySaid}
-use Rattle.inventory.specs.declared.Said.TheVariants as inventorySaid
+use Rattle.inventory.specs.declared.Said.TheVariants as inventory_said
 use Rattle.handover.specs.declared.Said.{Said as CodeSaid}
-use Rattle.handover.specs.declared.Said.TheVariants as codeSaid
+use Rattle.handover.specs.declared.Said.TheVariants as code_said
 use Rattle.tombstones.specs.declared.Stored.{Stored}
 use Rattle.tombstones.specs.declared.Stored.TheVariants as storing
 use Rattle.tombs.specs.declared.Said.{Said as TombSaid}
-use Rattle.tombs.specs.declared.Said.TheVariants as tombSaid
+use Rattle.tombs.specs.declared.Said.TheVariants as tomb_said
 use Rattle.maintenance.specs.declared.Maintained.{Maintained}
 use Rattle.maintenance.specs.declared.Maintained.TheVariants as maintaining
 use Rattle.saved.specs.declared.BlobAnswer.{BlobAnswer}
@@ -42,7 +42,7 @@ use Rattle.saved.specs.declared.SaveAnswer.TheVariants as saving
 use Rattle.screen.specs.declared.PageAnswer.{PageAnswer}
 use Rattle.screen.specs.declared.PageAnswer.TheVariants as paging
 use Rattle.load.specs.declared.Said.{Said as LoadSaid}
-use Rattle.load.specs.declared.Said.TheVariants as loadSaid
+use Rattle.load.specs.declared.Said.TheVariants as load_said
 use Rattle.host_answers.specs.declared.Answer.{Answer}
 use Rattle.host_answers.specs.declared.Row.{Row}
 
@@ -58,18 +58,18 @@ answered said replies actions len = record {
 }
 
 abbrev pub refusing : Refusal → Answer
-refusing why = answered (refusalNumber why) 0 0 0
+refusing why = answered (refusal_number why) 0 0 0
 
 abbrev pub contact_answer : ContactSaid → Answer
-contact_answer contactSaid.Done = answered 0 0 0 0
-contact_answer (contactSaid.Refused why) = refusing why
+contact_answer contact_said.Done = answered 0 0 0 0
+contact_answer (contact_said.Refused why) = refusing why
 
 abbrev pub opened_answer : Opened → Answer
 opened_answer (opening.As e) = answered 0 0 0 0
 opened_answer (opening.Refused why) = refusing why
 
 abbrev pub envelope_answer : EnvelopeSaid → Answer
-envelope_answer (envelopeSaid.Ours contact generation idx) = record {
+envelope_answer (envelope_said.Ours contact generation idx) = record {
   contact = contact.0;
   replies = 0;
   actions = 0;
@@ -78,8 +78,8 @@ envelope_answer (envelopeSaid.Ours contact generation idx) = record {
   generation = generation;
   said = 129;
 }
-envelope_answer (envelopeSaid.Done replies actions) = answered 0 replies actions 0
-envelope_answer (envelopeSaid.Refused why) = refusing why
+envelope_answer (envelope_said.Done replies actions) = answered 0 replies actions 0
+envelope_answer (envelope_said.Refused why) = refusing why
 
 -- a fetch's number: 0 for an envelope, which has so many replies and whose ciphertext so many bytes, 255 for none, or a refusal's
 abbrev pub fetch_answer : (replies number len : ℕ) → Answer
@@ -107,13 +107,13 @@ listed_answer (listing.Wrote count) = answered 0 0 0 count
 listed_answer (listing.Refused why) = refusing why
 
 abbrev pub inventory_answer : InventorySaid → Answer
-inventory_answer (inventorySaid.Done replies searched) = answered 0 replies 0 searched
-inventory_answer inventorySaid.Malformed = answered 128 0 0 0
-inventory_answer (inventorySaid.Refused why) = refusing why
+inventory_answer (inventory_said.Done replies searched) = answered 0 replies 0 searched
+inventory_answer inventory_said.Malformed = answered 128 0 0 0
+inventory_answer (inventory_said.Refused why) = refusing why
 
 abbrev pub code_answer : CodeSaid → Answer
-code_answer (codeSaid.Done actions) = answered 0 0 actions 0
-code_answer (codeSaid.Refused why) = refusing why
+code_answer (code_said.Done actions) = answered 0 0 actions 0
+code_answer (code_said.Refused why) = refusing why
 
 abbrev pub stored_answer : Stored → Answer
 stored_answer (storing.Done actions) = answered 0 0 actions 0
@@ -121,9 +121,9 @@ stored_answer (storing.Refused why) = refusing why
 
 -- a tomb or a report, which has so many replies where it is done
 abbrev pub tomb_answer : ℕ → TombSaid → Answer
-tomb_answer replies (tombSaid.Done actions) = answered 0 replies actions 0
-tomb_answer replies tombSaid.Malformed = answered 128 0 0 0
-tomb_answer replies (tombSaid.Refused why) = refusing why
+tomb_answer replies (tomb_said.Done actions) = answered 0 replies actions 0
+tomb_answer replies tomb_said.Malformed = answered 128 0 0 0
+tomb_answer replies (tomb_said.Refused why) = refusing why
 
 abbrev pub maintained_answer : Maintained → Answer
 maintained_answer (maintaining.Done actions) = answered 0 0 actions 0
@@ -143,8 +143,8 @@ page_answer (paging.Wrote len) = answered 0 0 0 len
 page_answer (paging.Refused why) = refusing why
 
 abbrev pub load_answer : LoadSaid → Answer
-load_answer loadSaid.Done = answered 0 0 0 0
-load_answer (loadSaid.Refused why) = refusing why
+load_answer load_said.Done = answered 0 0 0 0
+load_answer (load_said.Refused why) = refusing why
 
 abbrev pub window_answer : Windowed → Answer
 window_answer (windowed.Listed count) = answered 0 0 0 count

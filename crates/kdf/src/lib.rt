@@ -1,7 +1,8 @@
 // kdf.rs: labelled keys, tags and hashes.
+#![tactic(auto)]
 ghost use Rattle.std.specs.Prelude.{◌≡◌, ◌≤◌, length, take};
 ghost use Rattle.hmac.specs.Hkdf.{longest};
-ghost use Rattle.kdf.specs.Kdf.{longest_label, longest_tag, head as head_of, head_as, tag as tag_of, mac as macOf, kdf as kdfOf, hash as hashOf, commit as commitOf, key_as, digest_as, told, kept, is_done};
+ghost use Rattle.kdf.specs.Kdf.{longest_label, longest_tag, head as head_of, head_as, tag as tag_of, mac as mac_of, kdf as kdf_of, hash as hash_of, commit as commit_of, key_as, digest_as, told, kept, is_done};
 
 // The longest label: `cairn-r1 ` and the label have a length of two bytes.
 const LONGEST_LABEL: usize = 65526;
@@ -91,7 +92,7 @@ pub fn tag(key: &[u8], label: &[u8], x: &[u8], out: &mut [u8]) -> Made
 
 // `mac`: a tag of 16 bytes.
 pub fn mac(key: &[u8], label: &[u8], x: &[u8]) -> Key
-    ensures { result ≡ key_as label.now (macOf key.now label.now x.now) }
+    ensures { result ≡ key_as label.now (mac_of key.now label.now x.now) }
 {
     let mut bytes = [0u8; 16];
     let made = tag(key, label, x, &mut bytes);
@@ -104,7 +105,7 @@ pub fn mac(key: &[u8], label: &[u8], x: &[u8]) -> Key
 // `kdf`: fills out with HKDF's output, for the info `labelled(label)` and info.
 pub fn kdf(ikm: &[u8], salt: &[u8], label: &[u8], info: &[u8], out: &mut [u8]) -> Made
     ensures value { result ≡ told label.now longest (length out.old) }
-    ensures out_after { out.new ≡ kept label.now longest (kdfOf ikm.now salt.now label.now info.now (length out.old)) out.old }
+    ensures out_after { out.new ≡ kept label.now longest (kdf_of ikm.now salt.now label.now info.now (length out.old)) out.old }
 {
     if LONGEST_LABEL < label.len() {
         return Made::LabelTooLong;
@@ -120,7 +121,7 @@ pub fn kdf(ikm: &[u8], salt: &[u8], label: &[u8], info: &[u8], out: &mut [u8]) -
 
 // `kdf` for 16 bytes.
 pub fn kdf_16(ikm: &[u8], salt: &[u8], label: &[u8], info: &[u8]) -> Key
-    ensures { result ≡ key_as label.now (kdfOf ikm.now salt.now label.now info.now 16) }
+    ensures { result ≡ key_as label.now (kdf_of ikm.now salt.now label.now info.now 16) }
 {
     let mut bytes = [0u8; 16];
     let made = kdf(ikm, salt, label, info, &mut bytes);
@@ -132,7 +133,7 @@ pub fn kdf_16(ikm: &[u8], salt: &[u8], label: &[u8], info: &[u8]) -> Key
 
 // `hash` of a labelled label and x: SHA-384 of both.
 pub fn hash(label: &[u8], x: &[u8]) -> Digest
-    ensures { result ≡ digest_as label.now (hashOf label.now x.now) }
+    ensures { result ≡ digest_as label.now (hash_of label.now x.now) }
 {
     if LONGEST_LABEL < label.len() {
         return Digest {
@@ -157,7 +158,7 @@ fn trunc32(digest: [u8; 48]) -> [u8; 32]
 
 // `commit`: the first 32 bytes of the hash of the label `commit` and a nonce.
 pub fn commit(nonce: [u8; 16]) -> [u8; 32]
-    ensures { result ≡ commitOf nonce }
+    ensures { result ≡ commit_of nonce }
 {
     let digest = hash(b"commit", &nonce);
     let bytes = digest.bytes;

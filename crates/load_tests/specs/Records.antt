@@ -48,7 +48,7 @@ is_tombstone b = has_key 0 (72 ∷ 84 ∷ []) b
 
 -- has a record the key at the offset, and is it carried where that is asked
 unfoldable pub counted : Bool → ℕ → List ℕ → List ℕ → Bool
-counted carriedOnly offset key b = cond carriedOnly (is_carried b && has_key offset key b) (has_key offset key b)
+counted carried_only offset key b = cond carried_only (is_carried b && has_key offset key b) (has_key offset key b)
 
 -- no slot is that of two records
 unfoldable pub SlotsOnce : List (List ℕ) → Type 0

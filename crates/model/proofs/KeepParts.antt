@@ -291,12 +291,12 @@ module _ (s : State) (g : Good s) where
       let stays : Own → Bool = λ o. not (own_expired m o && is_renewed o) in
       let renew : Own → Own = renew_expired m s.courier.copies (end_of s) in
       let own : List Own = filter stays s.own in
-      let liveCarried : Carried → Bool = λ r. not (carried_expired m r) in
-      let liveTombstone : Tombstone → Bool = λ t. not (tombstone_expired m t) in
+      let live_carried : Carried → Bool = λ r. not (carried_expired m r) in
+      let live_tombstone : Tombstone → Bool = λ t. not (tombstone_expired m t) in
       made s (maintain_couriers s).change tt tt (
         all_map renew own (all_imp (renewed_proper m) own (all_filter stays s.own g.own)),
         omega (arith, length-map own renew, length_filter stays s.own, g.own_few),
-      ) (all_filter liveCarried s.carried g.carried, omega (arith, length_filter liveCarried s.carried, g.carried_few)) (
-        all_filter liveTombstone s.tombstones g.tombstones,
-        omega (arith, length_filter liveTombstone s.tombstones, g.tombstones_fit),
+      ) (all_filter live_carried s.carried g.carried, omega (arith, length_filter live_carried s.carried, g.carried_few)) (
+        all_filter live_tombstone s.tombstones g.tombstones,
+        omega (arith, length_filter live_tombstone s.tombstones, g.tombstones_fit),
       ) tt tt tt tt

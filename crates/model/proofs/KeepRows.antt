@@ -5,7 +5,7 @@ use mathlib.Core.Bool.{false≢true}
 use native.Mathlib.Nat.{min-le_left, min-le_right}
 use lib.ListN.{length-map}
 use borrow.Author.Tests.{eqb-false}
-use Rattle.courier_core.specs.Core.{verificationByte}
+use Rattle.courier_core.specs.Core.{verification_byte}
 use Rattle.courier_core.specs.declared.ContactId.{ContactId}
 use Rattle.courier_core.specs.declared.Verification.{Verification}
 use Rattle.courier_core.specs.declared.Verification.TheVariants as verification
@@ -46,7 +46,7 @@ not_is : (b : Bool) → b ≡ false → not b ≡ true
 not_is true h = absurd (false≢true (sym h))
 not_is false h = refl
 
-pub small : (v : Verification) → verificationByte v < 2 ^ 8
+pub small : (v : Verification) → verification_byte v < 2 ^ 8
 small verification.Unverified = omega arith
 small verification.Verified = omega arith
 small verification.Compromised = omega arith
@@ -71,7 +71,7 @@ unfolding put_contact contact_place known
 put_contact_lem ps id v h g t = go (position (is_contact id) ps) refl
   where
     p : Contact
-    p = record { id = id; verification = verificationByte v }
+    p = record { id = id; verification = verification_byte v }
 
     proper : ProperContact p
     proper = record { id = h; verification = small v }

@@ -11,7 +11,7 @@ use Rattle.rows.specs.declared.Carried.{Carried}
 use Rattle.rows.specs.declared.Tombstone.{Tombstone}
 use Rattle.model.specs.Basics.{merge}
 use Rattle.model.specs.State.{State}
-use Rattle.model.specs.Calls.{Cells, ofOwn, of_carried, no_cell, cell_from, first_cell, reply_cell}
+use Rattle.model.specs.Calls.{Cells, of_own, of_carried, no_cell, cell_from, first_cell, reply_cell}
 use Rattle.model.specs.Cells.{cell_size, max_cells, cell_start, cell_length, ciphertext}
 use Rattle.model.specs.Custody.{carried_total}
 use Rattle.model.specs.Tombs.{no_tombstone, least_from, least_expiry}
@@ -67,7 +67,7 @@ told : (k j : Cells) (c e : ℕ) → c < 256 → reply_cell k c ≡ reply_cell j
 told k j c e h same = go (ltb e max_cells) refl
   where
     first : (i : Cells) → first_cell i ≤ 256
-    first ofOwn = omega arith
+    first of_own = omega arith
     first of_carried = omega arith
 
     go : (b : Bool) → ltb e max_cells ≡ b → (e < 256) × (first_cell k + c ≡ first_cell j + e)
@@ -80,9 +80,9 @@ uncounted_reply k cell h = uncounted_cell (first_cell k) cell h
 
 -- the cell of a row that counts is no other row's: a reply tells which area it means, and which cell of it
 pub cells_apart : (k j : Cells) (c e : ℕ) → c < 256 → reply_cell k c ≡ reply_cell j e → (k ≡ j) × (c ≡ e)
-cells_apart ofOwn ofOwn c e h same = (refl, omega (arith, (told ofOwn ofOwn c e h same).1))
-cells_apart ofOwn of_carried c e h same = absurd (omega (arith, (told ofOwn of_carried c e h same).1))
-cells_apart of_carried ofOwn c e h same = let p = told of_carried ofOwn c e h same in absurd (omega (arith, p.0, p.1))
+cells_apart of_own of_own c e h same = (refl, omega (arith, (told of_own of_own c e h same).1))
+cells_apart of_own of_carried c e h same = absurd (omega (arith, (told of_own of_carried c e h same).1))
+cells_apart of_carried of_own c e h same = let p = told of_carried of_own c e h same in absurd (omega (arith, p.0, p.1))
 cells_apart of_carried of_carried c e h same = (refl, omega (arith, (told of_carried of_carried c e h same).1))
 
 -- ---- the least expiry

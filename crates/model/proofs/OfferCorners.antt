@@ -6,7 +6,7 @@ use Rattle.rows.specs.declared.Carried.{Carried}
 use Rattle.rows.specs.declared.Tombstone.{Tombstone}
 use Rattle.model.specs.State.{State, own_now, carried_now, tombstones_now, listed_now, ◌and◌, apply}
 use Rattle.courier.specs.Tags.{commitment_of}
-use Rattle.model.specs.Calls.{ofOwn, of_carried}
+use Rattle.model.specs.Calls.{of_own, of_carried}
 use Rattle.model.specs.Exchange
 use Rattle.model.specs.Exchange.{Envelope, envelopes, searched_rows, searched_count, halved, offers, receive_inventory}
 use Rattle.model.specs.Before
@@ -42,7 +42,7 @@ abbrev a_carried : Carried
 a_carried = record { slot = 8; depositor = id 5; tag = of_byte 4; c = of_byte 5; expiry_min = 91; copies = 6; len = 41; cell = 12 }
 
 own_as : ℕ → Envelope
-own_as n = record { head = record { tag = of_byte 2; c = commitment_of (of_byte 3); expiry_min = 90; copies = n }; cells = ofOwn; cell = 11; len = 40 }
+own_as n = record { head = record { tag = of_byte 2; c = commitment_of (of_byte 3); expiry_min = 90; copies = n }; cells = of_own; cell = 11; len = 40 }
 
 carried_as : ℕ → Envelope
 carried_as n = record { head = record { tag = of_byte 4; c = of_byte 5; expiry_min = 91; copies = n }; cells = of_carried; cell = 12; len = 41 }

@@ -39,7 +39,7 @@ pub data Call : Type 0 where
 
 -- the cell area that a ciphertext is in
 pub data Cells : Type 0 where
-  ofOwn of_carried : Cells
+  of_own of_carried : Cells
 
 pub data Answer : Type 0 where
   refused : Refusal → Answer  -- document 01's number: `refusal_number`
@@ -116,7 +116,7 @@ cell_from first cell = cond (nat_lt cell max_cells) (first + cell) no_cell
 
 -- an envelope's cell: own from 0, carried from 256
 abbrev pub first_cell : Cells → ℕ
-first_cell ofOwn = 0
+first_cell of_own = 0
 first_cell of_carried = 256
 
 abbrev pub reply_cell : Cells → ℕ → ℕ

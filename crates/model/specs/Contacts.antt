@@ -1,7 +1,7 @@
 -- The clock in minutes, contacts, and the calls that set them: contact, setting, clock, fresh exchange.
 -- Assumes nothing.
 use Rattle.std.specs.Prelude.{ℕ, ◌+◌, ◌/◌, min, Bool, false, not, ◌&&◌, List, [], ◌∷◌, ◌++◌, length, nat_eq, nat_le, slice_index_or}
-use Rattle.courier_core.specs.Core.{verificationByte}
+use Rattle.courier_core.specs.Core.{verification_byte}
 use Rattle.courier_core.specs.declared.ContactId.{ContactId}
 use Rattle.courier_core.specs.declared.Verification.{Verification}
 use Rattle.courier_core.specs.declared.Refusal.{Refusal}
@@ -61,7 +61,7 @@ added_before ps id = unwrap_or (length ps) (contact_place ps id)
 -- a contact added at the end, or altered in its place
 unfoldable pub put_contact : List Contact → ContactId → Verification → List Contact
 put_contact ps id v =
-    let p : Contact = record { id = id; verification = verificationByte v } in
+    let p : Contact = record { id = id; verification = verification_byte v } in
     match_found (contact_place ps id) (λ i. replace_at i p ps) (ps ++ (p ∷ []))
 
 unfoldable pub contact_tests : State → ContactId → List (Bool × Refusal)

@@ -21,7 +21,7 @@ use Rattle.rows.specs.declared.Action.{Action}
 use Rattle.rows.specs.declared.Reachable.{Reachable}
 use Rattle.model.specs.Basics.{match_found, match_some, find, same_contact, trunc8}
 use Rattle.model.specs.State.{State, OpenExchange, Change, nothing, own_now, carried_now, complete_now, listed_now, offered_now, ◌and◌}
-use Rattle.model.specs.Calls.{Cells, ofOwn, of_carried, Result, result, telling, told_at, only, done, malformed, found, missing, wrote, short_replies, short_actions, short_exchange, put_courier, put_queued, fetch_reply, envelope_reply, tomb_reply}
+use Rattle.model.specs.Calls.{Cells, of_own, of_carried, Result, result, telling, told_at, only, done, malformed, found, missing, wrote, short_replies, short_actions, short_exchange, put_courier, put_queued, fetch_reply, envelope_reply, tomb_reply}
 use Rattle.model.specs.Contacts.{known, is_for}
 use Rattle.model.specs.Window.{no_reachable, window_rows, wrong_window, strangers, lookup, is_bad}
 use Rattle.model.specs.Cells.{cell_start, cell_length}
@@ -39,7 +39,7 @@ pub record Envelope : Type 0 where
 unfoldable pub own_envelope_of : Own → Envelope
 own_envelope_of o = record {
   head = record { tag = o.tag; c = commitment_of o.s; expiry_min = o.expiry_min; copies = o.copies };
-  cells = ofOwn;
+  cells = of_own;
   cell = o.cell;
   len = o.len;
 }
@@ -86,7 +86,7 @@ unfoldable pub fetch_tests : State → ℕ → ContactId → List (Bool × Refus
 fetch_tests s replies peer = (short_replies replies, refusal.ShortArea) ∷ (not (known s.contacts peer), refusal.UnknownContact) ∷ []
 
 abbrev pub cell_area : State → Cells → List ℕ
-cell_area s ofOwn = s.own_cells
+cell_area s of_own = s.own_cells
 cell_area s of_carried = s.carried_cells
 
 -- an envelope, and the part of the cell area that is its ciphertext

@@ -1,1 +1,2 @@
 // The model of the holdings: definitions in specs/, their laws in proofs/. There is no code here.
+#![tactic(auto)]

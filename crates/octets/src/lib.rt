@@ -1,4 +1,6 @@
 // Bytes in a lent area: runs copied and moved, runs compared, big-endian numbers read and written.
+#![tactic(auto)]
+
 ghost use Rattle.std.specs.Prelude.{◌≡◌, ℕ, ◌+◌, ◌*◌, ◌^◌, ◌≤◌, ◌<◌, min, length};
 ghost use Rattle.octets.specs.Bytes.{Bytes, splice, part, num, be, low_first, same_bytes};
 

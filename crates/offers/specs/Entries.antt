@@ -10,12 +10,12 @@ use Rattle.model.specs.Exchange.{Envelope, own_envelope_of, carried_envelope_of,
 use Rattle.offers.specs.declared.Row.{Row}
 
 -- of each held row, own rows first; and of the row at i, where there are n own rows
-module _ {X : Type 0} (ofOwn : Own → X) (of_carried : Carried → X) where
+module _ {X : Type 0} (of_own : Own → X) (of_carried : Carried → X) where
   unfoldable pub held_by : List Own → List Carried → List X
-  held_by own carried = map ofOwn own ++ map of_carried carried
+  held_by own carried = map of_own own ++ map of_carried carried
 
   unfoldable pub held_by_at : List ℕ → ℕ → List ℕ → ℕ → X
-  held_by_at own n carried i = cond (nat_lt i n) (ofOwn (own_of (part own (i * 54) 54))) (of_carried (carried_of (part carried ((i - n) * 57) 57)))
+  held_by_at own n carried i = cond (nat_lt i n) (of_own (own_of (part own (i * 54) 54))) (of_carried (carried_of (part carried ((i - n) * 57) 57)))
 
 -- their envelopes
 abbrev pub held_envelopes : List Own → List Carried → List Envelope

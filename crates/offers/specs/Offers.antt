@@ -9,7 +9,7 @@ use Rattle.rows.specs.declared.Tombstone.{Tombstone}
 use Rattle.rows.specs.declared.Offer.{Offer}
 use Rattle.rows.specs.Proper.{ProperOffer}
 use Rattle.rows.specs.Rows.{offer_codec, reply_bytes}
-use Rattle.model.specs.Calls.{ofOwn, reply_cell}
+use Rattle.model.specs.Calls.{of_own, reply_cell}
 use Rattle.model.specs.Exchange.{Envelope, reply_for, in_question, is_offered, halved, insert_offer, insert_offers}
 use Rattle.offers.specs.declared.Offered.{Offered}
 use Rattle.offers.specs.Appended.{Appended}
@@ -47,7 +47,7 @@ offered_of e = record { cell = reply_cell e.cells e.cell; head = (halved e).head
 abbrev pub as_envelope : Offer → Envelope
 as_envelope o = record {
   head = record { tag = o.tag; c = []; expiry_min = 0; copies = o.copies };
-  cells = ofOwn;
+  cells = of_own;
   cell = 0;
   len = 0;
 }

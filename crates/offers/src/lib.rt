@@ -1,4 +1,5 @@
 // What is offered to a peer: of the rows held here, own rows first, those that are offered are flagged; then the flagged ones are written, as replies and as offers.
+#![tactic(auto)]
 ghost use Rattle.std.specs.Prelude.{◌≡◌, ◌+◌, ◌*◌, ◌/◌, ◌<◌, ◌≤◌, ◌&&◌, length, nat_lt};
 ghost use Rattle.courier_core.specs.declared.ContactId.{ContactId};
 ghost use Rattle.table.specs.Codec.{table_of};

@@ -198,11 +198,11 @@ pub record Fair (cs : List Contact) (r : Carried) : Type 0 where
 abbrev Known : List Contact → List ℕ → Type 0
 Known cs b = is_carried b ≡ true → known cs (record { 0 = num (depositor_in b) }) ≡ true
 
-pub record Loaded (cs : List Contact) (carriedAll tombstonesAll : ℕ) (l : Rows) (rs : List (List ℕ)) : Type 0 where
+pub record Loaded (cs : List Contact) (carried_all tombstones_all : ℕ) (l : Rows) (rs : List (List ℕ)) : Type 0 where
   pub fair : All (Fair cs) l.carried
   pub proper : All ProperTombstone l.tombstones
-  pub carried_count : length l.carried + count_by is_carried rs ≡ carriedAll
-  pub tombstone_count : length l.tombstones + count_by is_tombstone rs ≡ tombstonesAll
+  pub carried_count : length l.carried + count_by is_carried rs ≡ carried_all
+  pub tombstone_count : length l.tombstones + count_by is_tombstone rs ≡ tombstones_all
   pub tags : TagsDiffer l.carried
   pub tags_new : All (λ (b : List ℕ). is_carried b ≡ true → All (λ (r : Carried). r.tag ≡ tag_in b → ⊥) l.carried) rs
   pub tags_left : Sorted TagsApart rs

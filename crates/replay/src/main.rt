@@ -1,4 +1,5 @@
 // Makes the calls of a sample of the oracle's answers again, on a post of its own, and compares every answer with the sample's.
+#![tactic(auto)]
 use libc::{STDERR_FILENO, STDIN_FILENO, STDOUT_FILENO};
 use replay_calls::{Outcome, Sizes};
 use replay_compare::{Seen, compare};

@@ -1,5 +1,6 @@
 // The calls of a sample that set, hold, list and hand over: each is made with the inputs of its record, on the areas of a post, and
 // says what it answered.
+#![tactic(auto)]
 ghost use Rattle.std.specs.Prelude.{◌≤◌};
 
 use chain::{Dir, DirRead};

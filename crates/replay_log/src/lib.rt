@@ -7,6 +7,7 @@
 //            reply rows of 40 bytes, with the length of the ciphertext in the place of the cell,
 //            action rows of 15 bytes: the library's 13, and the length of the blob of a row that was put,
 //            and the expected bytes: the ciphertexts of the replies, the blobs of the puts, and what the call wrote or read
+#![tactic(auto)]
 ghost use Rattle.std.specs.Prelude.{◌≤◌};
 
 use state::{ByteRead, U32Read, U64Read};

@@ -5,7 +5,7 @@ use Rattle.octets.specs.Bytes.{part, splice, num}
 use Rattle.state.specs.declared.Carried.{Carried as HeldCarried}
 use Rattle.state.specs.declared.Tombstone.{Tombstone as HeldTombstone}
 use Rattle.state.specs.declared.RowAnswer.{RowAnswer}
-use Rattle.state.specs.declared.RowAnswer.TheVariants as rowAnswer
+use Rattle.state.specs.declared.RowAnswer.TheVariants as row_answer
 use Rattle.state.specs.Held.{held_row}
 use Rattle.rows.specs.declared.Carried.{Carried}
 use Rattle.rows.specs.declared.Tombstone.{Tombstone}
@@ -38,8 +38,8 @@ held_tombstone t = record { tag = t.tag; s = t.s; expiry_min = t.expiry_min }
 
 -- how many bytes a row that was written has
 abbrev pub count_of : RowAnswer → ℕ
-count_of (rowAnswer.Refused why) = 0
-count_of (rowAnswer.Written n) = n
+count_of (row_answer.Refused why) = 0
+count_of (row_answer.Written n) = n
 
 -- the row's n bytes, at most so many, stand at the front of an area that was before and is now after
 pub record Blobbed (most : ℕ) (h : Slotted) (before : List ℕ) (n : ℕ) (after : List ℕ) : Type 0 where

@@ -1,11 +1,12 @@
 // Held rows as blobs: the row blob call, and the saved file.
+#![tactic(auto)]
 ghost use Rattle.std.specs.Prelude.{◌≡◌, ◌+◌, ◌*◌, ◌<◌, ◌≤◌, [], ◌∷◌, ◌++◌, length, nat_lt};
 ghost use Rattle.octets.specs.Bytes.{part, be};
 ghost use Rattle.table.specs.Lists.{position};
 ghost use Rattle.table.specs.Rows.{rows};
 ghost use Rattle.table.specs.Codec.{table_of};
 ghost use Rattle.rows.specs.Rows.{carried_codec, carried_of, tombstone_codec, tombstone_of};
-ghost use Rattle.model.specs.Calls.{row_blob, save as saveCall};
+ghost use Rattle.model.specs.Calls.{row_blob, save as save_call};
 ghost use Rattle.model.specs.Cells.{cell_count};
 ghost use Rattle.model.specs.Lent.{Does, bytes_lent};
 ghost use Rattle.model.specs.Saved.{carried_held, tombstone_held, saved_file};
@@ -298,7 +299,7 @@ pub fn save(
     carried_cells: &[u8],
     file: &mut [u8],
 ) -> SaveAnswer
-    ensures { Does save_says (saveCall (length file.old)) result
+    ensures { Does save_says (save_call (length file.old)) result
         (held_in device carried.now tombstones.now carried_cells.now)
         (held_in device carried.now tombstones.now carried_cells.now)
         (bytes_lent file.old) (bytes_lent file.new) }

@@ -1,7 +1,8 @@
 // The post's screen page: a heading, and up to 19 held rows by slot, a line each.
+#![tactic(auto)]
 ghost use Rattle.std.specs.Prelude.{◌≡◌, ◌+◌, ◌*◌, ◌≤◌, min, length};
 ghost use Rattle.octets.specs.Bytes.{splice};
-ghost use Rattle.model.specs.Calls.{page as pageCall};
+ghost use Rattle.model.specs.Calls.{page as page_call};
 ghost use Rattle.model.specs.Lent.{Does, bytes_lent};
 ghost use Rattle.model.specs.Screen.{carried_row, tombstone_row, line_front, minutes_left, carried_end, screen_line, heading};
 ghost use Rattle.by_slot.specs.BySlot.{Reached};
@@ -199,7 +200,7 @@ pub fn page(
     tombstones: &[u8],
     area: &mut [u8],
 ) -> PageAnswer
-    ensures { Does page_says (pageCall (length area.old) number) result
+    ensures { Does page_says (page_call (length area.old) number) result
         (held_in device carried.now tombstones.now)
         (held_in device carried.now tombstones.now)
         (bytes_lent area.old) (bytes_lent area.new) }

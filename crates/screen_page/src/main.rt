@@ -1,4 +1,5 @@
 // Pages of the post's screen, printed as they are. Before each a line says what is shown, and how many bytes were answered.
+#![tactic(auto)]
 use courier_core::ContactId;
 use libc::STDOUT_FILENO;
 use rows::{Carried, Device, Tombstone};

@@ -16,7 +16,7 @@ use Rattle.state.specs.declared.Carried.{Carried}
 use Rattle.state.specs.declared.Tombstone.{Tombstone}
 use Rattle.state.specs.declared.ArrayRead.{ArrayRead}
 use Rattle.state.specs.declared.ByteRead.{ByteRead}
-use Rattle.state.specs.declared.ByteRead.TheVariants as byteRead
+use Rattle.state.specs.declared.ByteRead.TheVariants as byte_read
 use Rattle.state.specs.declared.U32Read.{U32Read}
 use Rattle.state.specs.declared.U64Read.{U64Read}
 use Rattle.state.specs.declared.HeldKind.{HeldKind}
@@ -75,7 +75,7 @@ nothing (x ∷ b) h = absurd (omega arith)
 
 -- ---- the steps of `decode`
 
-pub first_byte : (b : List ℕ) (v : ℕ) → byte_at b 0 ≡ byteRead.Got v → get_or b 0 0 ≡ v
+pub first_byte : (b : List ℕ) (v : ℕ) → byte_at b 0 ≡ byte_read.Got v → get_or b 0 0 ≡ v
 first_byte b v e = let g = number_got byte_number 1 b 0 v e in sym (num_one b 0 (omega (arith, g.0))) ∙ g.1
 
 -- a blob is its first byte and what is left of it
@@ -85,19 +85,19 @@ parted (x ∷ b) k h e = ap (λ (y : ℕ). y ∷ b) e
 
 -- the kind that it says
 module _ (k : ℕ) where
-  pub first_0 : k ≡ 0 → kind.Carried ≡ kind_of (byteRead.Got k)
+  pub first_0 : k ≡ 0 → kind.Carried ≡ kind_of (byte_read.Got k)
   unfolding kind_of
   first_0 e = rw (eq-eqb k 0 e)
 
-  pub first_1 : k ≡ 1 → kind.Tombstone ≡ kind_of (byteRead.Got k)
+  pub first_1 : k ≡ 1 → kind.Tombstone ≡ kind_of (byte_read.Got k)
   unfolding kind_of
   first_1 e = rw e
 
-  pub first_other : (k ≡ 0 → ⊥) → (k ≡ 1 → ⊥) → kind.None ≡ kind_of (byteRead.Got k)
+  pub first_other : (k ≡ 0 → ⊥) → (k ≡ 1 → ⊥) → kind.None ≡ kind_of (byte_read.Got k)
   unfolding kind_of
   first_other f g = rw (ne_eqb k 0 f, ne_eqb k 1 g)
 
-pub first_short : kind.None ≡ kind_of byteRead.Short
+pub first_short : kind.None ≡ kind_of byte_read.Short
 unfolding kind_of
 first_short = refl
 
@@ -108,8 +108,8 @@ module _ (b : List ℕ) where
   says_none e = go (byte_at b 0) refl e
     where
       go : (r : ByteRead) → byte_at b 0 ≡ r → kind_of r ≡ kind.None → held_decode b ≡ none
-      go byteRead.Short p q = nothing b (omega (arith, number_short byte_number 1 b 0 p))
-      go (byteRead.Got k) p q = by_k (eqb k 0) refl (eqb k 1) refl q
+      go byte_read.Short p q = nothing b (omega (arith, number_short byte_number 1 b 0 p))
+      go (byte_read.Got k) p q = by_k (eqb k 0) refl (eqb k 1) refl q
         where
           by_k : (y : Bool) → eqb k 0 ≡ y → (z : Bool) → eqb k 1 ≡ z → cond y kind.Carried (cond z kind.Tombstone kind.None) ≡ kind.None → held_decode b ≡ none
           by_k true ey z ez q = let w : ◌≡◌ {A = ℕ} 0 1 = cc in absurd (omega arith)
@@ -122,8 +122,8 @@ module _ (b : List ℕ) where
   says_carried e = go (byte_at b 0) refl e
     where
       go : (r : ByteRead) → byte_at b 0 ≡ r → kind_of r ≡ kind.Carried → held_decode b ≡ carried_in (0 ∷ drop 1 b)
-      go byteRead.Short p q = let w : ◌≡◌ {A = ℕ} 0 1 = cc in absurd (omega arith)
-      go (byteRead.Got k) p q = by_k (eqb k 0) refl (eqb k 1) q
+      go byte_read.Short p q = let w : ◌≡◌ {A = ℕ} 0 1 = cc in absurd (omega arith)
+      go (byte_read.Got k) p q = by_k (eqb k 0) refl (eqb k 1) q
         where
           by_k : (y : Bool) → eqb k 0 ≡ y → (z : Bool) → cond y kind.Carried (cond z kind.Tombstone kind.None) ≡ kind.Carried → held_decode b ≡ carried_in (0 ∷ drop 1 b)
           by_k true ey z q =
@@ -137,8 +137,8 @@ module _ (b : List ℕ) where
   says_tombstone e = go (byte_at b 0) refl e
     where
       go : (r : ByteRead) → byte_at b 0 ≡ r → kind_of r ≡ kind.Tombstone → held_decode b ≡ tombstone_in (1 ∷ drop 1 b)
-      go byteRead.Short p q = let w : ◌≡◌ {A = ℕ} 0 1 = cc in absurd (omega arith)
-      go (byteRead.Got k) p q = by_k (eqb k 0) (eqb k 1) refl q
+      go byte_read.Short p q = let w : ◌≡◌ {A = ℕ} 0 1 = cc in absurd (omega arith)
+      go (byte_read.Got k) p q = by_k (eqb k 0) (eqb k 1) refl q
         where
           by_k : (y : Bool) (z : Bool) → eqb k 1 ≡ z → cond y kind.Carried (cond z kind.Tombstone kind.None) ≡ kind.Tombstone → held_decode b ≡ tombstone_in (1 ∷ drop 1 b)
           by_k true z ez q = let w : ◌≡◌ {A = ℕ} 0 1 = cc in absurd (omega arith)

@@ -3,9 +3,9 @@
 use Rattle.std.proofs.Common.{◌≡◌, ℕ, ◌+◌, ◌-◌, ◌<◌, ◌≤◌, Bool, true, false, cond, leb, List, length, take, drop, sym, refl, ap, ◌∙◌, ap₂, arith, length-drop, le-leb, leb-false, leb-true}
 use borrow.Author.Tests.{lt-leb}
 use Rattle.octets.specs.Bytes.{part, num}
-use Rattle.state.specs.declared.ByteRead.TheVariants as byteRead
-use Rattle.state.specs.declared.U32Read.TheVariants as u32Read
-use Rattle.state.specs.declared.U64Read.TheVariants as u64Read
+use Rattle.state.specs.declared.ByteRead.TheVariants as byte_read
+use Rattle.state.specs.declared.U32Read.TheVariants as u32_read
+use Rattle.state.specs.declared.U64Read.TheVariants as u64_read
 use Rattle.state.specs.Reader.{take_at}
 
 module _ {A : Type 0} (n : ℕ) (s : List ℕ) (at : ℕ) (got : List ℕ → A) (short : A) where
@@ -22,13 +22,13 @@ pub record Number {A : Type 0} (con : ℕ → A) (short : A) : Type 0 where
   pub same : (m n : ℕ) → con m ≡ con n → m ≡ n
   pub apart : (m : ℕ) → con m ≡ short → ⊥
 
-pub byte_number : Number byteRead.Got byteRead.Short
+pub byte_number : Number byte_read.Got byte_read.Short
 byte_number = record { same = λ m n e. cc; apart = λ m e. let z : ◌≡◌ {A = ℕ} 0 1 = cc in omega arith }
 
-pub u32_number : Number u32Read.Got u32Read.Short
+pub u32_number : Number u32_read.Got u32_read.Short
 u32_number = record { same = λ m n e. cc; apart = λ m e. let z : ◌≡◌ {A = ℕ} 0 1 = cc in omega arith }
 
-pub u64_number : Number u64Read.Got u64Read.Short
+pub u64_number : Number u64_read.Got u64_read.Short
 u64_number = record { same = λ m n e. cc; apart = λ m e. let z : ◌≡◌ {A = ℕ} 0 1 = cc in omega arith }
 
 -- what such an answer says of the n bytes from at on

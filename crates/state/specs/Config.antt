@@ -1,7 +1,7 @@
 -- Document 01's `CourierConfig::new` and its default.
 -- Assumes nothing.
 use Rattle.std.specs.Prelude.{◌≡◌, ℕ, Bool, true, cond, ◌&&◌, nat_le}
-use Rattle.courier_core.specs.Core.{refusalNumber}
+use Rattle.courier_core.specs.Core.{refusal_number}
 use Rattle.courier_core.specs.declared.Refusal.TheVariants as refusal
 use Rattle.state.specs.declared.CourierConfig.{CourierConfig}
 use Rattle.state.specs.declared.Configured.{Configured}
@@ -18,7 +18,7 @@ config_new enabled copies lifetime =
 
 -- the number by which a configuration is refused, or 0
 abbrev pub config_number : Configured → ℕ
-config_number (configured.Refused why) = refusalNumber why
+config_number (configured.Refused why) = refusal_number why
 config_number (configured.As config) = 0
 
 pub record IsConfigured (enabled : Bool) (copies lifetime : ℕ) (said : Configured) : Type 0 where

@@ -3,15 +3,15 @@
 use Rattle.std.specs.Prelude.{◌≡◌, ℕ, ◌-◌, cond, ◌&&◌, List, [], ◌∷◌, ◌++◌, length, take, drop, replicate, ◌==◌, nat_le, nat_lt, slice_index}
 use Rattle.std.proofs.Math.Option.{Option, none, some}
 use Rattle.octets.specs.Bytes.{part, splice, num, be}
-use Rattle.courier_core.specs.Core.{refusalNumber}
+use Rattle.courier_core.specs.Core.{refusal_number}
 use Rattle.courier_core.specs.declared.Refusal.TheVariants as refusal
 use Rattle.courier.specs.Courier.{header_bytes, header_of, no_header, envelope_valid}
 use Rattle.state.specs.declared.Carried.{Carried}
 use Rattle.state.specs.declared.Tombstone.{Tombstone}
 use Rattle.state.specs.declared.RowAnswer.{RowAnswer}
-use Rattle.state.specs.declared.RowAnswer.TheVariants as rowAnswer
+use Rattle.state.specs.declared.RowAnswer.TheVariants as row_answer
 use Rattle.state.specs.declared.ByteRead.{ByteRead}
-use Rattle.state.specs.declared.ByteRead.TheVariants as byteRead
+use Rattle.state.specs.declared.ByteRead.TheVariants as byte_read
 use Rattle.state.specs.declared.HeldKind.{HeldKind}
 use Rattle.state.specs.declared.HeldKind.TheVariants as kind
 use Rattle.state.specs.declared.HeldRead.{HeldRead}
@@ -32,15 +32,15 @@ held_row (tombstone t) = (1 ∷ []) ++ t.tag ++ t.s ++ be 4 t.expiry_min
 
 -- a row written to a blob area: an area shorter than 2,110 is refused and stays; else the row's bytes are its first and the rest stays
 unfoldable pub row_answered : List ℕ → List ℕ → RowAnswer
-row_answered row area = cond (nat_lt (length area) 2110) (rowAnswer.Refused refusal.ShortArea) (rowAnswer.Written (length row))
+row_answered row area = cond (nat_lt (length area) 2110) (row_answer.Refused refusal.ShortArea) (row_answer.Written (length row))
 
 unfoldable pub row_area : List ℕ → List ℕ → List ℕ
 row_area row area = cond (nat_lt (length area) 2110) area (splice area 0 row)
 
 -- the number by which a row is refused, or 0
 abbrev pub row_number : RowAnswer → ℕ
-row_number (rowAnswer.Refused why) = refusalNumber why
-row_number (rowAnswer.Written n) = 0
+row_number (row_answer.Refused why) = refusal_number why
+row_number (row_answer.Written n) = 0
 
 pub record RowWritten (row before : List ℕ) (said : RowAnswer) (after : List ℕ) : Type 0 where
   pub answer : said ≡ row_answered row before
@@ -65,8 +65,8 @@ tombstone_in b = cond (length b == 37) (some (tombstone (tombstone_of b))) none
 
 -- the kind that a first byte says: 0 carried, 1 a tombstone
 unfoldable pub kind_of : ByteRead → HeldKind
-kind_of (byteRead.Got k) = cond (k == 0) kind.Carried (cond (k == 1) kind.Tombstone kind.None)
-kind_of byteRead.Short = kind.None
+kind_of (byte_read.Got k) = cond (k == 0) kind.Carried (cond (k == 1) kind.Tombstone kind.None)
+kind_of byte_read.Short = kind.None
 
 -- `Held::decode`, by the kind byte. (An empty blob has none; it is too short for either kind.)
 unfoldable pub held_decode : List ℕ → Option Held

@@ -1,4 +1,5 @@
 // state.rs: the courier configuration, and held rows as blobs, written and read.
+#![tactic(auto)]
 ghost use Rattle.std.specs.Prelude.{◌≡◌, ℕ, min, List, ◌∷◌, length, drop, nat_le};
 ghost use Rattle.std.proofs.Math.Option.{none, some};
 ghost use Rattle.state.specs.Config.{IsConfigured, config_default};

@@ -1,4 +1,5 @@
 // Boundary values of courier and state, one short line for each.
+#![tactic(auto)]
 use chain::Dir;
 use courier_core::ContactId;
 use courier::{Custody, CustodyRead, Header};

@@ -1,4 +1,5 @@
 // What ends an envelope: the call tomb.
+#![tactic(auto)]
 ghost use Rattle.std.specs.Prelude.{◌≡◌, ◌+◌, ◌*◌, ◌<◌, ◌≤◌, length};
 ghost use Rattle.octets.specs.Bytes.{part};
 ghost use Rattle.table.specs.Lists.{position, unwrap_or, remove_at};
@@ -8,7 +9,7 @@ ghost use Rattle.courier.specs.Tags.{commitment_of, tombstone_matches};
 ghost use Rattle.rows.specs.Rows.{own_width, own_codec, own_of, carried_width, carried_codec, carried_of, tombstone_width, tombstone_codec};
 ghost use Rattle.model.specs.Calls.{tomb};
 ghost use Rattle.model.specs.Custody.{own_of_tag};
-ghost use Rattle.model.specs.Tombs.{carried_at, own_at, insert_by_slot, turned as turnedOf};
+ghost use Rattle.model.specs.Tombs.{carried_at, own_at, insert_by_slot, turned as turned_of};
 ghost use Rattle.model.specs.Lent.{Does, actions_lent};
 ghost use Rattle.tombstones.specs.Tombstones.{Room};
 ghost use Rattle.tombs.specs.Tombs.{Meets, higher, device_with, Ends, EndsBy, says, held_lent, own_lent, tomb_lent};
@@ -144,7 +145,7 @@ fn insert_by_slot(tombstones: &mut [u8], count: usize, row: Tombstone) -> usize
 
 // The tombstone that a carried row turns into: it retains its slot and expiry.
 fn turned(row: Carried, tag: [u8; 16], s: [u8; 16]) -> Tombstone
-    ensures { result ≡ turnedOf row tag s }
+    ensures { result ≡ turned_of row tag s }
 {
     Tombstone {
         slot: row.slot,

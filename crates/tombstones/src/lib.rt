@@ -1,4 +1,5 @@
 // Tombstones: `store_tombstone`, which the tomb and report calls use too, and the call "stored tombstone".
+#![tactic(auto)]
 ghost use Rattle.std.specs.Prelude.{◌≡◌, ◌+◌, ◌*◌, ◌/◌, ◌<◌, ◌≤◌, [], ◌∷◌, ◌++◌, length, nat_lt, slice_index_or};
 ghost use Rattle.octets.specs.Bytes.{part, num};
 ghost use Rattle.table.specs.Lists.{remove_at};
@@ -6,7 +7,7 @@ ghost use Rattle.table.specs.Rows.{held};
 ghost use Rattle.table.specs.Codec.{table_of};
 ghost use Rattle.rows.specs.Rows.{tombstone_codec};
 ghost use Rattle.model.specs.Calls.{stored_tombstone};
-ghost use Rattle.model.specs.Tombs.{tombstoned as someTombstone, no_tombstone};
+ghost use Rattle.model.specs.Tombs.{tombstoned as some_tombstone, no_tombstone};
 ghost use Rattle.model.specs.Lent.{Does, actions_lent};
 ghost use Rattle.tombstones.specs.Tombstones.{Least, ChoiceOf, RoomFor, Room, space_for, spare_at, Pushed, HasSlot, device_after, new_tombstone, Grown, Stores, says_stored, tombstones_lent};
 
@@ -49,7 +50,7 @@ pub struct Outcome {
 
 // Has one of the tombstones the tag?
 pub fn tombstoned(tombstones: &[u8], count: usize, tag: [u8; 16]) -> bool
-    ensures { result ≡ someTombstone (table_of tombstone_codec count tombstones.now) tag }
+    ensures { result ≡ some_tombstone (table_of tombstone_codec count tombstones.now) tag }
 {
     let n = table::fit(tombstones.len(), 44, count);
     match table::find(tombstones, 44, n, 8, &tag) {

@@ -1,5 +1,6 @@
 // Runs the published vectors of SHA-384, HMAC-SHA-384 and HKDF-SHA-384, lengths around every padding boundary, and kdf.rs and
 // data.rs on fixed inputs, and writes what it got. `stdout` has the values of an independent implementation.
+#![tactic(auto)]
 use libc::STDOUT_FILENO;
 use std::num::wrapping_add_u8;
 

@@ -9,7 +9,7 @@ use Rattle.courier_core.specs.declared.Verification.TheVariants as verification
 use Rattle.courier.specs.declared.Header.{Header}
 use Rattle.courier.specs.declared.Custody.{Custody}
 use Rattle.courier.specs.declared.CustodyRead.{CustodyRead}
-use Rattle.courier.specs.declared.CustodyRead.TheVariants as custodyRead
+use Rattle.courier.specs.declared.CustodyRead.TheVariants as custody_read
 use Rattle.courier.specs.Courier.{header_of, from_code}
 use Rattle.wire.specs.declared.Mark.{Mark}
 use Rattle.wire.specs.declared.Mark.TheVariants as mark
@@ -88,8 +88,8 @@ unfoldable pub enabled_of : ℕ → Option Bool
 enabled_of e = cond (e == 0) (some false) (cond (e == 1) (some true) none)
 
 abbrev pub code_read : CustodyRead → Option Custody
-code_read (custodyRead.Known code) = some code
-code_read custodyRead.Unknown = none
+code_read (custody_read.Known code) = some code
+code_read custody_read.Unknown = none
 
 abbrev pub peer_in : List ℕ → ContactId
 peer_in b = record { 0 = num (part b 0 8) }

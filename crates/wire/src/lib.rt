@@ -1,4 +1,5 @@
 // A log's records: a two-byte mark, a two-byte body length, a body.
+#![tactic(auto)]
 ghost use Rattle.std.specs.Prelude.{◌≡◌, ◌≤◌, true, length};
 ghost use Rattle.octets.specs.Bytes.{num, part};
 ghost use Rattle.wire.specs.declared.Mark.TheVariants as mark;

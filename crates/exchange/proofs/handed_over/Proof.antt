@@ -56,7 +56,7 @@ use Rattle.exchange.specs.contracts.Handed as R
 use Rattle.exchange.proofs.Handed.TheLaws as R'
 use Rattle.model.specs.Calls.{custody_answer}
 use Rattle.model.specs.Lent.{Does, actions_lent}
-use Rattle.handover.specs.Handing.{says as codeSays, code_lent}
+use Rattle.handover.specs.Handing.{says as code_says, code_lent}
 use Rattle.exchange.specs.Exchange.{code_leaves, Lends}
 use Rattle.exchange.proofs.LeaveLaws.{code_lends}
 use Rattle.exchange.proofs.Passed.{At, meets, ends, machs, returned, copied, stored, arg, freed}
@@ -148,11 +148,11 @@ module _ {M : Type 1} {𝓤 : Ura M} (𝓛 : Logic 𝓤) (at_mem : Memory → SP
 
     -- what the callee says, and what follows of the exchange
     abbrev Said : Settled → Lasts of.ended κs.1 given.0.3 → Type 0
-    Said r zs = Does codeSays (custody_answer (length actions) peer tag custody) r.handed.said
+    Said r zs = Does code_says (custody_answer (length actions) peer tag custody) r.handed.said
         (code_lent device stood contacts own carried tombstones prefixes offers)
         (code_lent r.handed.device r.exchange contacts (own' zs) (carried' zs) tombstones prefixes (offers' zs)) (actions_lent actions) (actions_lent (actions' zs))
 
-    lends : (r : Settled) (zs : Lasts of.ended κs.1 given.0.3) → Said r zs → Lends codeSays (custody_answer (length actions) peer tag custody) r.handed.said
+    lends : (r : Settled) (zs : Lasts of.ended κs.1 given.0.3) → Said r zs → Lends code_says (custody_answer (length actions) peer tag custody) r.handed.said
         (code_lent device stood contacts own carried tombstones prefixes offers)
         (code_lent r.handed.device r.exchange contacts (own' zs) (carried' zs) tombstones prefixes (offers' zs)) (actions_lent actions) (actions_lent (actions' zs))
         (code_leaves tag stood) stood r.exchange

@@ -1,0 +1,5 @@
+use borrow.Author.Rules.{rules}
+use Rattle.octets.proofs.put_u16.Goals as goal
+
+pub returns : goal.returns
+returns c = cc
