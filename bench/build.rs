@@ -10,7 +10,7 @@ fn main() {
     );
     let archive = folder.join("libbench_exports.a");
     if !archive.is_file() {
-        println!("cargo::error=no {}: `rt staticlib bench_exports` builds it", archive.display());
+        println!("cargo::error=no {}: `tools/build bench_exports` builds it", archive.display());
         exit(1);
     }
     println!("cargo::rerun-if-changed={}", archive.display());

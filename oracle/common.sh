@@ -31,19 +31,18 @@ build() {
   cargo build --release --offline --locked --quiet --manifest-path "$oracle/Cargo.toml" --target-dir "$oracle/target" "$@"
 }
 
-# Proves and builds the library, unless nothing under crates/ is newer than it. One that GOOSETABLE_LIB names is taken as it is.
+# Proves and builds the library, unless no file of a crate is newer than it. One that GOOSETABLE_LIB names is taken as it is.
 build_library() {
   local library="$repository/target/staticlib/libgoosetable.a"
   if [ -n "${GOOSETABLE_LIB:-}" ]; then
     echo "oracle: the library is $GOOSETABLE_LIB/libgoosetable.a" >&2
-  elif [ ! -f "$library" ] || [ -n "$(find "$repository/crates" "$repository/crates.txt" -newer "$library" -print -quit)" ]; then
-    mkdir -p "$oracle/target"
-    (cd "$repository" && rt staticlib goosetable >"$oracle/target/staticlib.log" 2>&1)
+  elif [ ! -f "$library" ] || [ -n "$(find "$repository/crates" "$repository/crates.txt" -name out -prune -o -type f -newer "$library" -print -quit)" ]; then
+    "$repository/tools/build" goosetable
   fi
 }
 
 no_library() {
-  echo "oracle: rt staticlib goosetable failed; oracle/target/staticlib.log has what it said" >&2
+  echo "oracle: tools/build goosetable failed; target/build/goosetable.log has what rt said" >&2
   exit 1
 }
 

@@ -3,7 +3,7 @@ library=${GOOSETABLE_LIB:-target/staticlib}/libgoosetable.a
 built=target/examples
 
 if [ ! -f "$library" ]; then
-    echo "$0: no $library: 'rt staticlib goosetable' builds it; GOOSETABLE_LIB names another folder" >&2
+    echo "$0: no $library: 'tools/build goosetable' builds it; GOOSETABLE_LIB names another folder" >&2
     exit 1
 fi
 mkdir -p "$built"

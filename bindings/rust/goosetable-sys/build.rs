@@ -21,7 +21,7 @@ fn main() {
     let archive = folder.join("libgoosetable.a");
     if !archive.is_file() {
         eprintln!(
-            "no {}: `rt staticlib goosetable` builds it; GOOSETABLE_LIB names another folder",
+            "no {}: `tools/build goosetable` builds it; GOOSETABLE_LIB names another folder",
             archive.display()
         );
         process::exit(1);

@@ -1,13 +1,14 @@
 // The rows of the reply and action areas: what is in them, and functions that write one row at a place.
 #![tactic(auto)]
+
 ghost use Rattle.std.specs.Prelude.{◌≡◌, ◌+◌, ◌≤◌, ◌++◌, length, drop, replicate};
 ghost use Rattle.octets.specs.Bytes.{splice};
 ghost use Rattle.rows.specs.Rows.{action_bytes, reply_bytes};
 ghost use Rattle.model.specs.Exchange.{own_envelope_of, carried_envelope_of};
 ghost use Rattle.model.specs.Calls.{of_own, of_carried, cell_from, reply_cell, put_courier, delete_courier, put_queued, fetch_reply, envelope_row, custody_reply, tomb_reply};
 
-use courier_core::ContactId;
 use courier::{Custody, Header};
+use courier_core::ContactId;
 use rows::{Action, Carried, Own, Reply};
 
 // ---- the header of a row's envelope, and its cell as a reply says it

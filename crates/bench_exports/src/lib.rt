@@ -1,5 +1,6 @@
 // What the benchmark measures, for Rust to link.
 #![tactic(auto)]
+
 ghost use Rattle.std.specs.Prelude.{◌≡◌};
 ghost use Rattle.sha384.specs.Sha384.{sha384};
 ghost use Rattle.bench_exports.specs.Tags.{tagged};

@@ -1,6 +1,7 @@
 // What goes by value in a call lies in small areas at a host of another language: the device in 60 bytes, an exchange in 26, numbers
 // with the highest byte first. A flag is on unless its byte is 0. What a call leaves as it is keeps its bytes, whatever they are.
 #![tactic(auto)]
+
 ghost use Rattle.std.specs.Prelude.{◌≡◌, ◌+◌, ◌≤◌, length};
 ghost use Rattle.octets.specs.Bytes.{Bytes, part, num};
 ghost use Rattle.wire.specs.Log.{verification_of};

@@ -1,6 +1,7 @@
 // Carried rows and tombstones as one list by slot: which row is next. The saved file and the screen page walk along all rows, maintenance along those
 // that have expired.
 #![tactic(auto)]
+
 ghost use Rattle.std.specs.Prelude.{◌*◌, ◌<◌, length};
 ghost use Rattle.octets.specs.Bytes.{part, num};
 ghost use Rattle.by_slot.specs.BySlot.{Reached, TombstoneFirst};

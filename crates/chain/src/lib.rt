@@ -1,6 +1,7 @@
 // chain.rs: the direction of a message chain, the lengths of an inner plaintext, and the window of keys that a receiver could
 // still derive.
 #![tactic(auto)]
+
 ghost use Rattle.std.specs.Prelude.{◌≡◌, ℕ, ◌+◌, ◌-◌, ◌*◌, ◌^◌, ◌<◌, ◌≤◌, min, length};
 ghost use Rattle.octets.specs.Bytes.{splice};
 ghost use Rattle.table.specs.Lists.{any};

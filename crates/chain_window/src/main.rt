@@ -1,17 +1,20 @@
 // Runs the window call on its boundary cases and writes what it answers and what it leaves in the answer area.
 #![tactic(auto)]
+
 use chain::{Dir, DirRead, Windowed};
-use libc::STDOUT_FILENO;
+
+// Standard output.
+const STDOUT: i32 = 1;
 
 // What stands in the answer area before a call.
 const FILL: u8 = 0xAA;
 
 fn text(s: &[u8]) {
-    io::write_all(STDOUT_FILENO, s);
+    io::write_all(STDOUT, s);
 }
 
 fn number(n: u64) {
-    io::print_decimal(STDOUT_FILENO, n);
+    io::print_decimal(STDOUT, n);
 }
 
 fn small(n: u8) {
@@ -141,7 +144,7 @@ fn put_chain(rows: &mut [u8], i: usize, dir: u8, next: u64) {
 }
 
 // The nexts of three chains.
-#[derive(Drop)]
+#[derive(Clone, Copy)]
 struct Nexts(u64, u64, u64);
 
 // The rows of three chains, the third of the direction.

@@ -1,5 +1,6 @@
 // Columns of a line of text, each written in place: a number to the right, blanks, and bytes in hexadecimal.
 #![tactic(auto)]
+
 ghost use Rattle.std.specs.Prelude.{◌≡◌, ◌+◌, ◌*◌, ◌/◌, ◌%◌, ◌<◌, ◌≤◌, length};
 ghost use Rattle.octets.specs.Bytes.{splice};
 ghost use Rattle.columns.specs.Columns.{blanks, column, hex_digit, hexes};

@@ -1,5 +1,6 @@
 // Contacts and the clock in minutes, and the calls that set them: contact, setting, clock, fresh exchange.
 #![tactic(auto)]
+
 ghost use Rattle.std.specs.Prelude.{◌≡◌, ◌+◌, ◌*◌, ◌<◌, ◌≤◌, true, not, [], ◌∷◌, ◌++◌, length};
 ghost use Rattle.table.specs.Lists.{replace_at};
 ghost use Rattle.table.specs.Rows.{held};

@@ -1,5 +1,6 @@
 // courier.rs: route tags and commitments, the fixed part of an envelope, what a courier takes, and its answer.
 #![tactic(auto)]
+
 ghost use Rattle.std.specs.Prelude.{◌≡◌, ◌+◌, ◌≤◌, length, take, leb};
 ghost use Rattle.octets.specs.Bytes.{part};
 ghost use Rattle.courier.specs.Tags.{route_tag, RouteBytes, delivered_secret, commitment_of, tombstone_matches};

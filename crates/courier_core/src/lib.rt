@@ -1,5 +1,6 @@
 // What core.rs has for the courier part: contacts by number, their verification; and the refusals of document 01.
 #![tactic(auto)]
+
 ghost use Rattle.std.specs.Prelude.{◌≡◌};
 ghost use Rattle.courier_core.specs.Core.{refusal_number, verification_byte};
 

@@ -2,16 +2,18 @@
 ghost use Rattle.std.specs.Prelude.{◌+◌, ◌≤◌};
 
 use courier_core::Refusal;
-use libc::STDOUT_FILENO;
 use rows::Device;
 
+// Standard output.
+const STDOUT: i32 = 1;
+
 pub fn text(s: &[u8]) {
-    io::write_all(STDOUT_FILENO, s);
+    io::write_all(STDOUT, s);
 }
 
 pub fn number(n: u64) {
     text(b" ");
-    io::print_decimal(STDOUT_FILENO, n);
+    io::print_decimal(STDOUT, n);
 }
 
 pub fn end() {
@@ -21,9 +23,9 @@ pub fn end() {
 // A tag or a secret: its first and its last byte.
 fn show_tag(tag: [u8; 16]) {
     text(b" ");
-    io::print_hex(STDOUT_FILENO, tag[0] as u64, 2);
+    io::print_hex(STDOUT, tag[0] as u64, 2);
     text(b"..");
-    io::print_hex(STDOUT_FILENO, tag[15] as u64, 2);
+    io::print_hex(STDOUT, tag[15] as u64, 2);
 }
 
 pub fn show_refusal(why: Refusal) {
@@ -176,7 +178,7 @@ pub fn show_counts(device: Device) {
 fn show_prefix(prefixes: &[u8; 4096], i: usize) {
     text(b" ");
     let first = octets::get_u8(prefixes, i % 512 * 8);
-    io::print_hex(STDOUT_FILENO, first as u64, 2);
+    io::print_hex(STDOUT, first as u64, 2);
 }
 
 // How many prefixes there are, and the first byte of each.

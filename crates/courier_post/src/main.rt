@@ -1,5 +1,6 @@
 // Document 01's unmarked corners of couriering.rs, put to a small post: a short line for each row or answer.
 #![tactic(auto)]
+
 mod ended; // tombs and maintenance
 mod expired; // rows that have expired
 mod lines; // what is written

@@ -1,5 +1,6 @@
 // What the envelope call tests before it holds a row: `custody` of couriering.rs, and the window.
 #![tactic(auto)]
+
 ghost use Rattle.std.specs.Prelude.{◌≡◌, ◌+◌, ◌*◌, ◌≤◌, ◌&&◌, ◌||◌, map, length, ◌==◌, nat_lt};
 ghost use Rattle.octets.specs.Bytes.{part, num, same_bytes};
 ghost use Rattle.courier_core.specs.declared.ContactId.{ContactId};
@@ -16,8 +17,8 @@ ghost use Rattle.model.specs.Custody.{own_of_tag, carried_of_tag, max_carried_by
 
 use chain::no_dir;
 use contacts::is_verified;
-use courier_core::ContactId;
 use courier::{Custody, Header};
+use courier_core::ContactId;
 use octets::least;
 use rows::{Device, Reachable};
 use table::Found;

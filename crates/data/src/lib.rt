@@ -1,5 +1,6 @@
 // data.rs: of it only `leb128`, for 32 bits.
 #![tactic(auto)]
+
 ghost use Rattle.std.specs.Prelude.{◌≡◌};
 ghost use Rattle.data.specs.Leb128.{leb128 as leb_of, encoded};
 

@@ -1,4 +1,4 @@
--- What the program writes: bytes that write took, in order. No contract of the C library says what a write does with its bytes, so that these
+-- What the program writes: bytes that write took, in order. No contract says what the system does with the bytes of a write, so that these
 -- definitions count them. Assumes nothing.
 use Rattle.std.specs.Prelude.{ℕ, ◌+◌, ◌%◌, ◌^◌, ◌≤◌, ◌<◌, ◌≡◌, true, List, [], ◌∷◌, ◌++◌, length, take}
 use Rattle.model.specs.State.{State}

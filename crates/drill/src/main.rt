@@ -1,5 +1,6 @@
 // Reads a log from standard input, and writes its lines to standard output. What it keeps, hands on and puts at the end is `drill_turn`'s.
 #![tactic(auto)]
+
 ghost use Rattle.std.specs.Prelude.{◌≡◌, ◌≤◌, ◌<◌, length, take, replicate};
 ghost use Rattle.drill_run.specs.Drill.{drill_start};
 ghost use Rattle.drill_turn.specs.Stream.{Inside, Waits, Stops};
@@ -7,30 +8,52 @@ ghost use Rattle.drill.specs.Reads.{Reads, Filled};
 ghost use Rattle.drill.specs.Written.{Takes, Writes, told_of, usage, ran_of, Halts, Finishes, SentAll};
 
 use drill_turn::Turn;
-use libc::{STDERR_FILENO, STDIN_FILENO, STDOUT_FILENO};
+use std::env::{Env, FillError};
+use std::fmt::InlineText;
+use std::io;
+use std::io::{Eprint, ErrorKind, IsTerminal, Print, Read, Stderr, Stdin, Stdout};
+
+// ---- what failed
+
+// The system's words for an error. `io::Error` puts the number behind them.
+fn words(text: &str) -> &str {
+    match text.split_once(" (os error ") {
+        Some((words, _)) => words,
+        None => text,
+    }
+}
+
+// Says on standard error what failed, as the caller names it, and why.
+fn fail(stderr: Stderr, what: &str, error: io::Error) {
+    let text = InlineText::<128>::of(error);
+    let why = words(text.as_str());
+    let _ = eprintln!(stderr; "{what}: {why}");
+}
 
 // ---- reading
 
 #[derive(Drop)]
 struct Got {
     n: usize,
-    failed: bool,
+    error: Option<io::Error>,
 }
 
 // Reads once behind the first bytes. A read of no bytes is the end of the input, so that there must be room.
-fn read_behind(input: &mut [u8], at: usize) -> Got
+fn read_behind(mut stdin: Stdin, input: &mut [u8], at: usize) -> Got
     requires { at < length input.old }
     ensures { Reads input.old at result.n input.new }
 {
-    let got = libc::read(STDIN_FILENO, &mut input[at..]);
-    Got {
-        n: io::count(got, &input[at..]),
-        failed: got < 0,
+    match stdin.read(&mut input[at..]) {
+        Ok(n) => Got { n, error: None },
+        Err(e) => Got {
+            n: 0,
+            error: Some(e),
+        },
     }
 }
 
-// Reads once, if more input is wanted. There is room: what is kept is less than a record and its head, 8,196 bytes.
-fn fill(turn: Turn, input: &mut [u8; 65536]) -> Turn
+// Reads once, if more input is wanted, and says where it cannot. There is room: what is kept is less than a record and its head, 8,196 bytes.
+fn fill(stdin: Stdin, stderr: Stderr, turn: Turn, input: &mut [u8; 65536]) -> Turn
     requires { Waits turn input.old }
     ensures { Filled turn input.old result input.new }
 {
@@ -38,39 +61,57 @@ fn fill(turn: Turn, input: &mut [u8; 65536]) -> Turn
         return turn;
     }
     let kept = drill_turn::keep(turn, input);
-    let got = read_behind(input, kept.have);
-    drill_turn::grow(kept, got.n, got.failed)
+    let got = read_behind(stdin, input, kept.have);
+    let failed = got.error.is_some();
+    if let Some(e) = got.error {
+        fail(stderr, "standard input", e);
+    }
+    drill_turn::grow(kept, got.n, failed)
 }
 
 // ---- writing
 
-// What write took: so many of the bytes that it was handed, and so many in all, modulo 2^64.
+// What write took: so many of the bytes that it was handed, and so many in all, modulo 2^64; and the error of a write that failed.
 #[derive(Drop)]
 struct Took {
     n: usize,
     total: u64,
+    error: Option<io::Error>,
 }
 
-// Hands the bytes to write once. All that the program writes goes through here, but for what `os::fail` says.
-fn write_once(fd: i32, bytes: &[u8], total: u64) -> Took
+// Hands the bytes to write once. All that the program writes goes through here, but for what `fail` says.
+fn write_once(to: &impl Print, bytes: &[u8], total: u64) -> Took
     ensures { Takes total bytes.now result.n result.total }
 {
-    let n = io::count(libc::write(fd, bytes), bytes);
-    let total = drill_turn::further(total, n);
-    Took { n, total }
+    match to.write_some(bytes) {
+        Ok(n) => Took {
+            n,
+            total: drill_turn::further(total, n),
+            error: None,
+        },
+        Err(e) => Took {
+            n: 0,
+            total: drill_turn::further(total, 0),
+            error: Some(e),
+        },
+    }
 }
 
 // Writes the first n bytes in order, and stops at a write that takes none.
-fn write_front(fd: i32, bytes: &[u8], n: usize, total: u64) -> Took
+fn write_front(to: &impl Print, bytes: &[u8], n: usize, total: u64) -> Took
     requires { n ≤ length bytes.now }
     ensures { Takes total (take n bytes.now) result.n result.total }
 {
     let mut done = 0;
     let mut sum = total;
     while done < n {
-        let took = write_once(fd, &bytes[done..n], sum);
+        let took = write_once(to, &bytes[done..n], sum);
         if took.n == 0 {
-            break;
+            return Took {
+                n: done,
+                total: sum,
+                error: took.error,
+            };
         }
         done += took.n;
         sum = took.total;
@@ -78,6 +119,7 @@ fn write_front(fd: i32, bytes: &[u8], n: usize, total: u64) -> Took
     Took {
         n: done,
         total: sum,
+        error: None,
     }
 }
 
@@ -89,13 +131,17 @@ struct Wrote {
 }
 
 // Writes the first n bytes to standard output, or says that it could not.
-fn emit(out: &[u8; 655360], n: usize, total: u64) -> Wrote
+fn emit(stdout: Stdout, stderr: Stderr, out: &[u8; 655360], n: usize, total: u64) -> Wrote
     requires { n ≤ 655360 }
     ensures { Writes total (take n out.now) result }
 {
-    let took = write_front(STDOUT_FILENO, out, n, total);
+    let took = write_front(&stdout, out, n, total);
     if took.n < n {
-        os::fail(b"standard output");
+        fail(
+            stderr,
+            "standard output",
+            took.error.unwrap_or(io::Error::from(ErrorKind::WriteZero)),
+        );
         return Wrote {
             total: took.total,
             whole: false,
@@ -109,7 +155,7 @@ fn emit(out: &[u8; 655360], n: usize, total: u64) -> Wrote
 
 // Where number 13 stands, and why: the lines do not say it, so standard error does. The first record has number 1, and the log's first byte
 // is byte 0.
-fn tell(turn: Turn, input: &[u8; 65536]) -> Took
+fn tell(stderr: Stderr, turn: Turn, input: &[u8; 65536]) -> Took
     requires { Inside turn.from turn.have }
     ensures { Takes 0 (told_of turn input.now) result.n result.total }
 {
@@ -117,7 +163,7 @@ fn tell(turn: Turn, input: &[u8; 65536]) -> Took
     let number = drill_turn::further(turn.records, 1);
     let byte = drill_turn::further(turn.bytes, turn.from);
     let n = drill_reason::message_at(input, turn.from, turn.have, number, byte, &mut message);
-    write_front(STDERR_FILENO, &message, n, 0)
+    write_front(&stderr, &message, n, 0)
 }
 
 // ---- the run
@@ -143,13 +189,13 @@ fn ended(turn: Turn, wrote: u64, why: u8) -> Ran
 }
 
 // After a turn behind which there is none: number 13, or lines that could not be written.
-fn stop(turn: Turn, input: &[u8; 65536], wrote: Wrote) -> Ran
+fn stop(stderr: Stderr, turn: Turn, input: &[u8; 65536], wrote: Wrote) -> Ran
     requires { Inside turn.from turn.have }
     ensures { Halts turn wrote result }
 {
     if wrote.whole {
         if turn.why == drill_turn::REFUSED {
-            tell(turn, input);
+            tell(stderr, turn, input);
             return ended(turn, wrote.total, drill_turn::REFUSED);
         }
     }
@@ -157,19 +203,25 @@ fn stop(turn: Turn, input: &[u8; 65536], wrote: Wrote) -> Ran
 }
 
 // The end of the input, or a read that failed.
-fn finish(turn: Turn, input: &[u8; 65536], out: &mut [u8; 655360], total: u64) -> Ran
+fn finish(
+    stdout: Stdout,
+    stderr: Stderr,
+    turn: Turn,
+    input: &[u8; 65536],
+    out: &mut [u8; 655360],
+    total: u64,
+) -> Ran
     requires { Stops turn input.now }
     ensures { Finishes turn total result }
 {
     if turn.why != drill_turn::ENDED {
-        os::fail(b"standard input");
         return ended(turn, total, drill_turn::FAILED);
     }
     let n = drill_turn::at_end(turn, out);
-    let wrote = emit(out, n, total);
+    let wrote = emit(stdout, stderr, out, n, total);
     if wrote.whole {
         if n > 0 {
-            tell(turn, input);
+            tell(stderr, turn, input);
         }
         return ended(turn, wrote.total, drill_turn::ENDED);
     }
@@ -177,7 +229,7 @@ fn finish(turn: Turn, input: &[u8; 65536], out: &mut [u8; 655360], total: u64) -
 }
 
 // Nothing says that the input ends, so the turns are counted down, from a number that no run uses up.
-fn run() -> Ran
+fn run(stdin: Stdin, stdout: Stdout, stderr: Stderr) -> Ran
     ensures { SentAll (drill_start (replicate 33024 0) (replicate 33024 0)) result }
 {
     let mut input = [0u8; 65536];
@@ -198,9 +250,9 @@ fn run() -> Ran
     let mut turns = u64::MAX;
     while turns > 0 {
         turns -= 1;
-        let filled = fill(turn, &mut input);
+        let filled = fill(stdin, stderr, turn, &mut input);
         if filled.why > drill_turn::REFUSED {
-            return finish(filled, &input, &mut out, total);
+            return finish(stdout, stderr, filled, &input, &mut out, total);
         }
         let next = drill_turn::advance(
             filled,
@@ -218,7 +270,7 @@ fn run() -> Ran
             &mut blob,
             &mut out,
         );
-        let wrote = emit(&out, next.put, total);
+        let wrote = emit(stdout, stderr, &out, next.put, total);
         if next.why < drill_turn::REFUSED {
             if wrote.whole {
                 turn = next;
@@ -226,7 +278,7 @@ fn run() -> Ran
                 continue;
             }
         }
-        return stop(next, &input, wrote);
+        return stop(stderr, next, &input, wrote);
     }
     ended(turn, total, turn.why)
 }
@@ -234,29 +286,38 @@ fn run() -> Ran
 // ---- how it is used
 
 // Writes all of a text to standard error.
-fn say(text: &[u8]) -> Took
+fn say(stderr: Stderr, text: &[u8]) -> Took
     ensures { Takes 0 text.now result.n result.total }
 {
-    write_front(STDERR_FILENO, text, text.len(), 0)
+    write_front(&stderr, text, text.len(), 0)
 }
 
-fn say_use() -> Took
+fn say_use(stderr: Stderr) -> Took
     ensures { Takes 0 usage result.n result.total }
 {
     say(
+        stderr,
         b"usage: drill < LOG\nIt reads a log from standard input and prints a line for each action and reply, and one for each record.\nsamples/README.md tells the format; tools/drill-log makes a log from text.\n",
     )
 }
 
+// Does the program take a word behind its name?
+fn has_word(env: &impl Env) -> bool {
+    match env.arg(1, &mut [0u8; 1]) {
+        Err(FillError::NotPresent) => false,
+        _ => true,
+    }
+}
+
 // A log is not typed on a terminal, and the program takes no word.
-fn main() {
-    if os::arg_count() > 1 {
-        say_use();
+fn main(rt: HostRuntime) {
+    if has_word(&rt) {
+        say_use(rt.stderr());
         return;
     }
-    if libc::isatty(STDIN_FILENO) == 1 {
-        say_use();
+    if rt.stdin().is_terminal() {
+        say_use(rt.stderr());
         return;
     }
-    run();
+    run(rt.stdin(), rt.stdout(), rt.stderr());
 }

@@ -1,5 +1,6 @@
 // The call of each record of a log.
 #![tactic(auto)]
+
 ghost use Rattle.std.specs.Prelude.{◌≡◌, ◌≤◌, length, drop};
 ghost use Rattle.std.proofs.Math.Option.{some};
 ghost use Rattle.octets.specs.Bytes.{part};
@@ -11,8 +12,8 @@ ghost use Rattle.drill_run.specs.Drill.{drill_in};
 ghost use Rattle.drill_calls.specs.Asking.{told_with, line_told, rows_told, set_told, Asks, session_lent, envelope_lent, inventory_lent, fetch_lent, tomb_in, maintenance_lent};
 
 use contacts::{Answered, Opened};
-use courier_core::{ContactId, Refusal};
 use courier::Custody;
+use courier_core::{ContactId, Refusal};
 use drill_lines::Last;
 use rows::{Device, Exchange};
 use wire::{Body, Mark};

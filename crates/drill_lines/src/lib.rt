@@ -1,5 +1,6 @@
 // The drill's lines: what is printed for the answer of a record.
 #![tactic(auto)]
+
 ghost use Rattle.std.specs.Prelude.{◌≡◌, ◌+◌, ◌*◌, ◌≤◌, length};
 ghost use mathlib.Core.List.{flat_map};
 ghost use Rattle.table.specs.Rows.{held};
@@ -182,7 +183,7 @@ fn action_lines(
 
 // ---- the last line
 
-#[derive(Drop)]
+#[derive(Clone, Copy)]
 pub enum Last {
     Ok,
     Malformed,

@@ -1,5 +1,6 @@
 // The drill: a log's records performed, one by one.
 #![tactic(auto)]
+
 ghost use Rattle.std.specs.Prelude.{◌≡◌, ◌+◌, ◌-◌, ◌≤◌, length};
 ghost use Rattle.octets.specs.Bytes.{part};
 ghost use Rattle.wire.specs.Log.{head_of, body_of};

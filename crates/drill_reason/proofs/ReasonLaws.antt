@@ -1,20 +1,17 @@
 -- Laws of number 13's reasons. Assumes nothing.
-use mathlib.Core.Path.{◌≡◌, refl, sym, ap, ◌∙◌, subst}
+use mathlib.Core.Path.{◌≡◌, refl, sym, ap, ◌∙◌}
 use mathlib.Core.Bool.{Bool, true, false}
-use mathlib.Core.Logic.{inl, inr}
-use mathlib.Core.List.{List, [], ◌∷◌, map}
+use mathlib.Core.List.{List}
 use mathlib.Core.Option.{Option, none, some}
-use Prim.Native.Nat.{ℕ, suc, ◌+◌, ◌-◌, ◌≤◌, ◌<◌}
+use Prim.Native.Nat.{ℕ, ◌+◌, ◌-◌, ◌≤◌, ◌<◌}
 use borrow.Author.Tests.{lt-ltb, le-ltb, le-leb, lt-leb}
 use native.Mathlib.Omega.{arith}
 use lib.ListN.{length}
-use types.Run.{OneOf}
-use denote.Enum.Declared
 use Rattle.octets.specs.Bytes.{part}
 use Rattle.wire.specs.declared.Mark.{Mark}
 use Rattle.wire.specs.declared.Head.{Head}
-use Rattle.wire.specs.contracts.Body.{the_type}
 use Rattle.wire.specs.declared.Body.{Body}
+use Rattle.wire.specs.declared.Body.TheVariants as body
 use Rattle.wire.specs.declared.Head.TheVariants as head
 use Rattle.wire.specs.Log.{Record, head_of, body_of}
 use Rattle.wire.specs.Read.{read_as}
@@ -39,20 +36,9 @@ module _ {t : Bool} (m : Mark) (n : ℕ) (et : t ≡ known m) where
 
 -- ---- a body
 
--- 0 is not among numbers that each are one more than another
-not_zero : (ks : List ℕ) → OneOf (map suc ks) 0 → ⊥
-not_zero [] e = e
-not_zero (k ∷ []) e = omega (arith, e)
-not_zero (k ∷ (l ∷ ks)) (inl e) = omega (arith, e)
-not_zero (k ∷ (l ∷ ks)) (inr h) = not_zero (l ∷ ks) h
-
--- the keys of the bodies that are right, less one; that of Wrong is 0
-abbrev rights : List ℕ
-rights = 0 ∷ 1 ∷ 2 ∷ 3 ∷ 4 ∷ 5 ∷ 6 ∷ 7 ∷ 8 ∷ 9 ∷ []
-
-pub body_right : (m : Mark) (x : Option Record) (r : Body) → r ≡ read_as x → OneOf (map suc rights) (Declared.tag_of the_type r) → reason.Contacts ≡ body_reason m x
+pub body_right : (m : Mark) (x : Option Record) (r : Body) → r ≡ read_as x → (r ≡ body.Wrong → ⊥) → reason.Contacts ≡ body_reason m x
 unfolding body_reason
-body_right m none r e k = absurd (not_zero rights (subst (λ (y : Body). OneOf (map suc rights) (Declared.tag_of the_type y)) e k))
+body_right m none r e k = absurd (k e)
 body_right m (some a) r e k = refl
 
 pub body_wrong : {r : Reason} (m : Mark) (x : Option Record) → none ≡ x → r ≡ field_of m → r ≡ body_reason m x

@@ -1,5 +1,6 @@
 // Why number 13 came, told from the bytes at whose front the refused record stands, and the message that says it.
 #![tactic(auto)]
+
 ghost use Rattle.std.specs.Prelude.{◌≡◌, ◌+◌, ◌-◌, ◌≤◌, length};
 ghost use Rattle.octets.specs.Bytes.{part};
 ghost use Rattle.text.specs.Text.{Puts};

@@ -323,11 +323,11 @@ module _ (s : State) (g : Good s) where
   slot_at : (i : ℕ) → (get_or s.carried i no_carried).slot < 2 ^ 64
   slot_at i = got {P = SmallSlot} s.carried i no_carried (all_imp (λ r p. p.slot) s.carried g.carried) (omega arith)
 
-  own_at : (i : ℕ) → SmallOwn (get_or s.own i no_own)
-  own_at i = got {P = SmallOwn} s.own i no_own (all_imp (λ o p. (p.contact, p.msgno)) s.own g.own) (omega arith, omega arith)
+  own_small : (i : ℕ) → SmallOwn (get_or s.own i no_own)
+  own_small i = got {P = SmallOwn} s.own i no_own (all_imp (λ o p. (p.contact, p.msgno)) s.own g.own) (omega arith, omega arith)
 
   own_put_at : (i : ℕ) → ProperAction (put_queued (get_or s.own i no_own).contact (get_or s.own i no_own).msgno)
-  own_put_at i = own_put_proper (get_or s.own i no_own).contact (get_or s.own i no_own).msgno (own_at i).0 (own_at i).1
+  own_put_at i = own_put_proper (get_or s.own i no_own).contact (get_or s.own i no_own).msgno (own_small i).0 (own_small i).1
 
   handed_few : (tag : List ℕ) → All ProperAction (handed_actions s.own s.carried tag) × (length (handed_actions s.own s.carried tag) ≤ 3)
   unfolding handed_actions

@@ -1,5 +1,6 @@
 // The drill's log, read in pieces: what a turn keeps of its input, what it hands on, and the line at the end of the input.
 #![tactic(auto)]
+
 ghost use Rattle.std.specs.Prelude.{◌≡◌, ◌+◌, ◌%◌, ◌^◌, ◌≤◌, length, if◌then◌else◌, nat_eq};
 ghost use Rattle.octets.specs.Bytes.{part};
 ghost use Rattle.drill_run.specs.Drill.{drill_areas};

@@ -189,7 +189,7 @@ module _ {a : Areas} {d : Device} {contacts own carried tombstones : List ℕ} {
         → lookup (window_rows window) head.tag ≡ f → custody_choice (view a) peer head len ≡ k
         → told short wrong strange f k ≡ envelope_choice (view a) replies actions window peer head len
     unfolding view
-    tell short wrong strange f k es ew et ef ek =
+    tell _ _ _ _ _ es ew et ef ek =
         let ps : List _ = table_of contact_codec d.contacts contacts in
         let p : (view a).contacts ≡ ps = ap₂ (λ (x : Device) (y : List ℕ). table_of contact_codec x.contacts y) L.device L.contacts in
         sym (choice_is (view a) replies actions window peer head len

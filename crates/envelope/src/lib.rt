@@ -1,5 +1,6 @@
 // The envelope call: `receive_envelope`, `carry` and `put_held` of couriering.rs.
 #![tactic(auto)]
+
 ghost use Rattle.std.specs.Prelude.{◌≡◌, ◌+◌, ◌*◌, ◌/◌, ◌<◌, ◌≤◌, min, not, ◌||◌, [], ◌∷◌, ◌++◌, map, length, nat_lt};
 ghost use Rattle.octets.specs.Bytes.{part};
 ghost use Rattle.table.specs.Rows.{held};
@@ -14,8 +15,8 @@ ghost use Rattle.model.specs.Lent.{Does, answers_lent};
 ghost use Rattle.envelope.specs.Answers.{placed, envelope_choice, custody_choice, ours_of, Lends, new_row, device_after, Room, Carries, envelope_says, envelope_in};
 
 use contacts::{known, lifetime_end, now_min, strangers};
-use courier_core::{ContactId, Refusal};
 use courier::{Custody, Header};
+use courier_core::{ContactId, Refusal};
 use custody::{custody_of, free_carried_cell, lookup, wrong_window};
 use rows::{Carried, Device};
 use table::Found;

@@ -1,3 +1,2 @@
 pub mod LeaveLaws
 pub mod FreshLaws
-pub mod Passed

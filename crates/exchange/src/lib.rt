@@ -1,6 +1,7 @@
 // The calls of an exchange that is lent: its flag, its peer and its two counts stand behind a `&mut`, its prefixes and its offers lie in areas beside it.
 // Each call is a thin wrapper: it copies the exchange out, calls the form by value, and stores what that leaves. A call that is refused or malformed stores what stood there.
 #![tactic(auto)]
+
 ghost use Rattle.std.specs.Prelude.{length};
 ghost use Rattle.model.specs.Calls.{inventory_received, custody_answer, open_exchange};
 ghost use Rattle.model.specs.Window.{prefix_rows};
@@ -11,8 +12,8 @@ ghost use Rattle.handover.specs.Handing.{says, code_lent};
 ghost use Rattle.exchange.specs.Exchange.{inventory_leaves, code_leaves, fresh_leaves, Lends, fresh_in};
 
 use contacts::Opened;
-use courier_core::ContactId;
 use courier::Custody;
+use courier_core::ContactId;
 use rows::{Device, Exchange};
 
 // ---- inventory received

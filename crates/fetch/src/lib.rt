@@ -1,5 +1,6 @@
 // Fetch: the envelope with a tag, and the part of the cell area that is its ciphertext.
 #![tactic(auto)]
+
 ghost use Rattle.std.specs.Prelude.{◌≡◌, ◌+◌, ◌≤◌, min, not, ◌&&◌, length, ◌==◌};
 ghost use Rattle.octets.specs.Bytes.{part, num, same_bytes};
 ghost use Rattle.table.specs.Lists.{position};

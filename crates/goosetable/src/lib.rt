@@ -1,6 +1,7 @@
 // The calls as a host of another language links them: numbers, and areas by pointer and length. The device and an exchange lie in
 // small areas of their own (crate boundary); a table of fixed size is a pointer alone. No two areas may overlap, but for ones that are only read.
 #![tactic(auto)]
+
 ghost use Rattle.std.specs.Prelude.{◌≡◌, [], ◌∷◌, length};
 ghost use Rattle.chain.specs.Chain.{dir_of, window_says, window_area};
 ghost use Rattle.courier.specs.Courier.{from_code};
@@ -34,8 +35,8 @@ use boundary::{
     verification_of,
 };
 use chain::{Dir, DirRead};
-use courier_core::ContactId;
 use courier::{Custody, CustodyRead, Header};
+use courier_core::ContactId;
 use host_answers::{
     Answer, DONE, Row, answer_of, blob_answer, code_answer, contact_answer, envelope_answer,
     exchange_after, fetch_answer, inventory_answer, listed_answer, load_answer, maintained_answer,

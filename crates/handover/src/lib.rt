@@ -1,5 +1,6 @@
 // Custody codes: an offer that is answered is cleared, and accepted copies are taken off their row (`handed_over`).
 #![tactic(auto)]
+
 ghost use Rattle.std.specs.Prelude.{◌≡◌, ◌+◌, ◌-◌, ◌*◌, ◌/◌, ◌<◌, ◌≤◌, min, ◌||◌, length, nat_lt};
 ghost use Rattle.table.specs.Lists.{position, remove_at, replace_at};
 ghost use Rattle.table.specs.Rows.{held};
@@ -13,8 +14,8 @@ ghost use Rattle.model.specs.Lent.{Does, actions_lent};
 ghost use Rattle.handover.specs.Handing.{TakenOffCarried, TakenOffOwn, HandedAs, Settles, device_with, exchange_with, says, code_lent};
 
 use contacts::known;
-use courier_core::{ContactId, Refusal};
 use courier::Custody;
+use courier_core::{ContactId, Refusal};
 use rows::{Carried, Device, Exchange, Own, Peer};
 use table::Found;
 

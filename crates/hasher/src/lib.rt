@@ -1,5 +1,6 @@
 // SHA-384 of a message that comes in parts, none of which is copied but for less than a block at each end.
 #![tactic(auto)]
+
 ghost use Rattle.std.specs.Prelude.{◌≡◌, List, [], ◌++◌, ℕ, ◌+◌, ◌%◌, ◌^◌, ◌≤◌, ◌<◌, min, length};
 ghost use Rattle.octets.specs.Bytes.{part};
 ghost use Rattle.sha_block.specs.Constants.{K};

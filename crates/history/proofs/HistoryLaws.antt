@@ -1,6 +1,6 @@
 -- Demand 3, proved: of every list of calls from empty holdings, and of every list of calls on fresh areas.
 -- Assumes nothing.
-use Rattle.std.proofs.Common.{◌≡◌, ℕ, zero, suc, ◌+◌, ◌^◌, ◌<◌, ◌≤◌, Bool, true, false, List, [], ◌∷◌, ◌++◌, map, length, get_or, sym, refl, ap, ◌∙◌, subst, arith}
+use Rattle.std.proofs.Common.{◌≡◌, ℕ, zero, suc, ◌^◌, ◌<◌, ◌≤◌, Bool, true, false, List, [], ◌∷◌, ◌++◌, map, length, get_or, sym, refl, ap, ◌∙◌, subst, arith}
 use lib.ListN.{get_or-map}
 use borrow.Author.Tests.{not-false}
 use Rattle.courier_core.specs.declared.ContactId.{ContactId}

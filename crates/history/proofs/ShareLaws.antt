@@ -1,6 +1,6 @@
 -- With 256 cells and at most seven other depositors the test Full is P's quota alone.
 -- Assumes nothing.
-use Rattle.std.proofs.Common.{◌≡◌, ℕ, ◌+◌, ◌-◌, ◌/◌, ◌<◌, ◌≤◌, Bool, true, false, cond, not, ◌||◌, ltb, leb, List, [], ◌∷◌, length, take, drop, sym, refl, ap, ◌∙◌, ap₂, le_refl, arith, take-take, le-ltb, eq-eqb, ne_eqb, le-leb, leb-false}
+use Rattle.std.proofs.Common.{◌≡◌, ℕ, ◌+◌, ◌/◌, ◌<◌, ◌≤◌, Bool, true, false, cond, not, ◌||◌, ltb, leb, List, [], ◌∷◌, length, take, drop, sym, refl, ap, ◌∙◌, ap₂, le_refl, arith, take-take, le-ltb, eq-eqb, ne_eqb, le-leb, leb-false}
 use mathlib.Core.Bool.{false≢true}
 use lib.ListN.{length-map}
 use borrow.Author.Tests.{lt-leb}

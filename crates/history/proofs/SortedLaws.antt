@@ -19,6 +19,7 @@ module _ {A : Type 0} where
   pub all_in : {P : A → Type 0} {x : A} {xs : List A} → All P xs → x ∈ xs → P x
   all_in (more p a) here = p
   all_in (more p a) (there m) = all_in a m
+  all_in {P = P} none h = elim h [ ]
 
   pub in_right : (xs ys : List A) {x : A} → x ∈ ys → x ∈ (xs ++ ys)
   in_right [] ys m = m
@@ -27,6 +28,7 @@ module _ {A : Type 0} where
   pub in_left : (xs ys : List A) {x : A} → x ∈ xs → x ∈ (xs ++ ys)
   in_left (z ∷ xs) ys here = here
   in_left (z ∷ xs) ys (there m) = there (in_left xs ys m)
+  in_left [] ys h = elim h [ ]
 
   pub in_append : (xs ys : List A) {x : A} → x ∈ (xs ++ ys) → (x ∈ xs) ⊎ (x ∈ ys)
   in_append [] ys m = inr m
@@ -39,6 +41,7 @@ module _ {A : Type 0} where
 
   pub in_one : {x y : A} → x ∈ (y ∷ []) → x ≡ y
   in_one here = refl
+  in_one {y = y} (there h) = elim h [ ]
 
   split_at : (xs : List A) (i : ℕ) (d : A) → i < length xs → take i xs ++ (get_or xs i d ∷ drop (i + 1) xs) ≡ xs
   split_at xs i d h = ap (λ (l : List A). take i xs ++ l) (sym (drop_next xs i d h)) ∙ take-append-drop i xs
@@ -120,6 +123,7 @@ module _ {A : Type 0} {R : A → A → Type 0} where
       at_get : {P : A → Type 0} (ys : List A) (i : ℕ) (d : A) → All P ys → i < length ys → P (get_or ys i d)
       at_get (y ∷ ys) zero d (more q a) h = q
       at_get (y ∷ ys) (suc i) d (more q a) h = at_get ys i d a (omega arith)
+      at_get {P = P} [] i d _ h = elim h [ ]
 
       go : (f : Found) → position p xs ≡ f → Sorted R (take (unwrap_or (length xs) f) xs ++ (x ∷ drop (unwrap_or (length xs) f) xs))
       go (At i) e =
@@ -247,11 +251,13 @@ module _ {A : Type 0} {G : A → Type 0} {S : A → A → Type 0} where
       go (inl g) = inl g
       go (inr t) = inr (t.0, there t.1, t.2)
   became_forward (goes g b) (there m) = became_forward b m
+  became_forward ends h = elim h [ ]
 
   pub became_back : {xs ys : List A} {y : A} → Became G S xs ys → y ∈ ys → (x : A) × (x ∈ xs) × S x y
   became_back (stays {x = x} s b) here = (x, here, s)
   became_back (stays s b) (there m) = let t = became_back b m in (t.0, there t.1, t.2)
   became_back (goes g b) m = let t = became_back b m in (t.0, there t.1, t.2)
+  became_back {y = y} ends m = elim m [ ]
 
   -- in a sorted list an element that goes leaves nothing behind: what is there came from others
   pub became_gone : {R : A → A → Type 0} {xs ys : List A} {x : A} → Sorted R xs → Became G S xs ys → x ∈ xs
@@ -265,6 +271,7 @@ module _ {A : Type 0} {G : A → Type 0} {S : A → A → Type 0} where
       go (inl q) = inl (q.0, more (w, t, inr (all_in a m)) q.1)
       go (inr q) = inr (q.0, there q.1, q.2)
   became_gone (next a s) (goes g b) (there m) = became_gone s b m
+  became_gone {R = R} {ys = ys} empty _ h = elim h [ ]
 
 -- ---- two lists merged
 

@@ -1,5 +1,6 @@
 // HMAC (FIPS 198-1) and HKDF (RFC 5869) with SHA-384.
 #![tactic(auto)]
+
 ghost use Rattle.std.specs.Prelude.{◌≡◌, List, [], ◌∷◌, ◌++◌, ℕ, ◌+◌, ◌-◌, ◌*◌, ◌^◌, ◌≤◌, ◌<◌, length, take};
 ghost use Rattle.octets.specs.Bytes.{splice};
 ghost use Rattle.sha_block.specs.Constants.{K};

@@ -1,5 +1,6 @@
 // What a call answers a host of another language: every enum of the calls as one struct of numbers, and a held row that was read.
 #![tactic(auto)]
+
 ghost use Rattle.std.specs.Prelude.{◌≡◌};
 ghost use Rattle.contacts.specs.Answers.{exchange_after};
 ghost use Rattle.host_answers.specs.HostAnswers.{answered, refusing, contact_answer, opened_answer, envelope_answer, fetch_answer, own_answer, own_row_area, listed_answer, inventory_answer, code_answer, stored_answer, tomb_answer, maintained_answer, blob_answer, save_answer, load_answer, page_answer, window_answer, carried_row, tombstone_row, row_of};

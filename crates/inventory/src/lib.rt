@@ -1,5 +1,6 @@
 // Inventories: the prefixes of what is held here, and what a peer's list of prefixes is answered with.
 #![tactic(auto)]
+
 ghost use Rattle.std.specs.Prelude.{◌≡◌, ◌+◌, ◌*◌, ◌/◌, ◌%◌, ◌<◌, ◌≤◌, min, not, ◌||◌, ◌++◌, map, length, take, nat_lt};
 ghost use mathlib.Core.List.{flat_map};
 ghost use Rattle.courier_core.specs.Core.{first_of};

@@ -1,5 +1,6 @@
 // kdf.rs: labelled keys, tags and hashes.
 #![tactic(auto)]
+
 ghost use Rattle.std.specs.Prelude.{◌≡◌, ◌≤◌, length, take};
 ghost use Rattle.hmac.specs.Hkdf.{longest};
 ghost use Rattle.kdf.specs.Kdf.{longest_label, longest_tag, head as head_of, head_as, tag as tag_of, mac as mac_of, kdf as kdf_of, hash as hash_of, commit as commit_of, key_as, digest_as, told, kept, is_done};

@@ -41,6 +41,7 @@ any_in p {xs = y ∷ ys} (there m) e = ap (λ (t : Bool). p y || t) (any_in p m 
     or_true : (t : Bool) → (t || true) ≡ true
     or_true true = refl
     or_true false = refl
+any_in {A = A} p {xs = []} h e = elim h [ ]
 
 in_map : {A B : Type 0} (f : A → B) {x : A} {xs : List A} → x ∈ xs → f x ∈ map f xs
 in_map f here = here
@@ -59,6 +60,7 @@ in_merge key {x} (z ∷ zs) (y ∷ ys) (there m) = go (leb (key z) (key y)) (in_
     go : (t : Bool) → x ∈ merge key zs (y ∷ ys) → x ∈ merge key (z ∷ zs) ys → x ∈ cond t (z ∷ merge key zs (y ∷ ys)) (y ∷ merge key (z ∷ zs) ys)
     go true k n = there k
     go false k n = there n
+in_merge key {x = x} [] ys m = elim m [ ]
 
 -- ---- the file
 

@@ -1,6 +1,7 @@
 // The load call: held rows and next slot from a saved file. The whole file is tested first (crate load_tests); then each record is put in
 // by its slot.
 #![tactic(auto)]
+
 ghost use Rattle.std.specs.Prelude.{◌≡◌, ◌+◌, ◌*◌, ◌<◌, ◌≤◌, length};
 ghost use Rattle.octets.specs.Bytes.{part, num};
 ghost use Rattle.table.specs.Lists.{position, unwrap_or, insert_at};

@@ -1,5 +1,6 @@
 // What a load tests before it writes: a walk through the records of the file, each against all of them.
 #![tactic(auto)]
+
 ghost use Rattle.std.specs.Prelude.{◌≡◌, ◌+◌, ◌*◌, ◌<◌, ◌≤◌, true, false, [], ◌∷◌, length, drop, nat_lt};
 ghost use Rattle.octets.specs.Bytes.{part};
 ghost use Rattle.table.specs.Lists.{any, count_by};

@@ -1,5 +1,6 @@
 // Maintenance: `maintain_couriers`. Own rows expired once are renewed, the second time dropped; then held rows with expiry ≤ minute go.
 #![tactic(auto)]
+
 ghost use Rattle.std.specs.Prelude.{◌≡◌, ◌+◌, ◌*◌, ◌≤◌, not, ◌&&◌, map, length, nat_lt};
 ghost use Rattle.octets.specs.Bytes.{part};
 ghost use Rattle.table.specs.Lists.{filter};

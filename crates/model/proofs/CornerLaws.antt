@@ -52,6 +52,7 @@ has_right [] h = h
 has_right (x ∷ xs) h = there (has_right xs h)
 
 has_map : {A B C : Type 0} (g : A → B) {f : B → C} {c : C} (xs : List A) → Has (λ (x : A). f (g x)) c xs → Has f c (map g xs)
+has_map {A = A} {B = B} {C = C} g {f = f} {c = c} [] x' = elim x' [ ]
 has_map g (x ∷ xs) (here e) = here e
 has_map g (x ∷ xs) (there h) = there (has_map g xs h)
 
@@ -67,6 +68,7 @@ module _ {A : Type 0} (f : A → List ℕ) (bytes : List ℕ) where
 
   pub has_any : (xs : List A) → Has f bytes xs → any same xs ≡ true
   unfolding any
+  has_any [] x' = elim x' [ ]
   has_any (x ∷ xs) (here e) = or_left (same x) (any same xs) (ap (λ (b : List ℕ). same_bytes b bytes) e ∙ same_refl bytes)
   has_any (x ∷ xs) (there h) = or_right (same x) (any same xs) (has_any xs h)
 

@@ -7,7 +7,6 @@ use lib.ListN.{length-map, get_or-append}
 use Rattle.octets.specs.Bytes.{part}
 use Rattle.courier_core.specs.declared.ContactId.{ContactId}
 use Rattle.table.specs.Lists.{filter}
-use Rattle.table.specs.Rows.{held}
 use Rattle.table.specs.Codec.{table_of}
 use Rattle.table.proofs.ListLaws.{flat_map_append}
 use Rattle.table.proofs.RowLaws.{held_all}
@@ -56,7 +55,7 @@ module _ {X : Type 0} (f : Own → X) (g : Carried → X) (own carried : List �
             let k : n ≤ i = ltb-false i n e in
             let z : i ≡ length (map f To) + (i - n) = omega (arith, length_own) in
             ap (λ (j : ℕ). get_or (map f To ++ map g Tc) j (g no_carried)) z ∙ get_or-append-add (map f To) (map g Tc) (i - n) (g no_carried)
-            ∙ ListN.get_d_map g Tc (i - n) no_carried
+            ∙ ListN.get_or-map g Tc (i - n) no_carried
             ∙ ap g (get_d_table carried_codec m carried (i - n) no_carried (omega (arith, length_table carried_codec m carried, length_carried)))
 
   -- the row at i, as it is read

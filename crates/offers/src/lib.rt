@@ -1,5 +1,6 @@
 // What is offered to a peer: of the rows held here, own rows first, those that are offered are flagged; then the flagged ones are written, as replies and as offers.
 #![tactic(auto)]
+
 ghost use Rattle.std.specs.Prelude.{◌≡◌, ◌+◌, ◌*◌, ◌/◌, ◌<◌, ◌≤◌, ◌&&◌, length, nat_lt};
 ghost use Rattle.courier_core.specs.declared.ContactId.{ContactId};
 ghost use Rattle.table.specs.Codec.{table_of};
@@ -9,15 +10,15 @@ ghost use Rattle.model.specs.Exchange.{own_envelope_of, carried_envelope_of, hal
 ghost use Rattle.offers.specs.Entries.{held_envelopes, envelope_at, own_entry, carried_entry, entries, entry_at, row_of};
 ghost use Rattle.offers.specs.Offers.{half_of, offered_of, Inserted, Handed, ListsOffers, halves_of, WritesOffers};
 
-use courier_core::ContactId;
 use courier::Header;
+use courier_core::ContactId;
 use rows::{Carried, Offer, Own};
 use table::Found;
 
 // ---- the held rows, own rows first, then carried ones
 
 // What is asked of a held row: may it go to the peer, its tag, its copies.
-#[derive(Drop)]
+#[derive(Clone, Copy)]
 pub struct Row {
     pub goes: bool,
     pub tag: [u8; 16],

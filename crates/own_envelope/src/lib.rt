@@ -1,5 +1,6 @@
 // Own envelopes: `own_envelope`, the courier copies of a message that the host has queued.
 #![tactic(auto)]
+
 ghost use Rattle.std.specs.Prelude.{◌≡◌, ◌+◌, ◌*◌, ◌<◌, ◌≤◌, length};
 ghost use Rattle.table.specs.Lists.{any};
 ghost use Rattle.table.specs.Rows.{held};

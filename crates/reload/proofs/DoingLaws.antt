@@ -20,7 +20,6 @@ use Rattle.model.specs.Step.{Post, Lent, tests, perform, step, state_for, answer
 use Rattle.history.specs.Order.{Sorted, HeldOrder}
 use Rattle.history.specs.Life.{is_refused}
 use Rattle.history.specs.History.{Empty}
-use Rattle.history.proofs.Effects
 use Rattle.history.proofs.SortedLaws.{all_both, became_filter, became_sorted, rises_merge}
 use Rattle.history.proofs.CellLaws.{length_split}
 use Rattle.history.proofs.LimitLaws.{known_kept}

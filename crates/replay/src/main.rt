@@ -1,10 +1,17 @@
 // Makes the calls of a sample of the oracle's answers again, on a post of its own, and compares every answer with the sample's.
 #![tactic(auto)]
-use libc::{STDERR_FILENO, STDIN_FILENO, STDOUT_FILENO};
+
 use replay_calls::{Outcome, Sizes};
 use replay_compare::{Seen, compare};
 use replay_log::cut;
 use rows::{Device, Exchange};
+
+// The file descriptors.
+const STDIN: i32 = 0;
+
+const STDOUT: i32 = 1;
+
+const STDERR: i32 = 2;
 
 // ---- text
 
@@ -241,31 +248,31 @@ fn called(s: State, device: Device, sessions: Sessions, length: usize, differ: u
 
 fn what_differs(what: u8, place: u16) {
     match what {
-        1 => text(STDERR_FILENO, b"the answer"),
-        2 => text(STDERR_FILENO, b"reply "),
-        3 => text(STDERR_FILENO, b"the ciphertext of reply "),
-        4 => text(STDERR_FILENO, b"action "),
-        5 => text(STDERR_FILENO, b"the blob of action "),
-        _ => text(STDERR_FILENO, b"what it wrote or read"),
+        1 => text(STDERR, b"the answer"),
+        2 => text(STDERR, b"reply "),
+        3 => text(STDERR, b"the ciphertext of reply "),
+        4 => text(STDERR, b"action "),
+        5 => text(STDERR, b"the blob of action "),
+        _ => text(STDERR, b"what it wrote or read"),
     }
     if 1 < what {
         if what < 6 {
-            number(STDERR_FILENO, place as u64);
+            number(STDERR, place as u64);
         }
     }
 }
 
 // `list 3, call 17, fetch: reply 0 differs`. Calls are counted from 1, replies and actions from 0.
 fn report(s: State, r: &[u8], seen: Seen) {
-    text(STDERR_FILENO, b"list ");
-    number(STDERR_FILENO, s.list as u64);
-    text(STDERR_FILENO, b", call ");
-    number(STDERR_FILENO, replay_log::past(s.calls, 1) as u64);
-    text(STDERR_FILENO, b", ");
-    kind_name(STDERR_FILENO, replay_log::byte(r, replay_log::KIND));
-    text(STDERR_FILENO, b": ");
+    text(STDERR, b"list ");
+    number(STDERR, s.list as u64);
+    text(STDERR, b", call ");
+    number(STDERR, replay_log::past(s.calls, 1) as u64);
+    text(STDERR, b", ");
+    kind_name(STDERR, replay_log::byte(r, replay_log::KIND));
+    text(STDERR, b": ");
     what_differs(seen.what, seen.place);
-    text(STDERR_FILENO, b" differs\n");
+    text(STDERR, b" differs\n");
 }
 
 // `list 3: 300 calls, 0 differ`, once its last call was made.
@@ -273,13 +280,13 @@ fn list_line(s: State) {
     if s.left > 0 {
         return;
     }
-    text(STDOUT_FILENO, b"list ");
-    number(STDOUT_FILENO, s.list as u64);
-    text(STDOUT_FILENO, b": ");
-    number(STDOUT_FILENO, s.calls as u64);
-    text(STDOUT_FILENO, b" calls, ");
-    number(STDOUT_FILENO, s.differ as u64);
-    text(STDOUT_FILENO, b" differ\n");
+    text(STDOUT, b"list ");
+    number(STDOUT, s.list as u64);
+    text(STDOUT, b": ");
+    number(STDOUT, s.calls as u64);
+    text(STDOUT, b" calls, ");
+    number(STDOUT, s.differ as u64);
+    text(STDOUT, b" differ\n");
 }
 
 // The state after a call; what differs in it is said on standard error.
@@ -365,25 +372,25 @@ fn step(
 // ---- the totals
 
 fn reached(tally: &[u64; 320], at: usize) {
-    text(STDOUT_FILENO, b" ");
-    number(STDOUT_FILENO, tally[at % 320]);
+    text(STDOUT, b" ");
+    number(STDOUT, tally[at % 320]);
 }
 
 // A comma, or the end of the line.
 fn between(last: bool) {
     if last {
-        text(STDOUT_FILENO, b"\n");
+        text(STDOUT, b"\n");
     } else {
-        text(STDOUT_FILENO, b",");
+        text(STDOUT, b",");
     }
 }
 
 fn kinds_line(tally: &[u64; 320]) {
-    text(STDOUT_FILENO, b"calls:");
+    text(STDOUT, b"calls:");
     let mut kind: u8 = 0;
     while kind <= replay_log::LAST_KIND {
-        text(STDOUT_FILENO, b" ");
-        kind_name(STDOUT_FILENO, kind);
+        text(STDOUT, b" ");
+        kind_name(STDOUT, kind);
         reached(tally, kind as usize);
         between(kind == replay_log::LAST_KIND);
         kind += 1;
@@ -391,11 +398,11 @@ fn kinds_line(tally: &[u64; 320]) {
 }
 
 fn refused_line(tally: &[u64; 320]) {
-    text(STDOUT_FILENO, b"refused:");
+    text(STDOUT, b"refused:");
     let mut n: u8 = 1;
     while n <= replay_log::LAST_REFUSAL {
-        text(STDOUT_FILENO, b" number ");
-        number(STDOUT_FILENO, n as u64);
+        text(STDOUT, b" number ");
+        number(STDOUT, n as u64);
         reached(tally, SAID + n as usize);
         between(n == replay_log::LAST_REFUSAL);
         n += 1;
@@ -403,7 +410,7 @@ fn refused_line(tally: &[u64; 320]) {
 }
 
 fn item(name: &[u8], tally: &[u64; 320], at: usize) {
-    text(STDOUT_FILENO, name);
+    text(STDOUT, name);
     reached(tally, at);
 }
 
@@ -417,7 +424,7 @@ fn said_line(tally: &[u64; 320]) {
         tally,
         SAID + replay_log::NO_ENVELOPE as usize,
     );
-    text(STDOUT_FILENO, b"\n");
+    text(STDOUT, b"\n");
 }
 
 fn rows_lines(tally: &[u64; 320]) {
@@ -433,7 +440,7 @@ fn rows_lines(tally: &[u64; 320]) {
     item(b"\nactions: put", tally, ACTIONS);
     item(b", delete", tally, ACTIONS + 1);
     item(b", own put", tally, ACTIONS + 2);
-    text(STDOUT_FILENO, b"\n");
+    text(STDOUT, b"\n");
 }
 
 fn totals(lists: usize, calls: usize, differ: usize, tally: &[u64; 320]) {
@@ -441,12 +448,12 @@ fn totals(lists: usize, calls: usize, differ: usize, tally: &[u64; 320]) {
     refused_line(tally);
     said_line(tally);
     rows_lines(tally);
-    number(STDOUT_FILENO, lists as u64);
-    text(STDOUT_FILENO, b" lists, ");
-    number(STDOUT_FILENO, calls as u64);
-    text(STDOUT_FILENO, b" calls, ");
-    number(STDOUT_FILENO, differ as u64);
-    text(STDOUT_FILENO, b" differ\n");
+    number(STDOUT, lists as u64);
+    text(STDOUT, b" lists, ");
+    number(STDOUT, calls as u64);
+    text(STDOUT, b" calls, ");
+    number(STDOUT, differ as u64);
+    text(STDOUT, b" differ\n");
 }
 
 // ---- the program
@@ -492,9 +499,9 @@ fn replay(sample: &[u8], tally: &mut [u64; 320]) -> usize {
 fn run(sample: &[u8]) {
     let w = replay_log::walked(sample);
     if w.said != 1 {
-        text(STDERR_FILENO, b"the sample is of wrong shape at byte ");
-        number(STDERR_FILENO, w.at as u64);
-        text(STDERR_FILENO, b"\n");
+        text(STDERR, b"the sample is of wrong shape at byte ");
+        number(STDERR, w.at as u64);
+        text(STDERR, b"\n");
         return;
     }
     let mut tally = [0u64; 320];
@@ -503,7 +510,7 @@ fn run(sample: &[u8]) {
 }
 
 fn fill(input: &mut [u8; 1048576]) -> usize {
-    io::read_full(STDIN_FILENO, input)
+    io::read_full(STDIN, input)
 }
 
 fn run_first(input: &[u8; 1048576], n: usize) {
@@ -516,6 +523,6 @@ fn main() {
     if n < 1048576 {
         run_first(&input, n);
     } else {
-        text(STDERR_FILENO, b"the sample is too long\n");
+        text(STDERR, b"the sample is too long\n");
     }
 }

@@ -1,12 +1,13 @@
 // The calls of a sample that set, hold, list and hand over: each is made with the inputs of its record, on the areas of a post, and
 // says what it answered.
 #![tactic(auto)]
+
 ghost use Rattle.std.specs.Prelude.{◌≤◌};
 
 use chain::{Dir, DirRead};
 use contacts::{Answered, Opened, Said};
-use courier_core::{ContactId, Refusal, Verification};
 use courier::{Custody, CustodyRead, Header};
+use courier_core::{ContactId, Refusal, Verification};
 use inventory::Listed;
 use own_envelope::Made;
 use replay_log::{DONE, MALFORMED, MISSING, NEVER_SAID, NO_ENVELOPE, OURS, cap};

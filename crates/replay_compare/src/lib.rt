@@ -1,6 +1,7 @@
 // The comparison of a call's answer with what its record says: the answer, each reply with its ciphertext, each action with the blob
 // of its row, and what the call wrote or read.
 #![tactic(auto)]
+
 use replay_calls::{Answer, Sizes};
 use replay_log::cut;
 use rows::Device;

@@ -8,6 +8,7 @@
 //            action rows of 15 bytes: the library's 13, and the length of the blob of a row that was put,
 //            and the expected bytes: the ciphertexts of the replies, the blobs of the puts, and what the call wrote or read
 #![tactic(auto)]
+
 ghost use Rattle.std.specs.Prelude.{◌≤◌};
 
 use state::{ByteRead, U32Read, U64Read};
@@ -208,7 +209,7 @@ pub fn record_length(r: &[u8]) -> usize {
 
 // Where the walk stands, how many lists and calls it passed and how many calls of this list are left. said: 0 go on, 1 the sample
 // ended as it should, 2 it is of wrong shape.
-#[derive(Drop)]
+#[derive(Clone, Copy)]
 pub struct Walk {
     pub at: usize,
     pub lists: usize,

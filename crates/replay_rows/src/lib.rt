@@ -1,5 +1,6 @@
 // The calls of a sample that end rows, and those that read and write rows and files; and the call of any record.
 #![tactic(auto)]
+
 use chain::Windowed;
 use maintenance::Maintained;
 use replay_calls::{Outcome, Sizes, answer_of, outcome_of, peer, put, put_16, refused};

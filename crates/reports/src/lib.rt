@@ -1,5 +1,6 @@
 // What follows local opening: the calls report opened and report failed.
 #![tactic(auto)]
+
 ghost use Rattle.std.specs.Prelude.{◌≡◌, ◌+◌, ◌*◌, ◌/◌, ◌≤◌, min, ◌||◌, [], ◌∷◌, ◌++◌, length, nat_lt};
 ghost use Rattle.table.specs.Rows.{held};
 ghost use Rattle.table.specs.Codec.{table_of, TableNow};

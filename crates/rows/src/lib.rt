@@ -1,6 +1,7 @@
 // The rows of the tables that a host lends, and what goes by value beside them. Rows have no padding, and every field is a number
 // of full range or a run of bytes, so that any bytes are a row.
 #![tactic(auto)]
+
 ghost use Rattle.std.specs.Prelude.{◌≡◌, ◌+◌, ◌≤◌, length};
 ghost use Rattle.octets.specs.Bytes.{part, splice, num, be};
 ghost use Rattle.rows.specs.Rows.{carried_width, carried_of, carried_bytes, own_width, own_of, own_bytes, tombstone_width, tombstone_of, tombstone_bytes, contact_width, contact_of, contact_bytes, bad_tag_width, bad_tag_of, bad_tag_bytes, offer_width, offer_of, offer_bytes, reply_width, reply_of, reply_bytes, action_width, action_of, action_bytes, reachable_width, reachable_of, reachable_bytes};

@@ -1,5 +1,6 @@
 // Held rows as blobs: the row blob call, and the saved file.
 #![tactic(auto)]
+
 ghost use Rattle.std.specs.Prelude.{◌≡◌, ◌+◌, ◌*◌, ◌<◌, ◌≤◌, [], ◌∷◌, ◌++◌, length, nat_lt};
 ghost use Rattle.octets.specs.Bytes.{part, be};
 ghost use Rattle.table.specs.Lists.{position};

@@ -1,6 +1,6 @@
 -- Laws of the rows of a page: those that are passed, and the lines of those that follow.
 -- Assumes nothing.
-use Rattle.std.proofs.Common.{◌≡◌, ℕ, ◌+◌, ◌-◌, ◌*◌, ◌<◌, ◌≤◌, List, [], ◌∷◌, ◌++◌, map, length, take, drop, sym, refl, ap, ◌∙◌, subst, arith, length-append, drop-drop, take-add}
+use Rattle.std.proofs.Common.{◌≡◌, ℕ, ◌+◌, ◌*◌, ◌<◌, ◌≤◌, List, [], ◌∷◌, ◌++◌, map, length, take, drop, sym, refl, ap, ◌∙◌, subst, arith, length-append, drop-drop, take-add}
 use mathlib.Core.List.{map-append}
 use Rattle.octets.specs.Bytes.{part, splice, num}
 use Rattle.octets.proofs.Parts.{length_part, splice_nil, splice_then, length_splice}

@@ -1,5 +1,6 @@
 // The post's screen page: a heading, and up to 19 held rows by slot, a line each.
 #![tactic(auto)]
+
 ghost use Rattle.std.specs.Prelude.{◌≡◌, ◌+◌, ◌*◌, ◌≤◌, min, length};
 ghost use Rattle.octets.specs.Bytes.{splice};
 ghost use Rattle.model.specs.Calls.{page as page_call};

@@ -1,9 +1,12 @@
 // Pages of the post's screen, printed as they are. Before each a line says what is shown, and how many bytes were answered.
 #![tactic(auto)]
+
 use courier_core::ContactId;
-use libc::STDOUT_FILENO;
 use rows::{Carried, Device, Tombstone};
 use screen::PageAnswer;
+
+// Standard output.
+const STDOUT: i32 = 1;
 
 // What a post shows: its device and its two tables of held rows, with room for 40 tombstones.
 #[derive(Drop)]
@@ -23,12 +26,12 @@ const BEFORE: u8 = b'.';
 // ---- what is written
 
 fn text(s: &[u8]) {
-    io::write_all(STDOUT_FILENO, s);
+    io::write_all(STDOUT, s);
 }
 
 fn number(n: u64) {
     text(b" ");
-    io::print_decimal(STDOUT_FILENO, n);
+    io::print_decimal(STDOUT, n);
 }
 
 fn end() {
@@ -139,7 +142,7 @@ fn entomb(post: Post, slot: u64, tag: u8, expiry: u32) -> Post {
 }
 
 // The post at another clock.
-fn at_clock(post: Post, seconds: u64) -> Post {
+fn at_clock(post: &Post, seconds: u64) -> Post {
     let n = post.device.carried;
     let m = post.device.tombstones;
     let carried = post.carried;
@@ -223,16 +226,16 @@ fn numbers() {
     let post = entomb(b, MOST_SLOT, 0xAB, MOST_EXPIRY);
     show(b"least and greatest numbers", post, 0, 1620);
     let held = carry(fresh(), carried_row(7, 12, 0x0A, MOST_EXPIRY, 1));
-    show(b"the last minute", at_clock(held, MOST_SLOT), 0, 1620);
+    show(b"the last minute", at_clock(&held, MOST_SLOT), 0, 1620);
 }
 
 // A carried row and a tombstone that expire at minute 10: a second before it, at it, and a minute later.
 fn clocks() {
     let a = carry(fresh(), carried_row(3, 5, 0x11, 10, 6));
     let post = entomb(a, 4, 0x22, 10);
-    show(b"clock 599", at_clock(post, 599), 0, 1620);
-    show(b"clock 600", at_clock(post, 600), 0, 1620);
-    show(b"clock 660", at_clock(post, 660), 0, 1620);
+    show(b"clock 599", at_clock(&post, 599), 0, 1620);
+    show(b"clock 600", at_clock(&post, 600), 0, 1620);
+    show(b"clock 660", at_clock(&post, 660), 0, 1620);
 }
 
 fn areas() {

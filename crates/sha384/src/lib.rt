@@ -1,5 +1,6 @@
 // SHA-384 of a message of bytes: FIPS 180-4. The message is read where it lies: only its padded end is built.
 #![tactic(auto)]
+
 ghost use Rattle.std.specs.Prelude.{◌≡◌, ◌++◌, ◌+◌, ◌*◌, ◌/◌, ◌%◌, ◌^◌, ◌≤◌, ◌<◌, length, take, drop};
 ghost use Rattle.sha_block.specs.Loop.{turns};
 ghost use Rattle.sha_block.specs.Constants.{K};

@@ -1,5 +1,6 @@
 // One block of SHA-384: FIPS 180-4, 6.4.2.
 #![tactic(auto)]
+
 ghost use Rattle.std.specs.Prelude.{◌≡◌, ℕ, ◌+◌, ◌≤◌, List, length, take};
 ghost use Rattle.octets.specs.Bytes.{part};
 ghost use Rattle.sha_block.specs.Loop.{turns};

@@ -1,5 +1,6 @@
 // The functions of FIPS 180-4, 3.2 and 4.1.3, on words of 64 bits.
 #![tactic(auto)]
+
 ghost use Rattle.std.specs.Prelude.{◌≡◌, ◌<◌};
 ghost use Rattle.sha_word.specs.Word.{ROTR, Ch, Maj, Σ0, Σ1, σ0, σ1};
 

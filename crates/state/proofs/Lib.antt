@@ -2,4 +2,3 @@ pub mod ConfigLaws
 pub mod ReaderLaws
 pub mod RowLaws
 pub mod HeldLaws
-pub mod ReaderWalk

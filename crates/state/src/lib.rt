@@ -1,13 +1,14 @@
 // state.rs: the courier configuration, and held rows as blobs, written and read.
 #![tactic(auto)]
+
 ghost use Rattle.std.specs.Prelude.{◌≡◌, ℕ, min, List, ◌∷◌, length, drop, nat_le};
 ghost use Rattle.std.proofs.Math.Option.{none, some};
 ghost use Rattle.state.specs.Config.{IsConfigured, config_default};
 ghost use Rattle.state.specs.Held.{carried, tombstone, no_carried, no_tombstone, carried_head, held_row, RowWritten, carried_in, tombstone_in, kind_of, held_decode, held_read};
 ghost use Rattle.state.specs.Reader.{byte_at, array_at, u32_at, u64_at};
 
-use courier_core::{ContactId, Refusal};
 use courier::Header;
+use courier_core::{ContactId, Refusal};
 
 // Does this device carry for others, with how many copies at most, and for how many minutes.
 #[derive(Drop)]
@@ -243,7 +244,7 @@ fn after(s: &[u8], n: usize) -> &[u8]
 // ---- the reader
 
 // state.rs's `Reader`: it refers to as much of a blob as is left to read. Each step says what stands next; `past` goes on.
-#[derive(Drop)]
+#[derive(Clone, Copy)]
 struct Reader<'a> {
     rest: &'a [u8],
 }

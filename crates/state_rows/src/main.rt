@@ -1,18 +1,21 @@
 // Boundary values of courier and state, one short line for each.
 #![tactic(auto)]
+
 use chain::Dir;
-use courier_core::ContactId;
 use courier::{Custody, CustodyRead, Header};
-use libc::STDOUT_FILENO;
+use courier_core::ContactId;
 use state::{Carried, Configured, CourierConfig, HeldKind, RowAnswer, Tombstone};
 
+// Standard output.
+const STDOUT: i32 = 1;
+
 fn text(s: &[u8]) {
-    io::write_all(STDOUT_FILENO, s);
+    io::write_all(STDOUT, s);
 }
 
 fn number(n: u64) {
     text(b" ");
-    io::print_decimal(STDOUT_FILENO, n);
+    io::print_decimal(STDOUT, n);
 }
 
 fn end() {
@@ -27,8 +30,8 @@ fn yes(b: bool) {
 
 fn hex(a: [u8; 16]) {
     text(b" ");
-    io::print_hex(STDOUT_FILENO, octets::get_u64(&a, 0), 16);
-    io::print_hex(STDOUT_FILENO, octets::get_u64(&a, 8), 16);
+    io::print_hex(STDOUT, octets::get_u64(&a, 0), 16);
+    io::print_hex(STDOUT, octets::get_u64(&a, 8), 16);
     end();
 }
 

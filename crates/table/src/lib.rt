@@ -1,6 +1,7 @@
 // Tables of rows of any width in a lent area of bytes: one set of functions, and of proofs, for every width.
 // A table's rows stand at the front of its area, in the order in which they are read; n says how many there are.
 #![tactic(auto)]
+
 ghost use Rattle.std.specs.Prelude.{◌≡◌, [], ◌∷◌, ◌++◌, ◌+◌, ◌-◌, ◌*◌, ◌≤◌, ◌<◌, min, length};
 ghost use Rattle.octets.specs.Bytes.{splice, part};
 ghost use Rattle.table.specs.Lists.{insert_at, remove_at, replace_at, position};

@@ -1,5 +1,6 @@
 // Text in an area: runs, numbers in decimal, tags in hexadecimal. Each function puts its text at a place and answers the place behind it.
 #![tactic(auto)]
+
 ghost use Rattle.std.specs.Prelude.{◌++◌, ◌+◌, ◌≤◌, length};
 ghost use Rattle.columns.specs.Columns.{hexes};
 ghost use Rattle.text.specs.Text.{decimal, spaced, Puts};

@@ -1,5 +1,6 @@
 // What ends an envelope: the call tomb.
 #![tactic(auto)]
+
 ghost use Rattle.std.specs.Prelude.{◌≡◌, ◌+◌, ◌*◌, ◌<◌, ◌≤◌, length};
 ghost use Rattle.octets.specs.Bytes.{part};
 ghost use Rattle.table.specs.Lists.{position, unwrap_or, remove_at};

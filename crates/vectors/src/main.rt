@@ -1,14 +1,17 @@
 // Runs the published vectors of SHA-384, HMAC-SHA-384 and HKDF-SHA-384, lengths around every padding boundary, and kdf.rs and
 // data.rs on fixed inputs, and writes what it got. `stdout` has the values of an independent implementation.
 #![tactic(auto)]
-use libc::STDOUT_FILENO;
+
 use std::num::wrapping_add_u8;
+
+// Standard output.
+const STDOUT: i32 = 1;
 
 // What an area holds before it is lent.
 const BEFORE: u8 = 0xa5;
 
 fn say(text: &[u8]) {
-    io::write_all(STDOUT_FILENO, text);
+    io::write_all(STDOUT, text);
 }
 
 fn digit(x: u8) -> u8 {
@@ -42,7 +45,7 @@ fn front(bytes: &[u8], n: usize) -> &[u8] {
 }
 
 fn say_number(n: usize) {
-    io::print_decimal(STDOUT_FILENO, n as u64);
+    io::print_decimal(STDOUT, n as u64);
     say(b" ");
 }
 

@@ -1,17 +1,18 @@
 // A log's records: a two-byte mark, a two-byte body length, a body.
 #![tactic(auto)]
+
 ghost use Rattle.std.specs.Prelude.{◌≡◌, ◌≤◌, true, length};
 ghost use Rattle.octets.specs.Bytes.{num, part};
 ghost use Rattle.wire.specs.declared.Mark.TheVariants as mark;
 ghost use Rattle.wire.specs.Log.{mark_of, shaped, fits, head_of, peer_in, values_of, body_of};
 ghost use Rattle.wire.specs.Read.{read_as, Told};
 
-use courier_core::{ContactId, Verification};
 use courier::{Custody, CustodyRead};
+use courier_core::{ContactId, Verification};
 
 // ---- the head
 
-#[derive(Drop)]
+#[derive(Clone, Copy)]
 pub enum Mark {
     Clock,
     Contact,

@@ -1,6 +1,5 @@
 use native.Mathlib.Nat.{div-one}
 use Rattle.octets.specs.Bytes.{be}
-use borrow.Author.Rules.{rules}
 use Rattle.octets.proofs.be2.Goals as goal
 
 pub returns : goal.returns

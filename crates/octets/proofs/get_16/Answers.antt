@@ -5,7 +5,6 @@ use Prim.Native.Nat.{ℕ, ◌+◌, ◌-◌}
 use lib.ListN.{take, drop}
 use Rattle.octets.specs.Bytes.{splice, part}
 use Rattle.octets.proofs.Parts.{splice_all, length_part}
-use borrow.Author.Rules.{rules}
 use Rattle.octets.proofs.get_16.Goals as goal
 
 pub returns : goal.returns

@@ -1,6 +1,5 @@
 use native.Mathlib.Omega.{arith}
 use Rattle.octets.proofs.Numbers.{num_4}
-use borrow.Author.Rules.{rules}
 use Rattle.octets.proofs.get_u32.Goals as goal
 
 pub returns : goal.returns

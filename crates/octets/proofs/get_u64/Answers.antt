@@ -1,6 +1,5 @@
 use native.Mathlib.Omega.{arith}
 use Rattle.octets.proofs.Numbers.{or_halves}
-use borrow.Author.Rules.{rules}
 use Rattle.octets.proofs.get_u64.Goals as goal
 
 pub returns : goal.returns

@@ -1,7 +1,6 @@
 -- One byte spells itself.
 use mathlib.Core.Path.{sym}
 use native.Mathlib.Omega.{arith}
-use borrow.Author.Rules.{rules}
 use Rattle.octets.proofs.Numbers.{num_one}
 use Rattle.octets.proofs.get_u8.Goals as goal
 

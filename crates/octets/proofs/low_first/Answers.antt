@@ -1,4 +1,3 @@
-use borrow.Author.Rules.{rules}
 use Rattle.octets.proofs.Words.{low_halves}
 use Rattle.octets.proofs.low_first.Goals as goal
 

@@ -1,5 +1,4 @@
 use native.Mathlib.Omega.{arith}
-use borrow.Author.Rules.{rules}
 use Rattle.octets.specs.Bytes.{Bytes}
 use Rattle.octets.proofs.Words.{low_4}
 use Rattle.octets.proofs.low_four.Goals as goal

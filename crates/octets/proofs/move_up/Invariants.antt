@@ -1,11 +1,8 @@
 -- `octets::move_up`: what is moved so far is a splice of the run's end, which a turn extends by a byte in front (`up_step`). Assumes nothing.
-use mathlib.Core.Path.{◌≡◌, refl, sym, ap, ◌∙◌}
-use Prim.Native.Nat.{ℕ, ◌+◌, ◌≤◌, ◌-◌}
-use native.Mathlib.Nat.{add-zero, sub-zero}
-use native.Mathlib.Omega.{arith}
-use lib.ListN.{length, length-set}
+use mathlib.Core.Path.{◌≡◌}
+use Prim.Native.Nat.{◌+◌, ◌≤◌, ◌-◌}
+use lib.ListN.{length}
 use Rattle.octets.specs.Bytes.{part, splice}
-use Rattle.octets.proofs.Parts.{splice_nil, up_step, part_of_none}
 use Rattle.octets.proofs.move_up.Given as goal
 
 abbrev pub invariant-loop-k : goal.invariant-loop-k

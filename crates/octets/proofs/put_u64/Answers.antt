@@ -1,4 +1,3 @@
-use borrow.Author.Rules.{rules}
 use Rattle.octets.proofs.put_u64.Goals as goal
 
 pub returns : goal.returns

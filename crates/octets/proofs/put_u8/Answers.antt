@@ -1,7 +1,6 @@
 -- One byte stored is the number's one byte written.
 use mathlib.Core.Path.{sym, ap, ◌∙◌}
 use native.Mathlib.Omega.{arith}
-use borrow.Author.Rules.{rules}
 use Rattle.octets.specs.Bytes.{splice}
 use Rattle.octets.proofs.Parts.{set_splice}
 use Rattle.octets.proofs.Numbers.{be_1}

@@ -2,7 +2,6 @@
 use mathlib.Core.Path.{sym, ap, ◌∙◌}
 use Prim.Native.Nat.{ℕ}
 use native.Mathlib.Omega.{arith}
-use borrow.Author.Rules.{rules}
 use Rattle.octets.specs.Bytes.{part, same_bytes}
 use Rattle.octets.proofs.Words.{same_8}
 use Rattle.octets.proofs.same.Goals as goal

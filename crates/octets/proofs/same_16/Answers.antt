@@ -1,5 +1,4 @@
 -- Two words that differ nowhere are equal, and so are their bytes.
-use borrow.Author.Rules.{rules}
 use Rattle.octets.proofs.Words.{same_16}
 use Rattle.octets.proofs.same_16.Goals as goal
 

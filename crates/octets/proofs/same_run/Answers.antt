@@ -1,10 +1,8 @@
-use mathlib.Core.Path.{◌≡◌, refl, sym}
-use Prim.Native.Nat.{◌≤◌, ◌-◌}
+use mathlib.Core.Path.{refl, sym}
+use Prim.Native.Nat.{◌≤◌}
 use native.Mathlib.Omega.{arith}
-use lib.Dec.{eqb}
-use lib.ListN.{length, drop}
-use mathlib.Core.Bool.{◌&&◌}
-use Rattle.octets.specs.Bytes.{part, same_bytes}
+use lib.ListN.{length}
+use Rattle.octets.specs.Bytes.{part}
 use Rattle.octets.proofs.Parts.{length_part, get_d_part}
 use Rattle.octets.proofs.Compare.{gather_more, gather_end}
 use Rattle.octets.proofs.same_run.Goals as goal

@@ -1,13 +1,10 @@
 -- `octets::same_run`: the differences gathered so far are 0 just where the bytes so far are the same. Assumes nothing.
-use mathlib.Core.Path.{◌≡◌, refl, sym}
+use mathlib.Core.Path.{◌≡◌}
 use Prim.Native.Nat.{◌≤◌, ◌-◌}
-use native.Mathlib.Omega.{arith}
 use lib.Dec.{eqb}
-use lib.ListN.{length, drop}
+use lib.ListN.{drop}
 use mathlib.Core.Bool.{◌&&◌}
 use Rattle.octets.specs.Bytes.{part, same_bytes}
-use Rattle.octets.proofs.Parts.{length_part, get_d_part}
-use Rattle.octets.proofs.Compare.{gather_more, gather_end}
 use Rattle.octets.proofs.same_run.Given as goal
 
 abbrev pub invariant-loop-k : goal.invariant-loop-k

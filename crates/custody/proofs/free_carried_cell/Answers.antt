@@ -1,0 +1,11 @@
+-- `custody::free_carried_cell`: a row's cell is the number at offset 55. Assumes nothing.
+use Rattle.std.proofs.Common.{refl}
+use Rattle.rows.specs.declared.Carried.{Carried}
+use Rattle.rows.specs.Rows.{carried_codec, carried_of}
+use Rattle.custody.proofs.Cells.{free_table}
+use Rattle.custody.proofs.free_carried_cell.Goals as goal
+
+pub returns : goal.returns
+unfolding carried_of
+returns c =
+    free_table carried_codec (λ (r : Carried). r.cell) 55 c.args.size c.args.count _ c.args.carried.now _ c.fit-n.ensures.is (λ b. refl) c.free_cell.ensures

@@ -1,0 +1,34 @@
+use Rattle.std.proofs.Common.{arith}
+use Rattle.table.proofs.RowLaws.{row_in}
+use Rattle.custody.proofs.Cells.{mark_none, mark_next, mark_past, mark_end}
+use Rattle.custody.proofs.mark_cells.Goals as goal
+use Rattle.custody.proofs.mark_cells.Goals.{then-cell-lt256, else-cell-lt256}
+
+pub loop-i-init : goal.loop-i-init
+loop-i-init c = (omega arith, mark_none _)
+
+pub overflow_mul-i : goal.overflow_mul-i
+overflow_mul-i c = omega (arith, row_in _ _ c.args.width c.loop-i-test.true)
+
+pub overflow_add-i : goal.overflow_add-i
+overflow_add-i c = omega (arith, row_in _ _ c.args.width c.loop-i-test.true)
+
+pub get_u16-cell-requires : goal.get_u16-cell-requires
+get_u16-cell-requires c = omega (arith, row_in _ _ c.args.width c.loop-i-test.true)
+
+pub loop-i-preserved : goal.loop-i-preserved
+loop-i-preserved c =
+    elim c.if-cell-lt256.branch [
+      | then-cell-lt256 w ↦ (
+        omega arith,
+        rw w.marks-is (mark_next _ _ _ _ c.requires.1 c.loop-i.i _ c.loop-i.invariant.1 _ (omega arith) c.get_u16-cell.ensures),
+      )
+      | else-cell-lt256 w ↦ (
+        omega arith,
+        rw w.marks-is (mark_past _ _ _ _ c.requires.1 c.loop-i.i _ c.loop-i.invariant.1 _ (omega arith) c.get_u16-cell.ensures w.if-cell-lt256.false),
+      )
+    ]
+
+pub returns : goal.returns
+returns c =
+    mark_end _ _ _ _ c.requires.1 c.loop-i.i c.loop-i.marks c.loop-i.invariant.1 (omega arith)

@@ -1,0 +1,42 @@
+-- Each way out is one row of the model's tests, or what its search finds.
+use Rattle.std.proofs.Common.{sym, ◌∙◌, arith}
+use Rattle.fetch.proofs.CallLaws.{own_row, carried_row_lem, says_short, says_stranger, says_own, says_carried, says_nothing}
+use Rattle.fetch.proofs.fetch.Goals as goal
+
+pub returns-then-replies-lt61440 : goal.returns-then-replies-lt61440
+returns-then-replies-lt61440 c a = says_short _ _ _ _ _ _ _ _ _ a c.if-replies-lt61440.true
+
+pub returns-then-not-known : goal.returns-then-not-known
+returns-then-not-known c a =
+    says_stranger _ _ _ _ _ _ _ _ _ a c.if-replies-lt61440.false (sym c.known.ensures ∙ c.if-not-known.true)
+
+pub overflow_mul-i : goal.overflow_mul-i
+overflow_mul-i c =
+    omega (arith, own_row _ _ _ _ (sym c.in-At.is ∙ c.own_for_others.ensures))
+
+pub give_own-requires : goal.give_own-requires
+give_own-requires c =
+    (omega (arith, own_row _ _ _ _ (sym c.in-At.is ∙ c.own_for_others.ensures)), omega arith)
+
+pub overflow_mul-i-in-At-carried_of_tag : goal.overflow_mul-i-in-At-carried_of_tag
+overflow_mul-i-in-At-carried_of_tag c =
+    omega (arith, carried_row_lem _ _ _ (sym c.in-At-carried_of_tag.is ∙ c.carried_of_tag.ensures))
+
+pub give_carried-requires : goal.give_carried-requires
+give_carried-requires c =
+    (omega (arith, carried_row_lem _ _ _ (sym c.in-At-carried_of_tag.is ∙ c.carried_of_tag.ensures)), omega arith)
+
+pub returns-in-At : goal.returns-in-At
+returns-in-At c a =
+    says_own _ _ _ _ _ _ _ _ _ a c.if-replies-lt61440.false (sym c.known.ensures ∙ c.if-not-known.false) _ _ _
+    (sym c.in-At.is ∙ c.own_for_others.ensures) c.give_own.ensures
+
+pub returns-in-At-carried_of_tag : goal.returns-in-At-carried_of_tag
+returns-in-At-carried_of_tag c a =
+    says_carried _ _ _ _ _ _ _ _ _ a c.if-replies-lt61440.false (sym c.known.ensures ∙ c.if-not-known.false) _ _ _
+    (sym c.in-Nothing.is ∙ c.own_for_others.ensures) (sym c.in-At-carried_of_tag.is ∙ c.carried_of_tag.ensures) c.give_carried.ensures
+
+pub returns-in-Nothing-carried_of_tag : goal.returns-in-Nothing-carried_of_tag
+returns-in-Nothing-carried_of_tag c a =
+    says_nothing _ _ _ _ _ _ _ _ _ a c.if-replies-lt61440.false (sym c.known.ensures ∙ c.if-not-known.false)
+    (sym c.in-Nothing.is ∙ c.own_for_others.ensures) (sym c.in-Nothing-carried_of_tag.is ∙ c.carried_of_tag.ensures)

@@ -1,0 +1,17 @@
+use Rattle.std.proofs.Common.{◌-◌, arith, rules}
+use Rattle.table.specs.Codec.{table_of}
+use Rattle.rows.specs.Rows.{bad_tag_codec, tombstone_codec}
+use Rattle.model.specs.Window.{window_rows}
+use Rattle.model.specs.Exchange.{fetch_for}
+use Rattle.inventory.proofs.ListedLaws.{Replying, replying_start, replying_next, replying_end}
+use Rattle.inventory.proofs.push_fetches.Goals as goal
+
+pub loop-i-init : goal.loop-i-init
+loop-i-init c = replying_start _ _ _ _ 0
+
+pub loop-i-preserved : goal.loop-i-preserved
+loop-i-preserved c =
+    replying_next _ _ _ _ _ c.requires.0 c.loop-i.invariant (omega arith) c.prefix_at-prefix.ensures c.push_fetch-k.ensures.0 c.push_fetch-k.ensures.1 (omega arith)
+
+pub returns : goal.returns
+returns c = let e = replying_end _ _ _ _ _ c.requires.0 c.loop-i.invariant (omega arith) in (e.0, omega (arith, e.1))

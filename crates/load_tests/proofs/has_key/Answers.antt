@@ -1,0 +1,13 @@
+-- `has_key`: a record that ends before the key would has it not. Assumes nothing.
+use Rattle.std.proofs.Common.{arith}
+use Rattle.load_tests.proofs.RecordLaws.{no_key, key_here}
+use Rattle.load_tests.proofs.has_key.Goals as goal
+
+pub returns-then-n-offset : goal.returns-then-n-offset
+returns-then-n-offset c = no_key _ _ _ _ _ (omega arith) (omega arith)
+
+pub returns-then-n-offset-2 : goal.returns-then-n-offset-2
+returns-then-n-offset-2 c = no_key _ _ _ _ _ (omega arith) (omega arith)
+
+pub returns : goal.returns
+returns c = key_here _ _ _ _ _ (omega arith) (omega arith) c.same.ensures

@@ -1,0 +1,24 @@
+use Rattle.std.proofs.Common.{◌-◌, refl, arith}
+use Rattle.rows.specs.Rows.{own_codec}
+use Rattle.model.specs.Own.{stands_after}
+use Rattle.own_envelope.proofs.WalkLaws.{place_row, place_past}
+use Rattle.own_envelope.proofs.OwnLaws.{place_at, place_behind}
+use Rattle.own_envelope.proofs.own_place.Goals as goal
+
+pub loop-i-init : goal.loop-i-init
+loop-i-init c = (omega arith, refl)
+
+pub returns-then-stands_after : goal.returns-then-stands_after
+returns-then-stands_after c =
+    place_at _ _ _ _ _ _ (place_row own_codec _ _ _ _ (omega (arith, c.fit-n.ensures.is)) c.own_at-row.ensures c.stands_after.ensures c.if-stands_after.true c.loop-i.invariant.1)
+
+pub loop-i-preserved : goal.loop-i-preserved
+loop-i-preserved c = (
+  omega arith,
+  place_row own_codec _ _ _ c.loop-i.i (omega (arith, c.fit-n.ensures.is)) c.own_at-row.ensures c.stands_after.ensures
+      c.if-stands_after.false c.loop-i.invariant.1,
+)
+
+pub returns : goal.returns
+returns c =
+    place_behind _ _ _ _ _ _ c.fit-n.ensures.is (place_past own_codec _ _ _ c.loop-i.i (omega (arith, c.fit-n.ensures.is)) c.loop-i.invariant.1)

@@ -1,0 +1,8 @@
+-- The lesser of two.
+use Rattle.std.proofs.Common.{arith}
+use Rattle.model.specs.Cells.{cell_count}
+use Rattle.saved.proofs.cell_count.Goals as goal
+
+pub returns : goal.returns
+unfolding cell_count
+returns c = (c.least.ensures, omega arith)

@@ -1,0 +1,26 @@
+-- There are at most 20 digits, and they are those of `decimal`.
+use Rattle.std.proofs.Common.{◌≤◌, length, sym, ap, ◌∙◌, arith}
+use Rattle.text.proofs.TextLaws.{digits_decimal, few, length_digits}
+use Rattle.octets.specs.Bytes.{splice}
+use Rattle.text.proofs.put_decimal.Goals as goal
+
+pub copy_in-requires : goal.copy_in-requires
+copy_in-requires c =
+    let d = c.decimal-k.ensures in
+    omega (arith, few c.decimal-k.result c.args.n d.len c.ranges.n.fits, ap length d.digits, length_digits 10 c.decimal-k.result c.args.n)
+
+pub overflow_add-result : goal.overflow_add-result
+overflow_add-result c = omega (arith, few c.decimal-k.result c.args.n c.decimal-k.ensures.len c.ranges.n.fits)
+
+pub returns : goal.returns
+returns c =
+    let k = c.decimal-k.result in
+    let d = c.decimal-k.ensures in
+    let f : k ≤ 20 = few k c.args.n d.len c.ranges.n.fits in
+    let e = d.digits ∙ digits_decimal k c.args.n d.len f in
+    let l = sym (length_digits 10 k c.args.n) ∙ ap length (digits_decimal k c.args.n d.len f) in
+    record {
+      area = c.copy_in.ensures ∙ ap (splice c.args.out.now c.args.at) e;
+      next = omega (arith, l);
+      near = omega (arith, l);
+    }

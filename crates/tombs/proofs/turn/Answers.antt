@@ -1,0 +1,25 @@
+-- One of the R rows is there or not; then the row changes its table.
+use Rattle.std.proofs.Common.{length, arith}
+use Rattle.tombs.proofs.MeetLaws.{row_within}
+use Rattle.tombs.proofs.WriteLaws.{turns}
+use Rattle.tombs.proofs.CallLaws.{no_row, has_row}
+use Rattle.tombs.proofs.turn.Goals as goal
+
+pub returns-then-tombstones-count : goal.returns-then-tombstones-count
+returns-then-tombstones-count c a = no_row _ _ _ _ _ _ _ c.fit-count.ensures.is a (omega arith)
+
+pub overflow_mul-i : goal.overflow_mul-i
+overflow_mul-i c =
+    omega (arith, row_within (length c.args.carried.now) 57 c.args.device.carried c.args.i c.requires.0)
+
+pub carried_at-row-requires : goal.carried_at-row-requires
+carried_at-row-requires c =
+    row_within (length c.args.carried.now) 57 c.args.device.carried c.args.i c.requires.0
+
+pub insert_by_slot-m-requires : goal.insert_by_slot-m-requires
+insert_by_slot-m-requires c =
+    omega (arith, c.fit-count.ensures.is)
+
+pub returns : goal.returns
+returns c a =
+    has_row _ _ _ _ _ _ _ c.fit-count.ensures.is a (omega arith) (turns _ _ _ _ _ _ _ a c.requires.0 c.carried_at-row.ensures c.turned.ensures c.insert_by_slot-m.ensures c.remove_carried-n.ensures c.put_courier.ensures c.device_with.ensures)

@@ -1,0 +1,8 @@
+-- The slot and the expiry are the row's.
+use Rattle.std.proofs.Common.{refl}
+use Rattle.model.specs.Tombs.{turned}
+use Rattle.tombs.proofs.turned.Goals as goal
+
+pub returns : goal.returns
+unfolding turned
+returns c = refl
