@@ -145,7 +145,7 @@ pub struct Answered {
     pub said: Said,
 }
 
-#[derive(Drop)]
+#[derive(Clone, Copy)]
 pub enum Opened {
     As(Exchange),
     Refused(Refusal),

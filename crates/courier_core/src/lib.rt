@@ -5,10 +5,10 @@ ghost use Rattle.std.specs.Prelude.{◌≡◌};
 ghost use Rattle.courier_core.specs.Core.{refusal_number, verification_byte};
 
 // A contact's number: a kind of its own beside slots and message numbers.
-#[derive(Drop)]
+#[derive(Clone, Copy)]
 pub struct ContactId(pub u64);
 
-#[derive(Drop)]
+#[derive(Clone, Copy)]
 pub enum Verification {
     Unverified,
     Verified,
@@ -16,7 +16,7 @@ pub enum Verification {
 }
 
 // Why a call is refused. `refusal_number` has document 01's number of each.
-#[derive(Drop)]
+#[derive(Clone, Copy)]
 pub enum Refusal {
     ShortArea,
     UnknownContact,

@@ -42,12 +42,12 @@ pub fn maintenance() {
     let p = post_of_expiring().at_minute(1439).maintenance();
     let p = p.setting(3, 60).at_minute(1440).maintenance();
     let p = p.own_envelope(7, 5);
-    show_owns(p);
+    show_owns(&p);
     let p = p.at_minute(1500).maintenance();
     show_own(&p.own, 0);
 }
 
-fn show_owns(p: Post) {
+fn show_owns(p: &Post) {
     show_own(&p.own, 0);
     show_own(&p.own, 1);
     show_own(&p.own, 2);

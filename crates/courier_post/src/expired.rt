@@ -27,11 +27,11 @@ fn post_at_200() -> Post {
 pub fn expired() {
     let p = post_at_200();
     let t = own_tag(1);
-    offered(p, t);
+    offered(&p, t);
     counted(p, t);
 }
 
-fn offered(p: Post, own: [u8; 16]) {
+fn offered(p: &Post, own: [u8; 16]) {
     text(b"an expired row is still offered and fetched\n");
     p.listed(b"", &[0x31; 8]);
     p.fetch(5, tag(0x21));

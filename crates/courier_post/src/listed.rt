@@ -160,14 +160,14 @@ pub fn tombstoned() {
     p.listed(b"", &l);
     text(b"inventory writes the prefixes of the same rows, tombstoned too, copies of any number\n");
     p.inventory_of_ours(5);
-    fetched(p);
+    fetched(&p);
 }
 
 // ---- fetches of a peer
 
 // Contact 5 fetches tombstoned rows, an own and a carried one, rows of 1 copy and none, and a tag that no row has. Own row 1 is for
 // contact 6.
-fn fetched(p: Post) {
+fn fetched(p: &Post) {
     text(b"fetch takes no copies off\n");
     let t = own_tag(1);
     p.fetch(5, t);

@@ -295,7 +295,7 @@ impl Post {
         r.post
     }
 
-    pub fn fetch(self, peer: u64, tag: [u8; 16]) {
+    pub fn fetch(&self, peer: u64, tag: [u8; 16]) {
         let known = self.contacts;
         let own = self.own;
         let carried = self.carried;
@@ -412,7 +412,7 @@ impl Post {
     }
 
     // Our inventory for a peer.
-    pub fn inventory_of_ours(self, peer: u64) {
+    pub fn inventory_of_ours(&self, peer: u64) {
         let known = self.contacts;
         let own = self.own;
         let carried = self.carried;
@@ -431,7 +431,7 @@ impl Post {
     }
 
     // A fresh exchange with contact 5, in which it lists prefixes and then none.
-    pub fn listed(self, window: &[u8], list: &[u8]) {
+    pub fn listed(&self, window: &[u8], list: &[u8]) {
         let known = self.contacts;
         let prefixes = [0u8; 4096];
         let offers = [0u8; 8704];
@@ -441,7 +441,7 @@ impl Post {
         }
     }
 
-    fn exchange(self, exchange: Exchange, window: &[u8], list: &[u8]) {
+    fn exchange(&self, exchange: Exchange, window: &[u8], list: &[u8]) {
         let mut prefixes = [0u8; 4096];
         let mut offers = [0u8; 8704];
         let e = self.receive(exchange, window, list, &mut prefixes, &mut offers);
@@ -453,7 +453,7 @@ impl Post {
 
     // Writes what a list is answered with.
     fn receive(
-        self,
+        &self,
         exchange: Exchange,
         window: &[u8],
         list: &[u8],

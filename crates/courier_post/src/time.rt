@@ -37,13 +37,13 @@ pub fn lifetime_end() {
     let p = p.report_opened(7, tag(0x32), LAST).at_minute(LAST - 1439);
     let p = p.own_envelope(6, 3).deposit(7, header(0x23, 2, LAST));
     let p = p.report_opened(7, tag(0x33), LAST);
-    show_ends(p);
+    show_ends(&p);
     let p = p.at_minute(LAST - 1).maintenance();
     show_own(&p.own, 0);
     p.at_minute(LAST).maintenance();
 }
 
-fn show_ends(p: Post) {
+fn show_ends(p: &Post) {
     show_own(&p.own, 0);
     show_own(&p.own, 1);
     show_own(&p.own, 2);

@@ -1,6 +1,6 @@
 -- An answer area that a call is not lent has no rows written to it, and so it stays as it was where it is lent after all.
 -- Assumes nothing.
-use Rattle.std.proofs.Common.{◌≡◌, ℕ, ◌<◌, List, [], ◌∷◌, length, refl, ap, ◌∙◌, arith, length-append}
+use Rattle.std.proofs.Common.{◌≡◌, ℕ, ◌<◌, List, [], ◌∷◌, length, refl, ap, arith, length-append}
 use Rattle.octets.specs.Bytes.{be}
 use Rattle.table.specs.Rows.{join, written}
 use Rattle.table.specs.Codec.{Codec, with_table}

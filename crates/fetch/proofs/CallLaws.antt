@@ -1,6 +1,6 @@
 -- Laws of the call fetch: each way out as the model's step, and what it leaves.
 -- Assumes nothing.
-use Rattle.std.proofs.Common.{◌≡◌, ℕ, ◌+◌, ◌*◌, ◌<◌, ◌≤◌, true, false, not, List, [], ◌∷◌, length, get_or, take, sym, refl, ap, ◌∙◌, append-nil, arith, le-ltb, lt-ltb}
+use Rattle.std.proofs.Common.{◌≡◌, ℕ, ◌+◌, ◌*◌, ◌<◌, ◌≤◌, true, false, not, List, length, get_or, take, sym, refl, ap, ◌∙◌, arith, le-ltb, lt-ltb}
 use mathlib.Core.Option.{Option, some}
 use Rattle.octets.specs.Bytes.{part, splice}
 use Rattle.courier_core.specs.declared.ContactId.{ContactId}
@@ -15,8 +15,7 @@ use Rattle.table.proofs.FindLaws.{position_first}
 use Rattle.rows.specs.declared.Device.{Device}
 use Rattle.rows.specs.declared.Own.{Own}
 use Rattle.rows.specs.declared.Carried.{Carried}
-use Rattle.rows.specs.declared.Reply.{Reply}
-use Rattle.rows.specs.Rows.{contact_codec, own_codec, own_of, carried_codec, carried_of, reply_codec, reply_bytes}
+use Rattle.rows.specs.Rows.{contact_codec, own_codec, own_of, carried_codec, carried_of, reply_codec}
 use Rattle.model.specs.Basics.{find, match_some}
 use Rattle.model.specs.State.{nothing}
 use Rattle.model.specs.Calls.{Call, Cells, of_own, of_carried, fetch, missing, only}

@@ -13,7 +13,6 @@ use Rattle.rows.specs.declared.Own.{Own}
 use Rattle.rows.specs.declared.Carried.{Carried}
 use Rattle.rows.specs.Rows.{own_codec, carried_codec, contact_codec}
 use Rattle.model.specs.Basics.{trunc8}
-use Rattle.model.specs.State.{nothing}
 use Rattle.model.specs.Calls.{Call, inventory_of_ours}
 use Rattle.model.specs.Contacts.{known}
 use Rattle.model.specs.Exchange.{Envelope, envelopes, inventory, no_carried, inventory_tests, list_inventory}

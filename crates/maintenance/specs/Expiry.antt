@@ -1,6 +1,6 @@
 -- What maintenance leaves in each area, how far its lists are, and what the call answers and is lent.
 -- Assumes nothing.
-use Rattle.std.specs.Prelude.{◌≡◌, ℕ, ◌+◌, ◌*◌, ◌<◌, ◌≤◌, Bool, not, ◌&&◌, List, [], ◌++◌, map, length, take, drop, nat_le}
+use Rattle.std.specs.Prelude.{◌≡◌, ℕ, ◌+◌, ◌*◌, ◌<◌, ◌≤◌, Bool, not, ◌&&◌, List, ◌++◌, map, length, take, drop, nat_le}
 use Rattle.octets.specs.Bytes.{splice, part, num}
 use Rattle.table.specs.Lists.{filter}
 use Rattle.table.specs.Rows.{join}

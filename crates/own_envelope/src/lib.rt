@@ -18,7 +18,7 @@ use rows::{Device, Own};
 use table::Found;
 
 // What the call answers. (An enum can't hold an array: the row stands beside it.)
-#[derive(Drop)]
+#[derive(Clone, Copy)]
 pub enum Made {
     Refused(Refusal),
     NoEnvelope,

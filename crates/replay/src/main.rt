@@ -105,7 +105,7 @@ fn count(r: &[u8], tally: &mut [u64; 320]) {
 // ---- the post, call by call
 
 // The three exchanges.
-#[derive(Drop)]
+#[derive(Clone, Copy)]
 struct Sessions {
     first: Exchange,
     second: Exchange,
@@ -156,7 +156,7 @@ fn with_session(sessions: Sessions, which: u8, e: Exchange) -> Sessions {
 
 // Where the program stands: the record that is next, the list, how many calls of it were made and are left, how many of them and
 // of all calls differ, and the post. It has ended where said is 1.
-#[derive(Drop)]
+#[derive(Clone, Copy)]
 struct State {
     at: usize,
     list: usize,

@@ -14,7 +14,7 @@ use replay_log::{DONE, MALFORMED, MISSING, NEVER_SAID, NO_ENVELOPE, OURS, cap};
 use rows::{Device, Exchange, Own};
 
 // What a list's post has of each area, in bytes. The other areas are as long as each call says.
-#[derive(Drop)]
+#[derive(Clone, Copy)]
 pub struct Sizes {
     pub cells: usize,
     pub own_cells: usize,
@@ -33,7 +33,7 @@ pub const PREFIXES: usize = 4_200;
 pub const OFFERS: usize = 8_900;
 
 // What a call said, how many replies, actions and bytes it wrote, and for how many rows an inventory's end searched the tombstones.
-#[derive(Drop)]
+#[derive(Clone, Copy)]
 pub struct Answer {
     pub said: u8,
     pub generation: u8,

@@ -219,8 +219,7 @@ fn put_tombstone(read: HeldRead, area: &mut [u8]) -> usize {
 fn call_row_read(d: Device, e: Exchange, r: &[u8], area: &mut [u8]) -> Outcome {
     let blob = replay_log::rest(r);
     let read = state::decode(blob);
-    let kind = read.kind;
-    match kind {
+    match read.kind {
         HeldKind::Carried => outcome_of(d, e, answer_of(DONE, 0, 0, put_carried(read, blob, area))),
         HeldKind::Tombstone => outcome_of(d, e, answer_of(DONE, 0, 0, put_tombstone(read, area))),
         HeldKind::None => outcome_of(d, e, answer_of(MISSING, 0, 0, 0)),

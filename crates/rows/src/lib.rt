@@ -11,7 +11,7 @@ use courier_core::ContactId;
 use state::CourierConfig;
 
 // A carried envelope. Its ciphertext is the first len bytes of its cell.
-#[derive(Drop)]
+#[derive(Clone, Copy)]
 pub struct Carried {
     pub slot: u64,
     pub depositor: ContactId,
@@ -24,7 +24,7 @@ pub struct Carried {
 }
 
 // An own envelope: the courier copies of a queued message. A renewed byte other than 0 is renewed.
-#[derive(Drop)]
+#[derive(Clone, Copy)]
 pub struct Own {
     pub contact: ContactId,
     pub msgno: u32,
@@ -37,7 +37,7 @@ pub struct Own {
     pub cell: u16,
 }
 
-#[derive(Drop)]
+#[derive(Clone, Copy)]
 pub struct Tombstone {
     pub slot: u64,
     pub tag: [u8; 16],
@@ -46,27 +46,27 @@ pub struct Tombstone {
 }
 
 // A verification byte other than 1 is not verified.
-#[derive(Drop)]
+#[derive(Clone, Copy)]
 pub struct Contact {
     pub id: ContactId,
     pub verification: u8,
 }
 
-#[derive(Drop)]
+#[derive(Clone, Copy)]
 pub struct BadTag {
     pub peer: ContactId,
     pub tag: [u8; 16],
 }
 
 // Copies handed over and not yet answered, of an exchange.
-#[derive(Drop)]
+#[derive(Clone, Copy)]
 pub struct Offer {
     pub tag: [u8; 16],
     pub copies: u8,
 }
 
 // Kind 0 fetch, 1 envelope, 2 custody, 3 tomb. An envelope's cell: own from 0, carried from 256.
-#[derive(Drop)]
+#[derive(Clone, Copy)]
 pub struct Reply {
     pub kind: u8,
     pub cell: u16,
@@ -74,7 +74,7 @@ pub struct Reply {
 }
 
 // Kind 0 put, 1 delete, 2 own put. The number is a slot or a contact; the message number is 0 if the row is held.
-#[derive(Drop)]
+#[derive(Clone, Copy)]
 pub struct Action {
     pub kind: u8,
     pub number: u64,
@@ -82,7 +82,7 @@ pub struct Action {
 }
 
 // A message key of the window and its tag.
-#[derive(Drop)]
+#[derive(Clone, Copy)]
 pub struct Reachable {
     pub contact: ContactId,
     pub dir: u8,
@@ -92,7 +92,7 @@ pub struct Reachable {
 }
 
 // What goes by value: the setting, the clock, how many rows each table has, and the next slot.
-#[derive(Drop)]
+#[derive(Clone, Copy)]
 pub struct Device {
     pub courier: CourierConfig,
     pub now_s: u64,
@@ -105,14 +105,14 @@ pub struct Device {
 }
 
 // Whom an exchange was opened for.
-#[derive(Drop)]
+#[derive(Clone, Copy)]
 pub enum Peer {
     Nobody,
     Is(ContactId),
 }
 
 // One session's exchange; its listed prefixes and its offers lie in areas beside it.
-#[derive(Drop)]
+#[derive(Clone, Copy)]
 pub struct Exchange {
     pub peer: Peer,
     pub complete: bool,

@@ -1,6 +1,6 @@
 -- Held rows by slot, and as blobs; what the row blob call says.
 -- Assumes nothing.
-use Rattle.std.specs.Prelude.{◌≡◌, ℕ, ◌≤◌, Bool, List, [], length, ◌==◌}
+use Rattle.std.specs.Prelude.{◌≡◌, ℕ, ◌≤◌, Bool, List, length, ◌==◌}
 use Rattle.octets.specs.Bytes.{part, splice, num}
 use Rattle.state.specs.declared.Carried.{Carried as HeldCarried}
 use Rattle.state.specs.declared.Tombstone.{Tombstone as HeldTombstone}

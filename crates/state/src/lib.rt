@@ -11,7 +11,7 @@ use courier::Header;
 use courier_core::{ContactId, Refusal};
 
 // Does this device carry for others, with how many copies at most, and for how many minutes.
-#[derive(Drop)]
+#[derive(Clone, Copy)]
 pub struct CourierConfig {
     pub enabled: bool,
     pub copies: u8,

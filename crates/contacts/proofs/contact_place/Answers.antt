@@ -1,4 +1,4 @@
-use Rattle.std.proofs.Common.{◌-◌, true, false, sym, refl, ◌∙◌, arith, eq-eqb, ne_eqb}
+use Rattle.std.proofs.Common.{true, false, sym, refl, ◌∙◌, arith, eq-eqb, ne_eqb}
 use Rattle.model.specs.Contacts.{contact_place}
 use Rattle.contacts.proofs.FindLaws.{place_next, place_end}
 use Rattle.contacts.proofs.contact_place.Goals as goal

@@ -1,6 +1,5 @@
-use Rattle.std.proofs.Common.{◌-◌, true, false, not, sym, refl, ap, ◌∙◌, arith}
+use Rattle.std.proofs.Common.{true, false, not, sym, refl, ap, ◌∙◌, arith}
 use borrow.Author.Tests.{not-false}
-use Rattle.model.specs.Contacts.{known}
 use Rattle.contacts.proofs.WindowLaws.{stranger_next, stranger_end}
 use Rattle.contacts.proofs.strangers.Goals as goal
 

@@ -1,4 +1,4 @@
-use Rattle.std.proofs.Common.{◌-◌, true, false, sym, refl, ◌∙◌, arith}
+use Rattle.std.proofs.Common.{true, false, sym, refl, ◌∙◌, arith}
 use Rattle.fetch.proofs.Laws.{others_next, others_end}
 use Rattle.fetch.proofs.own_for_others.Goals as goal
 

@@ -1,5 +1,5 @@
 -- Fetches, tombs and offers stand one behind the other.
-use Rattle.std.proofs.Common.{refl, arith, rules}
+use Rattle.std.proofs.Common.{refl, arith}
 use Rattle.inventory.proofs.ReceiveLaws.{ended}
 use Rattle.inventory.proofs.answer_inventory.Goals as goal
 

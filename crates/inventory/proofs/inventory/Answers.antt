@@ -1,6 +1,5 @@
 -- Each way out is one row of the model's tests, or its list.
-use Rattle.std.proofs.Common.{sym, ◌∙◌, rules}
-use borrow.Author.Tests.{not-true, not-false}
+use Rattle.std.proofs.Common.{sym, ◌∙◌}
 use Rattle.inventory.proofs.OursLaws.{says_short, says_stranger, says_listed}
 use Rattle.inventory.proofs.inventory.Goals as goal
 

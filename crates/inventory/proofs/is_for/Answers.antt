@@ -1,6 +1,5 @@
 -- By whom it was opened for.
 use Rattle.inventory.proofs.TestLaws.{is_his, is_nobodys}
-use Rattle.std.proofs.Common.{rules}
 use Rattle.inventory.proofs.is_for.Goals as goal
 
 pub returns-in-Is : goal.returns-in-Is

@@ -1,5 +1,5 @@
 -- The prefixes are copied behind those that are there.
-use Rattle.std.proofs.Common.{refl, rules}
+use Rattle.std.proofs.Common.{refl}
 use Rattle.inventory.proofs.ReceiveLaws.{lengthens}
 use Rattle.inventory.proofs.list_more.Goals as goal
 

@@ -1,7 +1,7 @@
-use Rattle.std.proofs.Common.{◌+◌, ◌-◌, arith, rules}
+use Rattle.std.proofs.Common.{arith}
 use Rattle.inventory.specs.Inventory.{prefix_of}
 use Rattle.inventory.proofs.FillLaws.{filling_start}
-use Rattle.inventory.proofs.OursLaws.{Listing, listing_next, listing_end}
+use Rattle.inventory.proofs.OursLaws.{listing_next, listing_end}
 use Rattle.inventory.proofs.list_prefixes.Goals as goal
 
 pub loop-i-init : goal.loop-i-init

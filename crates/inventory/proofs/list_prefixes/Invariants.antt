@@ -1,8 +1,6 @@
 -- The rows seen so far have their prefixes written.
-use Rattle.std.proofs.Common.{◌+◌, ◌-◌, arith, rules}
-use Rattle.inventory.specs.Inventory.{prefix_of}
-use Rattle.inventory.proofs.FillLaws.{filling_start}
-use Rattle.inventory.proofs.OursLaws.{Listing, listing_next, listing_end}
+use Rattle.std.proofs.Common.{◌+◌, ◌-◌}
+use Rattle.inventory.proofs.OursLaws.{Listing}
 use Rattle.inventory.proofs.list_prefixes.Given as goal
 
 abbrev pub invariant-loop-i : goal.invariant-loop-i

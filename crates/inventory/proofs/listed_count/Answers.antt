@@ -1,6 +1,5 @@
 -- 512 at most.
 use Rattle.inventory.proofs.TestLaws.{capped}
-use Rattle.std.proofs.Common.{rules}
 use Rattle.inventory.proofs.listed_count.Goals as goal
 
 pub returns : goal.returns

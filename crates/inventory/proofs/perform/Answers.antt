@@ -1,5 +1,5 @@
 -- Each way out is one of the model's.
-use Rattle.std.proofs.Common.{◌+◌, ◌/◌, length, sym, ◌∙◌, arith, rules}
+use Rattle.std.proofs.Common.{◌+◌, ◌/◌, length, sym, ◌∙◌, arith}
 use Rattle.inventory.proofs.TestLaws.{not_many}
 use Rattle.inventory.proofs.ReceiveLaws.{says_malformed, says_answered, says_listed}
 use Rattle.inventory.proofs.perform.Goals as goal
@@ -17,7 +17,8 @@ returns-then-more-eq0 c =
 
 pub list_more-requires : goal.list_more-requires
 list_more-requires c =
-    (c.requires.listed_len.0, omega (arith, not_many c.args.exchange.complete (c.listed_count-l.result + length c.args.listed.now / 8) (sym c.too_many.ensures ∙ c.if-too_many.false), c.requires.listed_len.0, c.requires.listed_len.1))
+    let few = not_many c.args.exchange.complete (c.listed_count-l.result + length c.args.listed.now / 8) (sym c.too_many.ensures ∙ c.if-too_many.false) in
+    (c.requires.listed_len.0, omega (arith, few, c.requires.listed_len.0, c.requires.listed_len.1))
 
 pub returns : goal.returns
 returns c = λ contacts a. says_listed _ _ _ _ _ _ _ _ _ _ _ _ contacts a _ c.listed_count-l.ensures.0.is (sym c.too_many.ensures ∙ c.if-too_many.false) _ _ c.if-more-eq0.false c.list_more.ensures

@@ -1,5 +1,5 @@
 -- The 8 bytes are copied over zeros.
-use Rattle.std.proofs.Common.{◌≡◌, ℕ, ◌+◌, ◌-◌, take, drop, replicate, ap, ◌∙◌, arith, rules}
+use Rattle.std.proofs.Common.{◌≡◌, ℕ, ◌+◌, ◌-◌, take, drop, replicate, ap, ◌∙◌, arith}
 use Rattle.octets.specs.Bytes.{splice, part}
 use Rattle.octets.proofs.Parts.{splice_all, length_part}
 use Rattle.inventory.proofs.prefix_at.Goals as goal

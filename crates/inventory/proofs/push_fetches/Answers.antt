@@ -1,9 +1,5 @@
-use Rattle.std.proofs.Common.{◌-◌, arith, rules}
-use Rattle.table.specs.Codec.{table_of}
-use Rattle.rows.specs.Rows.{bad_tag_codec, tombstone_codec}
-use Rattle.model.specs.Window.{window_rows}
-use Rattle.model.specs.Exchange.{fetch_for}
-use Rattle.inventory.proofs.ListedLaws.{Replying, replying_start, replying_next, replying_end}
+use Rattle.std.proofs.Common.{arith}
+use Rattle.inventory.proofs.ListedLaws.{replying_start, replying_next, replying_end}
 use Rattle.inventory.proofs.push_fetches.Goals as goal
 
 pub loop-i-init : goal.loop-i-init

@@ -1,10 +1,10 @@
 -- The prefixes seen so far have their fetches written.
-use Rattle.std.proofs.Common.{◌-◌, arith, rules}
+use Rattle.std.proofs.Common.{◌-◌}
 use Rattle.table.specs.Codec.{table_of}
 use Rattle.rows.specs.Rows.{bad_tag_codec, tombstone_codec}
 use Rattle.model.specs.Window.{window_rows}
 use Rattle.model.specs.Exchange.{fetch_for}
-use Rattle.inventory.proofs.ListedLaws.{Replying, replying_start, replying_next, replying_end}
+use Rattle.inventory.proofs.ListedLaws.{Replying}
 use Rattle.inventory.proofs.push_fetches.Given as goal
 
 abbrev pub invariant-loop-i : goal.invariant-loop-i

@@ -1,9 +1,5 @@
-use Rattle.std.proofs.Common.{◌-◌, refl, arith, rules}
-use Rattle.octets.specs.Bytes.{part}
-use Rattle.table.specs.Codec.{table_of}
-use Rattle.rows.specs.Rows.{tombstone_codec}
-use Rattle.model.specs.Exchange.{tomb_for}
-use Rattle.inventory.proofs.ListedLaws.{Searching, search_start, search_next, search_hit, search_miss, Replying, replying_start, replying_next, replying_end}
+use Rattle.std.proofs.Common.{refl, arith}
+use Rattle.inventory.proofs.ListedLaws.{search_start, search_next, search_hit, search_miss, replying_start, replying_next, replying_end}
 use Rattle.inventory.proofs.push_tombs.Goals as goal
 
 pub loop-i-init : goal.loop-i-init

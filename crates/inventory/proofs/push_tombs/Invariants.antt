@@ -1,10 +1,10 @@
 -- The prefixes seen so far have their tombs written; within a prefix, what is left of the search decides.
-use Rattle.std.proofs.Common.{◌-◌, refl, arith, rules}
+use Rattle.std.proofs.Common.{◌-◌}
 use Rattle.octets.specs.Bytes.{part}
 use Rattle.table.specs.Codec.{table_of}
 use Rattle.rows.specs.Rows.{tombstone_codec}
 use Rattle.model.specs.Exchange.{tomb_for}
-use Rattle.inventory.proofs.ListedLaws.{Searching, search_start, search_next, search_hit, search_miss, Replying, replying_start, replying_next, replying_end}
+use Rattle.inventory.proofs.ListedLaws.{Searching, Replying}
 use Rattle.inventory.proofs.push_tombs.Given as goal
 
 abbrev pub invariant-search : goal.invariant-search

@@ -1,6 +1,5 @@
 -- The tag and the secret of the row.
 use Rattle.inventory.proofs.ListedLaws.{tomb_of_lem}
-use Rattle.std.proofs.Common.{rules}
 use Rattle.inventory.proofs.put_tomb_of.Goals as goal
 
 pub returns : goal.returns

@@ -1,5 +1,5 @@
 -- Each way out is one row of the model's tests.
-use Rattle.std.proofs.Common.{sym, ◌∙◌, rules}
+use Rattle.std.proofs.Common.{sym, ◌∙◌}
 use Rattle.inventory.proofs.TestLaws.{is_short, is_wrong, is_unknown, is_other_lem, is_passed}
 use Rattle.inventory.proofs.tested.Goals as goal
 
@@ -10,10 +10,16 @@ pub returns-then-wrong_rows : goal.returns-then-wrong_rows
 returns-then-wrong_rows c = λ s r. is_wrong _ _ _ _ _ _ _ _ _ s r (sym c.too_short.ensures ∙ c.if-too_short.false) (sym c.wrong_rows.ensures ∙ c.if-wrong_rows.true)
 
 pub returns-then-unknown : goal.returns-then-unknown
-returns-then-unknown c = λ s r. is_unknown _ _ _ _ _ _ _ _ _ s r (sym c.too_short.ensures ∙ c.if-too_short.false) (sym c.wrong_rows.ensures ∙ c.if-wrong_rows.false) (sym c.unknown.ensures ∙ c.if-unknown.true)
+returns-then-unknown c = λ s r.
+    is_unknown _ _ _ _ _ _ _ _ _ s r (sym c.too_short.ensures ∙ c.if-too_short.false)
+    (sym c.wrong_rows.ensures ∙ c.if-wrong_rows.false) (sym c.unknown.ensures ∙ c.if-unknown.true)
 
 pub returns-then-is_for : goal.returns-then-is_for
-returns-then-is_for c = λ s r. is_passed _ _ _ _ _ _ _ _ _ s r (sym c.too_short.ensures ∙ c.if-too_short.false) (sym c.wrong_rows.ensures ∙ c.if-wrong_rows.false) (sym c.unknown.ensures ∙ c.if-unknown.false) (sym c.is_for.ensures ∙ c.if-is_for.true)
+returns-then-is_for c = λ s r.
+    is_passed _ _ _ _ _ _ _ _ _ s r (sym c.too_short.ensures ∙ c.if-too_short.false)
+    (sym c.wrong_rows.ensures ∙ c.if-wrong_rows.false) (sym c.unknown.ensures ∙ c.if-unknown.false) (sym c.is_for.ensures ∙ c.if-is_for.true)
 
 pub returns : goal.returns
-returns c = λ s r. is_other_lem _ _ _ _ _ _ _ _ _ s r (sym c.too_short.ensures ∙ c.if-too_short.false) (sym c.wrong_rows.ensures ∙ c.if-wrong_rows.false) (sym c.unknown.ensures ∙ c.if-unknown.false) (sym c.is_for.ensures ∙ c.if-is_for.false)
+returns c = λ s r.
+    is_other_lem _ _ _ _ _ _ _ _ _ s r (sym c.too_short.ensures ∙ c.if-too_short.false)
+    (sym c.wrong_rows.ensures ∙ c.if-wrong_rows.false) (sym c.unknown.ensures ∙ c.if-unknown.false) (sym c.is_for.ensures ∙ c.if-is_for.false)

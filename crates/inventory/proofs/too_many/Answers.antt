@@ -1,6 +1,6 @@
 -- The terminator first, then the number.
 use Rattle.inventory.proofs.TestLaws.{or_yes, or_no}
-use Rattle.std.proofs.Common.{refl, rules}
+use Rattle.std.proofs.Common.{refl}
 use Rattle.inventory.proofs.too_many.Goals as goal
 
 pub returns-then-complete : goal.returns-then-complete

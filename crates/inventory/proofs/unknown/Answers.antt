@@ -1,5 +1,5 @@
 -- The peer, then the window.
-use Rattle.std.proofs.Common.{not, sym, ap, ◌∙◌, rules}
+use Rattle.std.proofs.Common.{not, sym, ap, ◌∙◌}
 use Rattle.inventory.proofs.TestLaws.{or_yes, or_no}
 use Rattle.inventory.proofs.unknown.Goals as goal
 

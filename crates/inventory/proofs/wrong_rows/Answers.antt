@@ -1,5 +1,5 @@
 -- The window, then the prefixes.
-use Rattle.std.proofs.Common.{sym, refl, ◌∙◌, rules}
+use Rattle.std.proofs.Common.{sym, refl, ◌∙◌}
 use Rattle.table.specs.Rows.{ragged}
 use Rattle.inventory.proofs.TestLaws.{or_yes, or_no}
 use Rattle.inventory.proofs.wrong_rows.Goals as goal

@@ -1,4 +1,4 @@
-use Rattle.std.proofs.Common.{◌-◌, sym, ◌∙◌, arith, rules}
+use Rattle.std.proofs.Common.{sym, ◌∙◌, arith, rules}
 use Rattle.octets.proofs.Numbers.{bytes_of}
 use Rattle.table.proofs.RowLaws.{row_in}
 use Rattle.table.proofs.RetainLaws.{retain_start, retain_keep, retain_drop, retain_end}

@@ -1,4 +1,4 @@
-use Rattle.std.proofs.Common.{◌-◌, sym, refl, arith, rules}
+use Rattle.std.proofs.Common.{sym, refl, arith, rules}
 use Rattle.maintenance.proofs.MergeLaws.{merging_start}
 use Rattle.maintenance.proofs.StepLaws.{within, listed_all}
 use Rattle.maintenance.proofs.list_held.Goals as goal

@@ -1,4 +1,4 @@
-use Rattle.std.proofs.Common.{◌-◌, refl, ◌∙◌, arith, le-leb}
+use Rattle.std.proofs.Common.{refl, ◌∙◌, arith, le-leb}
 use borrow.Author.Tests.{lt-leb}
 use Rattle.rows.specs.Rows.{own_codec}
 use Rattle.model.specs.Maintenance.{own_puts}

@@ -1,8 +1,8 @@
-use Rattle.std.proofs.Common.{◌-◌, sym, ap, ◌∙◌, arith, rules}
+use Rattle.std.proofs.Common.{sym, ap, ◌∙◌, arith, rules}
 use Rattle.octets.proofs.Numbers.{bytes_of}
 use Rattle.rows.specs.Rows.{own_bytes}
 use Rattle.rows.proofs.Laws.{own_laws}
-use Rattle.model.specs.Maintenance.{renew_expired, maintain_own}
+use Rattle.model.specs.Maintenance.{maintain_own}
 use Rattle.maintenance.proofs.RewriteLaws.{rewrite_start, rewrite_keep, rewrite_drop, rewrite_end}
 use Rattle.maintenance.proofs.TestLaws.{renewed_proper}
 use Rattle.maintenance.proofs.maintain_own.Goals as goal

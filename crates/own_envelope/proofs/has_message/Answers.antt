@@ -1,6 +1,5 @@
-use Rattle.std.proofs.Common.{◌-◌, sym, refl, arith}
+use Rattle.std.proofs.Common.{sym, refl, arith}
 use Rattle.rows.specs.Rows.{own_codec}
-use Rattle.model.specs.Own.{is_message}
 use Rattle.own_envelope.proofs.WalkLaws.{any_row, any_past}
 use Rattle.own_envelope.proofs.has_message.Goals as goal
 

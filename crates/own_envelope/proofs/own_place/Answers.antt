@@ -1,6 +1,5 @@
-use Rattle.std.proofs.Common.{◌-◌, refl, arith}
+use Rattle.std.proofs.Common.{refl, arith}
 use Rattle.rows.specs.Rows.{own_codec}
-use Rattle.model.specs.Own.{stands_after}
 use Rattle.own_envelope.proofs.WalkLaws.{place_row, place_past}
 use Rattle.own_envelope.proofs.OwnLaws.{place_at, place_behind}
 use Rattle.own_envelope.proofs.own_place.Goals as goal

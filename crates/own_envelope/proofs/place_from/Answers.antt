@@ -1,4 +1,4 @@
-use Rattle.std.proofs.Common.{◌-◌, arith}
+use Rattle.std.proofs.Common.{arith}
 use Rattle.own_envelope.proofs.OwnLaws.{first_by, first_inside}
 use Rattle.own_envelope.proofs.place_from.Goals as goal
 

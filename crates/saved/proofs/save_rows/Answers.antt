@@ -1,4 +1,4 @@
-use Rattle.std.proofs.Common.{◌-◌, arith}
+use Rattle.std.proofs.Common.{arith}
 use Rattle.saved.proofs.TurnLaws.{saving_start, saving_more, saving_end}
 use Rattle.saved.proofs.save_rows.Goals as goal
 

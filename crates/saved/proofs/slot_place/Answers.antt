@@ -1,4 +1,4 @@
-use Rattle.std.proofs.Common.{◌-◌, true, false, sym, refl, ◌∙◌, arith, eq-eqb, ne_eqb}
+use Rattle.std.proofs.Common.{true, false, sym, refl, ◌∙◌, arith, eq-eqb, ne_eqb}
 use Rattle.table.proofs.RowLaws.{row_in}
 use Rattle.saved.proofs.BlobLaws.{slot_next, slot_end}
 use Rattle.saved.proofs.slot_place.Goals as goal

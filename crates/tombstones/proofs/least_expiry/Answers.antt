@@ -1,4 +1,4 @@
-use Rattle.std.proofs.Common.{◌-◌, ◌<◌, length, sym, refl, ◌∙◌, arith}
+use Rattle.std.proofs.Common.{◌<◌, length, sym, refl, ◌∙◌, arith}
 use Rattle.table.specs.Rows.{held}
 use Rattle.table.proofs.TableLaws.{length_table}
 use Rattle.rows.specs.Rows.{tombstone_codec}

@@ -1,0 +1,12 @@
+-- By the law of small areas, from the call by value.
+use Rattle.std.proofs.Common.{refl}
+use Rattle.host_answers.specs.HostAnswers.{contact_answer}
+use Rattle.goosetable.proofs.StayLaws.{only_answers}
+use Rattle.goosetable.proofs.TellLaws.{contact_tells}
+use Rattle.goosetable.proofs.CountLaws.{clock_counted}
+use Rattle.goosetable.proofs.HostLaws.{hosts_device}
+use Rattle.goosetable.proofs.goosetable_clock.Goals as goal
+
+pub returns : goal.returns
+returns c =
+    hosts_device contact_answer contact_tells (only_answers _) (λ s. refl) (clock_counted _) c.contact_answer.ensures (λ s a. refl, λ s a. refl) c.device_of.ensures c.put_device.ensures c.clock-a.ensures

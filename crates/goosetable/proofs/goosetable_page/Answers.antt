@@ -1,0 +1,12 @@
+-- By the law of small areas, from the call by value.
+use Rattle.std.proofs.Common.{refl}
+use Rattle.host_answers.specs.HostAnswers.{page_answer}
+use Rattle.goosetable.proofs.StayLaws.{only_answers}
+use Rattle.goosetable.proofs.TellLaws.{page_tells}
+use Rattle.goosetable.proofs.CountLaws.{page_counted}
+use Rattle.goosetable.proofs.HostLaws.{hosts_read}
+use Rattle.goosetable.proofs.goosetable_page.Goals as goal
+
+pub returns : goal.returns
+returns c =
+    hosts_read page_answer page_tells (only_answers _) (λ s. refl) (page_counted _ _) c.page_answer.ensures (λ s a. refl, λ s a. refl) c.device_of-d.ensures c.page.ensures
