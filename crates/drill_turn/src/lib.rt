@@ -23,7 +23,7 @@ pub const FAILED: u8 = 4; // the input could not be read
 
 // What one turn hands on to the next: input[from..have] is not done, and out[..put] are its lines. So many bytes of the log stand before
 // input[0], and so many records before input[from], both modulo 2^64. The count of records is told on standard error; no contract says that `advance` counts the records performed.
-#[derive(Drop)]
+#[derive(Clone, Copy)]
 pub struct Turn {
     pub device: Device,
     pub exchange: Exchange,

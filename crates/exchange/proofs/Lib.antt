@@ -1,2 +1,1 @@
 pub mod LeaveLaws
-pub mod FreshLaws
