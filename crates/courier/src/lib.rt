@@ -15,7 +15,7 @@ pub const COURIER_INNER_MAX: usize = 2048;
 pub const ENVELOPE_HEADER: usize = 37;
 
 // An envelope without its ciphertext. Expiry is in minutes.
-#[derive(Drop)]
+#[derive(Clone, Copy)]
 pub struct Header {
     pub tag: [u8; 16],
     pub c: [u8; 16],
@@ -31,7 +31,7 @@ pub struct HeaderRead {
 }
 
 // A courier's answer to an envelope.
-#[derive(Drop)]
+#[derive(Clone, Copy)]
 pub enum Custody {
     Accepted,
     Full,
