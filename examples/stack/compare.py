@@ -10,6 +10,17 @@ from bound import bounds
 
 HEADER = Path("include/goosetable.h")
 
+# Calls that hash. The runs do not reach the way through their code that takes the most; the header states what the code can take.
+NOT_REACHED = {
+    "goosetable_fetch",
+    "goosetable_own_envelope",
+    "goosetable_inventory",
+    "goosetable_tomb",
+    "goosetable_route_tag",
+    "goosetable_delivered",
+    "goosetable_commitment",
+}
+
 
 def stated_in(text, call):
     """The line Stack in the comment right before a call's declaration."""
@@ -18,13 +29,13 @@ def stated_in(text, call):
 
 def disagreement(text, call, taken, most):
     """What is wrong with one call's figures, if anything is."""
-    if taken != most:
+    if taken > most or (taken < most) != (call in NOT_REACHED):
         return f"{call} took {taken} bytes of stack, and its code can take {most}: the runs do not reach that, or the walk misses some"
     stated = stated_in(text, call)
     if not stated:
         return f"{HEADER}: no line 'Stack' before {call}"
-    if int(stated[1].replace(",", "")) != taken:
-        return f"{HEADER}:{text.count(chr(10), 0, stated.start()) + 1}: {call} takes {taken} bytes of stack, not {stated[1]}"
+    if int(stated[1].replace(",", "")) != most:
+        return f"{HEADER}:{text.count(chr(10), 0, stated.start()) + 1}: {call} can take {most} bytes of stack, not {stated[1]}"
     return None
 
 
@@ -37,7 +48,7 @@ def main(library, write):
     for call, taken in measured.items():
         stated = stated_in(text, call)
         if write and stated:
-            text = f"{text[:stated.start()]}{taken:,}{text[stated.end():]}"
+            text = f"{text[:stated.start()]}{most[call]:,}{text[stated.end():]}"
         print(f"{call:<30} {taken:>6,}")
     if write:
         HEADER.write_text(text, encoding="utf-8")
