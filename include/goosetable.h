@@ -235,7 +235,7 @@ void goosetable_fresh(uint8_t device[GOOSETABLE_DEVICE_SIZE]);
  * Sets the clock, in seconds. Minute = seconds / 60, at most 2^32 - 1.
  * Writes: device.
  * Refused by: nothing.
- * Stack: 128 bytes.
+ * Stack: 8 bytes.
  */
 goosetable_answer goosetable_clock(uint8_t device[GOOSETABLE_DEVICE_SIZE], uint64_t seconds);
 
@@ -243,7 +243,7 @@ goosetable_answer goosetable_clock(uint8_t device[GOOSETABLE_DEVICE_SIZE], uint6
  * Sets whether the post carries for others (0 or 1, else 13), for how many copies at most (1 to 16) and for how many minutes (60 to 10,080).
  * Writes: device.
  * Refused by: 13, 7.
- * Stack: 144 bytes.
+ * Stack: 8 bytes.
  */
 goosetable_answer goosetable_setting(uint8_t device[GOOSETABLE_DEVICE_SIZE], uint8_t enabled, uint8_t copies, uint16_t lifetime);
 
@@ -251,7 +251,7 @@ goosetable_answer goosetable_setting(uint8_t device[GOOSETABLE_DEVICE_SIZE], uin
  * Adds a contact, or alters one in its place. 13: a verification above 2, or a 257th contact.
  * Writes: device, contacts.
  * Refused by: 13.
- * Stack: 160 bytes.
+ * Stack: 56 bytes.
  */
 goosetable_answer goosetable_contact(
     uint8_t device[GOOSETABLE_DEVICE_SIZE],
@@ -263,7 +263,7 @@ goosetable_answer goosetable_contact(
  * A fresh exchange with a peer: nothing listed, nothing offered. Where it is refused the exchange stays as it is.
  * Writes: exchange.
  * Refused by: 1 (prefixes, offers), 2.
- * Stack: 144 bytes.
+ * Stack: 16 bytes.
  */
 goosetable_answer goosetable_fresh_exchange(
     const uint8_t device[GOOSETABLE_DEVICE_SIZE],
@@ -285,7 +285,7 @@ goosetable_answer goosetable_fresh_exchange(
  * a put of its slot. 4 and 6 come only where the code would be Accepted.
  * Writes: device, carried, carried_cells, replies, actions.
  * Refused by: 1 (replies, actions), 12, 2, 4, 6.
- * Stack: 592 bytes.
+ * Stack: 600 bytes.
  */
 goosetable_answer goosetable_envelope(
     uint8_t device[GOOSETABLE_DEVICE_SIZE],
@@ -316,7 +316,7 @@ goosetable_answer goosetable_envelope(
  * envelope. It takes no copies off.
  * Writes: replies.
  * Refused by: 1 (replies), 2.
- * Stack: 5,240 bytes.
+ * Stack: 4,488 bytes.
  */
 goosetable_answer goosetable_fetch(
     const uint8_t device[GOOSETABLE_DEVICE_SIZE],
@@ -339,7 +339,7 @@ goosetable_answer goosetable_fetch(
  * there.
  * Writes: device, own, own_cells, row.
  * Refused by: 12, 2, 10, 11, 4.
- * Stack: 6,120 bytes.
+ * Stack: 5,352 bytes.
  */
 goosetable_answer goosetable_own_envelope(
     uint8_t device[GOOSETABLE_DEVICE_SIZE],
@@ -365,7 +365,7 @@ goosetable_answer goosetable_own_envelope(
  * tombstoned too, copies of any number. The host sends them in lists of at most 500, and an empty one last.
  * Writes: prefixes.
  * Refused by: 1 (prefixes), 2.
- * Stack: 176 bytes.
+ * Stack: 40 bytes.
  */
 goosetable_answer goosetable_inventory_of_ours(
     const uint8_t device[GOOSETABLE_DEVICE_SIZE],
@@ -388,7 +388,7 @@ goosetable_answer goosetable_inventory_of_ours(
  * list after the terminator.
  * Writes: exchange, prefixes, offers, replies.
  * Refused by: 1 (replies, prefixes, offers), 12, 2, 3.
- * Stack: 5,928 bytes.
+ * Stack: 5,128 bytes.
  */
 goosetable_answer goosetable_inventory(
     const uint8_t device[GOOSETABLE_DEVICE_SIZE],
@@ -417,7 +417,7 @@ goosetable_answer goosetable_inventory(
  * copies off, stopping at 0, of the carried row with the tag or else of the own row, and lists its put or own put.
  * Writes: device, exchange, own, carried, offers, actions.
  * Refused by: 13, 1 (prefixes, offers, actions), 2, 3.
- * Stack: 320 bytes.
+ * Stack: 188 bytes.
  */
 goosetable_answer goosetable_custody_code(
     uint8_t device[GOOSETABLE_DEVICE_SIZE],
@@ -444,7 +444,7 @@ goosetable_answer goosetable_custody_code(
  * lowest slot among equals. Actions: that delete, and the put.
  * Writes: device, tombstones, actions.
  * Refused by: 1 (actions), 5, 6.
- * Stack: 472 bytes.
+ * Stack: 125 bytes.
  */
 goosetable_answer goosetable_stored_tombstone(
     uint8_t device[GOOSETABLE_DEVICE_SIZE],
@@ -462,7 +462,7 @@ goosetable_answer goosetable_stored_tombstone(
  * goosetable_stored_tombstone. A wrong secret is MALFORMED; an unknown tag changes nothing, and is DONE.
  * Writes: device, own, carried, tombstones, actions.
  * Refused by: 1 (actions), 2, 5, 6.
- * Stack: 5,448 bytes.
+ * Stack: 4,584 bytes.
  */
 goosetable_answer goosetable_tomb(
     uint8_t device[GOOSETABLE_DEVICE_SIZE],
@@ -482,7 +482,7 @@ goosetable_answer goosetable_tomb(
  * goosetable_stored_tombstone, with the expiry at most the lifetime's end, and the actions are that call's.
  * Writes: device, tombstones, replies, actions.
  * Refused by: 1 (replies, actions), 2, 5, 6.
- * Stack: 568 bytes.
+ * Stack: 197 bytes.
  */
 goosetable_answer goosetable_opened(
     uint8_t device[GOOSETABLE_DEVICE_SIZE],
@@ -503,7 +503,7 @@ goosetable_answer goosetable_opened(
  * fetches of goosetable_inventory and nothing else.
  * Writes: device, bad_tags.
  * Refused by: 2, 9.
- * Stack: 176 bytes.
+ * Stack: 90 bytes.
  */
 goosetable_answer goosetable_failed(
     uint8_t device[GOOSETABLE_DEVICE_SIZE],
@@ -520,7 +520,7 @@ goosetable_answer goosetable_failed(
  * with a delete, by slot.
  * Writes: device, own, carried, tombstones, actions.
  * Refused by: 1 (actions).
- * Stack: 304 bytes.
+ * Stack: 178 bytes.
  */
 goosetable_answer goosetable_maintenance(
     uint8_t device[GOOSETABLE_DEVICE_SIZE],
@@ -537,7 +537,7 @@ goosetable_answer goosetable_maintenance(
  * The blob of the held row in a slot, and in length its bytes; MISSING if no row has the slot. This is what the host stores for a put.
  * Writes: blob.
  * Refused by: 1 (blob).
- * Stack: 288 bytes.
+ * Stack: 120 bytes.
  */
 goosetable_answer goosetable_row_blob(
     const uint8_t device[GOOSETABLE_DEVICE_SIZE],
@@ -556,7 +556,7 @@ goosetable_answer goosetable_row_blob(
  * before, there may be more carried rows than cells that count: the first so many are saved, and the others are not.
  * Writes: file.
  * Refused by: 1 (file).
- * Stack: 2,432 bytes.
+ * Stack: 2,296 bytes.
  */
 goosetable_answer goosetable_save(
     const uint8_t device[GOOSETABLE_DEVICE_SIZE],
@@ -580,7 +580,7 @@ goosetable_answer goosetable_save(
  * The area needs 1,620 bytes for the shortest page too, and what is behind the page stays. goosetable_device_pages says how many pages have rows.
  * Writes: area.
  * Refused by: 1 (area).
- * Stack: 312 bytes.
+ * Stack: 200 bytes.
  */
 goosetable_answer goosetable_page(
     const uint8_t device[GOOSETABLE_DEVICE_SIZE],
@@ -600,7 +600,7 @@ goosetable_answer goosetable_page(
  * number of rows (1,024 tombstones: about a hundred times as long). Of areas that calls left, goosetable_save writes no file whose slots do not rise.
  * Writes: device, carried, tombstones, carried_cells.
  * Refused by: 8, 4, 5.
- * Stack: 6,848 bytes.
+ * Stack: 6,580 bytes.
  */
 goosetable_answer goosetable_load(
     uint8_t device[GOOSETABLE_DEVICE_SIZE],
@@ -623,7 +623,7 @@ goosetable_answer goosetable_load(
  * their first 14 bytes (contact, direction, generation, index) as memcmp compares them, and keeps one of each key.
  * Writes: answer.
  * Refused by: 1 (answer), 12.
- * Stack: 64 bytes.
+ * Stack: 88 bytes.
  */
 goosetable_answer goosetable_window(
     const uint8_t *skipped,
@@ -640,7 +640,7 @@ goosetable_answer goosetable_window(
  * of keys, the index counts along it.
  * Writes: tag.
  * Refused by: 12.
- * Stack: 5,608 bytes.
+ * Stack: 4,888 bytes.
  */
 goosetable_answer goosetable_route_tag(
     const uint8_t route_key[GOOSETABLE_KEY_SIZE],
@@ -654,7 +654,7 @@ goosetable_answer goosetable_route_tag(
  * whoever opened the message to goosetable_opened: to know it proves that the message arrived.
  * Writes: s.
  * Refused by: nothing.
- * Stack: 7,880 bytes.
+ * Stack: 6,504 bytes.
  */
 void goosetable_delivered(const uint8_t message_key[GOOSETABLE_KEY_SIZE], uint8_t s[GOOSETABLE_TAG_SIZE]);
 
@@ -662,7 +662,7 @@ void goosetable_delivered(const uint8_t message_key[GOOSETABLE_KEY_SIZE], uint8_
  * The commitment c that a secret opens. Envelopes have it, those in replies too: a host makes it only to test a secret against an envelope itself.
  * Writes: c.
  * Refused by: nothing.
- * Stack: 4,984 bytes.
+ * Stack: 4,312 bytes.
  */
 void goosetable_commitment(const uint8_t s[GOOSETABLE_TAG_SIZE], uint8_t c[GOOSETABLE_TAG_SIZE]);
 
@@ -671,7 +671,7 @@ void goosetable_commitment(const uint8_t s[GOOSETABLE_TAG_SIZE], uint8_t c[GOOSE
  * copies 1, and from GOOSETABLE_CARRIED_HEAD on the ciphertext; of a tombstone: 1 (1 byte), tag 16, secret 16, expiry 4.
  * Writes: nothing.
  * Refused by: nothing.
- * Stack: 464 bytes.
+ * Stack: 164 bytes.
  */
 goosetable_row goosetable_row_read(const uint8_t *blob, size_t blob_len);
 

@@ -21,14 +21,6 @@ unfolding reply_bytes
 length_reply r h =
     omega (arith, length-append (be 1 r.kind ++ be 2 r.cell) r.body, length-append (be 1 r.kind) (be 2 r.cell), length_be 1 r.kind, length_be 2 r.cell)
 
--- what is copied in is the bytes of a row
-pub copied : (lent x b r : List ℕ) (at : ℕ) → b ≡ r → x ≡ splice lent at b → x ≡ splice lent at r
-copied lent x b r at e f = f ∙ ap (splice lent at) e
-
-pub reply_body : (lent x b body : List ℕ) (at kind cell : ℕ) → b ≡ body → x ≡ splice lent at (reply_bytes (record { kind = kind; cell = cell; body = b }))
-    → x ≡ splice lent at (reply_bytes (record { kind = kind; cell = cell; body = body }))
-reply_body lent x b body at kind cell e f = f ∙ ap (λ (y : List ℕ). splice lent at (reply_bytes (record { kind = kind; cell = cell; body = y }))) e
-
 -- a tag over zeros, and more behind it
 pub tag_and_more : (tag more y z : List ℕ) → length tag ≡ 16 → y ≡ splice (replicate 37 0) 0 tag → z ≡ splice y 16 more
     → z ≡ tag ++ (more ++ drop (length more) (replicate 21 0))
@@ -39,12 +31,6 @@ tag_and_more tag more y z l e f =
     ∙ ap₂ (λ (x w : List ℕ). x ++ more ++ w) (take_at tag R 16 l)
     (ap (λ (n : ℕ). drop (n + length more) (tag ++ R)) (sym l) ∙ drop-append-add tag R (length more))
     ∙ append_assoc tag more (drop (length more) R)
-
--- the zeros behind n bytes
-pub zeros_behind : (tag more b : List ℕ) (n : ℕ) → b ≡ tag ++ (more ++ drop (length more) (replicate 21 0)) → length more ≡ n
-    → b ≡ tag ++ more ++ drop n (replicate 21 0)
-zeros_behind tag more b n e l =
-    e ∙ ap (λ (k : ℕ). tag ++ (more ++ drop k (replicate 21 0))) l ∙ sym (append_assoc tag more (drop n (replicate 21 0)))
 
 -- the header with the commitment of the row's secret
 pub own_head : (o : Own) (k : List ℕ) → k ≡ commitment_of o.s

@@ -9,7 +9,7 @@ ghost use Rattle.model.specs.Calls.{of_own, of_carried, cell_from, reply_cell, p
 
 use courier::{Custody, Header};
 use courier_core::ContactId;
-use rows::{Action, Carried, Own, Reply};
+use rows::{Action, Carried, Own, Reply, Row};
 
 // ---- the header of a row's envelope, and its cell as a reply says it
 
@@ -17,11 +17,9 @@ pub fn own_header(row: Own) -> Header
     ensures { result ≡ (own_envelope_of row).head }
 {
     let tag = row.tag;
-    let s = row.s;
-    let c = courier::commitment(s);
     Header {
         tag,
-        c,
+        c: courier::commitment(row.s),
         expiry_min: row.expiry_min,
         copies: row.copies,
     }
@@ -65,14 +63,6 @@ pub fn carried_cell(cell: u16) -> u16
 
 // ---- actions
 
-fn put_action(actions: &mut [u8], at: usize, row: Action)
-    requires { at + 13 ≤ length actions.old }
-    ensures { actions.new ≡ splice actions.old at (action_bytes row) }
-{
-    let b = rows::action_bytes(row);
-    octets::copy_in(actions, at, &b);
-}
-
 pub fn put_courier(actions: &mut [u8], at: usize, slot: u64)
     requires { at + 13 ≤ length actions.old }
     ensures { actions.new ≡ splice actions.old at (action_bytes (put_courier slot)) }
@@ -82,7 +72,7 @@ pub fn put_courier(actions: &mut [u8], at: usize, slot: u64)
         number: slot,
         msgno: 0,
     };
-    put_action(actions, at, row);
+    row.put(actions, at);
 }
 
 pub fn delete_courier(actions: &mut [u8], at: usize, slot: u64)
@@ -94,7 +84,7 @@ pub fn delete_courier(actions: &mut [u8], at: usize, slot: u64)
         number: slot,
         msgno: 0,
     };
-    put_action(actions, at, row);
+    row.put(actions, at);
 }
 
 pub fn put_queued(actions: &mut [u8], at: usize, id: ContactId, msgno: u32)
@@ -106,18 +96,10 @@ pub fn put_queued(actions: &mut [u8], at: usize, id: ContactId, msgno: u32)
         number: id.0,
         msgno,
     };
-    put_action(actions, at, row);
+    row.put(actions, at);
 }
 
 // ---- replies
-
-fn put_reply(replies: &mut [u8], at: usize, row: Reply)
-    requires { at + 40 ≤ length replies.old }
-    ensures { replies.new ≡ splice replies.old at (reply_bytes row) }
-{
-    let b = rows::reply_bytes(row);
-    octets::copy_in(replies, at, &b);
-}
 
 // The body of a reply: a tag, what follows it, and zeros.
 fn body_of(tag: [u8; 16], more: &[u8]) -> [u8; 37]
@@ -139,7 +121,7 @@ pub fn put_fetch(replies: &mut [u8], at: usize, tag: [u8; 16])
         cell: 0,
         body: body_of(tag, &tag[..0]),
     };
-    put_reply(replies, at, row);
+    row.put(replies, at);
 }
 
 // The cell is as a reply says it: `own_cell` or `carried_cell`.
@@ -147,26 +129,24 @@ pub fn put_envelope(replies: &mut [u8], at: usize, cell: u16, head: Header)
     requires { at + 40 ≤ length replies.old }
     ensures { replies.new ≡ splice replies.old at (reply_bytes (envelope_row cell head)) }
 {
-    let body = courier::header_bytes(head);
     let row = Reply {
         kind: 1,
         cell,
-        body,
+        body: courier::header_bytes(head),
     };
-    put_reply(replies, at, row);
+    row.put(replies, at);
 }
 
 pub fn put_custody(replies: &mut [u8], at: usize, tag: [u8; 16], code: Custody)
     requires { at + 40 ≤ length replies.old }
     ensures { replies.new ≡ splice replies.old at (reply_bytes (custody_reply tag code)) }
 {
-    let more = [code.code()];
     let row = Reply {
         kind: 2,
         cell: 0,
-        body: body_of(tag, &more),
+        body: body_of(tag, &[code.code()]),
     };
-    put_reply(replies, at, row);
+    row.put(replies, at);
 }
 
 pub fn put_tomb(replies: &mut [u8], at: usize, tag: [u8; 16], s: [u8; 16])
@@ -178,5 +158,5 @@ pub fn put_tomb(replies: &mut [u8], at: usize, tag: [u8; 16], s: [u8; 16])
         cell: 0,
         body: body_of(tag, &s),
     };
-    put_reply(replies, at, row);
+    row.put(replies, at);
 }

@@ -21,13 +21,11 @@ pub extern "C" fn bench_sha384(m: &[u8], out: &mut [u8; 48])
 pub extern "C" fn bench_tagged(rows: &[u8; 14592], tag: &[u8; 16]) -> usize
     ensures { result ≡ tagged rows.now tag.now 256 }
 {
-    let mut k: usize = 0;
-    let mut i: usize = 0;
-    while i < 256 {
+    let mut k = 0;
+    for i in 0..256 {
         if same(rows, 57 * i + 16, tag, 0, 16) {
             k += 1;
         }
-        i += 1;
     }
     k
 }

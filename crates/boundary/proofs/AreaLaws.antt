@@ -1,13 +1,12 @@
 -- What is put into an area is what it holds then; and what it holds already, put again, changes no byte.
 -- Assumes nothing.
-use Rattle.std.proofs.Common.{◌≡◌, ℕ, zero, suc, ◌^◌, ◌<◌, Bool, true, false, cond, not, eqb, List, length, refl, ap, ◌∙◌, subst, arith}
+use Rattle.std.proofs.Common.{◌≡◌, ℕ, zero, suc, ◌^◌, ◌<◌, Bool, true, false, cond, not, eqb, List, length, refl, ap, ◌∙◌, subst, arith, Option, Some, None}
 use lib.Dec.{eqb-suc-zero}
 use Rattle.octets.specs.Bytes.{Bytes, part, num}
 use Rattle.octets.proofs.Parts.{part_whole}
 use Rattle.rows.specs.declared.Device.{Device}
 use Rattle.rows.specs.declared.Exchange.{Exchange}
-use Rattle.rows.specs.declared.Peer.{Peer}
-use Rattle.rows.specs.declared.Peer.TheVariants as peer
+use Rattle.courier_core.specs.declared.ContactId.{ContactId}
 use Rattle.rows.proofs.Shapes.{Shape, number, ◌then◌, Value, Fits, width, read, write, length_write, read_written, write_read}
 use Rattle.boundary.specs.Boundary.{is_on, flag_over, device_of, device_bytes, device_area, peer_from, is_open, peer_over, exchange_of, exchange_bytes, exchange_area, HoldsExchange}
 
@@ -70,9 +69,9 @@ device_stays a l bytes =
 abbrev pub exchange_shape : Shape
 exchange_shape = number 1 then number 1 then number 8 then number 8 then number 8
 
-peer_back : (byte id : ℕ) (p : Peer) → peer_from (is_on (flag_over byte (is_open p))) (peer_over id p) ≡ p
-peer_back byte id peer.Nobody = ap (λ (b : Bool). peer_from b id) (flag_says byte false)
-peer_back byte id (peer.Is x) = ap (λ (b : Bool). peer_from b x.0) (flag_says byte true)
+peer_back : (byte id : ℕ) (p : Option ContactId) → peer_from (is_on (flag_over byte (is_open p))) (peer_over id p) ≡ p
+peer_back byte id None = ap (λ (b : Bool). peer_from b id) (flag_says byte false)
+peer_back byte id (Some x) = ap (λ (b : Bool). peer_from b x.0) (flag_says byte true)
 
 exchange_back : (one two id : ℕ) (e : Exchange)
     → Fits exchange_shape ((((flag_over one (is_open e.peer), flag_over two e.complete), peer_over id e.peer), e.listed), e.offered)

@@ -1,16 +1,11 @@
 -- The device and an exchange as bytes of small areas: what an area holds, and what it is once something else is put into it.
 -- Assumes nothing.
-use Rattle.std.specs.Prelude.{◌≡◌, ℕ, Bool, true, false, cond, not, List, ◌++◌, ◌==◌}
-use Rattle.std.proofs.Math.Option.{Option, none, some}
+use Rattle.std.specs.Prelude.{◌≡◌, ℕ, Bool, cond, not, List, ◌++◌, ◌==◌, Option, Some, None, is_some, unwrap_or}
+use Rattle.courier_core.specs.declared.ContactId.{ContactId}
 use Rattle.octets.specs.Bytes.{part, num, be}
-use Rattle.courier_core.specs.declared.Verification.{Verification}
 use Rattle.rows.specs.declared.Device.{Device}
 use Rattle.rows.specs.Device.{fresh_device}
 use Rattle.rows.specs.declared.Exchange.{Exchange}
-use Rattle.rows.specs.declared.Peer.{Peer}
-use Rattle.rows.specs.declared.Peer.TheVariants as peer
-use Rattle.boundary.specs.declared.VerificationRead.{VerificationRead}
-use Rattle.boundary.specs.declared.VerificationRead.TheVariants as reads
 
 -- ---- flags
 
@@ -21,12 +16,6 @@ is_on byte = not (byte == 0)
 -- the byte of a flag that is now on or off: the one that was there, if it says so
 unfoldable pub flag_over : ℕ → Bool → ℕ
 flag_over byte on = cond on (cond (byte == 0) 1 byte) 0
-
--- ---- a verification
-
-abbrev pub verification_read : VerificationRead → Option Verification
-verification_read (reads.Is v) = some v
-verification_read reads.Neither = none
 
 -- ---- the device, in 60 bytes
 
@@ -53,17 +42,15 @@ device_area a d = device_bytes (flag_over (num (part a 0 1)) d.courier.enabled) 
 
 -- ---- an exchange, in 26 bytes
 
-abbrev pub peer_from : Bool → ℕ → Peer
-peer_from opened id = cond opened (peer.Is (record { 0 = id })) peer.Nobody
+abbrev pub peer_from : Bool → ℕ → Option ContactId
+peer_from opened id = cond opened (Some (record { 0 = id })) None
 
-abbrev pub is_open : Peer → Bool
-is_open peer.Nobody = false
-is_open (peer.Is p) = true
+abbrev pub is_open : Option ContactId → Bool
+is_open peer = is_some peer
 
 -- the number of a peer: the one that was there, if the exchange was opened for none
-abbrev pub peer_over : ℕ → Peer → ℕ
-peer_over id peer.Nobody = id
-peer_over id (peer.Is p) = p.0
+abbrev pub peer_over : ℕ → Option ContactId → ℕ
+peer_over id peer = (unwrap_or peer (record { 0 = id })).0
 
 unfoldable pub exchange_of : List ℕ → Exchange
 exchange_of a = record {

@@ -4,11 +4,10 @@
 
 ghost use Rattle.std.specs.Prelude.{◌≡◌, ◌+◌, ◌≤◌, length};
 ghost use Rattle.octets.specs.Bytes.{Bytes, part, num};
-ghost use Rattle.wire.specs.Log.{verification_of};
-ghost use Rattle.boundary.specs.Boundary.{verification_read, is_on, flag_over, device_of, device_bytes, HoldsDevice, FreshArea, peer_from, is_open, peer_over, exchange_of, exchange_bytes, HoldsExchange};
+ghost use Rattle.boundary.specs.Boundary.{is_on, flag_over, device_of, device_bytes, HoldsDevice, FreshArea, exchange_of, exchange_bytes, HoldsExchange};
 
-use courier_core::{ContactId, Verification};
-use rows::{Device, Exchange, Peer};
+use courier_core::ContactId;
+use rows::{Device, Exchange};
 use state::CourierConfig;
 
 // ---- flags
@@ -28,6 +27,7 @@ fn byte_in(area: &[u8], at: usize) -> u8
 }
 
 // The byte of a flag that is now on or off: the one that was there, if it says so.
+#[tactic(auto, unfolding(crate::specs::Boundary::flag_over))]
 fn flag_over(byte: u8, on: bool) -> u8
     ensures { result ≡ flag_over byte on }
 {
@@ -37,28 +37,9 @@ fn flag_over(byte: u8, on: bool) -> u8
     if byte == 0 { 1 } else { byte }
 }
 
-// ---- a verification
-
-// What a byte says of a verification.
-#[derive(Drop)]
-pub enum VerificationRead {
-    Is(Verification),
-    Neither,
-}
-
-pub fn verification_of(byte: u8) -> VerificationRead
-    ensures { verification_read result ≡ verification_of byte }
-{
-    match byte {
-        0 => VerificationRead::Is(Verification::Unverified),
-        1 => VerificationRead::Is(Verification::Verified),
-        2 => VerificationRead::Is(Verification::Compromised),
-        _ => VerificationRead::Neither,
-    }
-}
-
 // ---- the device: enabled, copies, lifetime, clock, the counts of contacts, own rows, carried rows, tombstones and bad tags, next slot
 
+#[tactic(auto, unfolding(crate::specs::Boundary::device_of))]
 pub fn device_of(area: &[u8; 60]) -> Device
     ensures { result ≡ device_of area.now }
 {
@@ -100,8 +81,7 @@ fn device_bytes(enabled: u8, device: Device) -> [u8; 60]
 pub fn put_device(area: &mut [u8; 60], device: Device)
     ensures { HoldsDevice area.old device area.new }
 {
-    let courier = device.courier;
-    let enabled = flag_over(byte_in(area, 0), courier.enabled);
+    let enabled = flag_over(byte_in(area, 0), device.courier.enabled);
     *area = device_bytes(enabled, device);
 }
 
@@ -114,44 +94,17 @@ pub fn fresh_device(area: &mut [u8; 60])
 
 // ---- an exchange: whether it was opened, whether the terminator came, its peer, the counts of listed prefixes and of offers
 
-fn peer_of(opened: bool, id: u64) -> Peer
-    ensures { result ≡ peer_from opened id }
-{
-    if opened {
-        Peer::Is(ContactId(id))
-    } else {
-        Peer::Nobody
-    }
-}
-
+#[tactic(auto, unfolding(crate::specs::Boundary::exchange_of))]
 pub fn exchange_of(area: &[u8; 26]) -> Exchange
     ensures { result ≡ exchange_of area.now }
 {
-    let peer = peer_of(is_on(octets::get_u8(area, 0)), octets::get_u64(area, 2));
+    let opened = is_on(octets::get_u8(area, 0));
+    let peer = ContactId(octets::get_u64(area, 2));
     Exchange {
-        peer,
+        peer: opened.then_some(peer),
         complete: is_on(octets::get_u8(area, 1)),
         listed: octets::get_u64(area, 10) as usize,
         offered: octets::get_u64(area, 18) as usize,
-    }
-}
-
-fn is_open(peer: Peer) -> bool
-    ensures { result ≡ is_open peer }
-{
-    match peer {
-        Peer::Nobody => false,
-        Peer::Is(_) => true,
-    }
-}
-
-// The number of an exchange's peer: the one that was there, if it was opened for none.
-fn peer_over(id: u64, peer: Peer) -> u64
-    ensures { result ≡ peer_over id peer }
-{
-    match peer {
-        Peer::Nobody => id,
-        Peer::Is(p) => p.0,
     }
 }
 
@@ -167,12 +120,13 @@ fn exchange_bytes(opened: u8, complete: u8, peer: u64, listed: usize, offered: u
     b
 }
 
+// The peer's number stays as it was where the exchange is opened for none.
 pub fn put_exchange(area: &mut [u8; 26], exchange: Exchange)
     ensures { HoldsExchange area.old exchange area.new }
 {
-    let peer = exchange.peer;
-    let opened = flag_over(byte_in(area, 0), is_open(peer));
+    let opened = flag_over(byte_in(area, 0), exchange.peer.is_some());
     let complete = flag_over(byte_in(area, 1), exchange.complete);
-    let id = peer_over(octets::get_u64(area, 2), peer);
-    *area = exchange_bytes(opened, complete, id, exchange.listed, exchange.offered);
+    let before = ContactId(octets::get_u64(area, 2));
+    let peer = exchange.peer.unwrap_or(before);
+    *area = exchange_bytes(opened, complete, peer.0, exchange.listed, exchange.offered);
 }

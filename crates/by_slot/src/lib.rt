@@ -18,12 +18,8 @@ pub fn tombstone_first(
     requires { Reached (length carried.now) (length tombstones.now) n m p q }
     ensures { TombstoneFirst n m p q (num (part carried.now (p * 57) 8)) (num (part tombstones.now (q * 44) 8)) result }
 {
-    if n <= p {
-        return true;
-    }
-    if m <= q {
-        return false;
-    }
-    octets::get_u64(tombstones, q * rows::TOMBSTONE_WIDTH)
-        < octets::get_u64(carried, p * rows::CARRIED_WIDTH)
+    n <= p
+        || q < m
+            && octets::get_u64(tombstones, q * rows::TOMBSTONE_WIDTH)
+                < octets::get_u64(carried, p * rows::CARRIED_WIDTH)
 }

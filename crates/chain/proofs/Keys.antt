@@ -1,26 +1,17 @@
 -- Laws of `window`: what one chain adds to what is listed.
 -- Assumes nothing.
-use Rattle.std.proofs.Common.{◌≡◌, ℕ, zero, suc, ◌+◌, ◌-◌, ◌*◌, ◌/◌, ◌%◌, ◌^◌, ◌<◌, ◌≤◌, min, Bool, true, false, ◌||◌, ltb, List, [], ◌∷◌, ◌++◌, map, reverse, length, get_or, take, sym, refl, ap, ◌∙◌, subst, ap₂, true≢false, append-nil, add-zero, suc-add, arith, length-append, take_all, ltb-false}
+use Rattle.std.proofs.Common.{◌≡◌, ℕ, zero, suc, ◌+◌, ◌-◌, ◌*◌, ◌/◌, ◌%◌, ◌^◌, ◌≤◌, min, Bool, true, false, ◌||◌, ltb, List, [], ◌∷◌, ◌++◌, map, reverse, length, take, sym, refl, ap, ◌∙◌, subst, ap₂, true≢false, append-nil, suc-add, arith, length-append, take_all, ltb-false}
 use mathlib.Core.List.{map-append, flat_map, reverse-cons}
 use lib.ListN.{length-map}
 use lib.Seq.{take-nil, take-length}
 use Rattle.octets.specs.Bytes.{part, splice, num, be}
-use Rattle.octets.proofs.Parts.{length_part, get_d_part, part_part, splice_nil, splice_then}
+use Rattle.octets.proofs.Parts.{length_part, splice_nil, splice_then}
 use Rattle.octets.proofs.Numbers.{length_be}
 use Rattle.table.specs.Lists.{any}
 use Rattle.table.specs.Rows.{all_rows, join, ragged}
 use Rattle.table.proofs.ListLaws.{take_append, flat_map_append, all_each, all_map, map_take}
 use Rattle.table.proofs.RowLaws.{Wide, length_all_rows, length_join, join_rows, join_append, join_snoc}
-use Rattle.chain.specs.Chain.{dir_of, no_dir, wrong_dir, next_above, count, next, key_row, chain_keys, window, wrong_table, wrong_rows, listed_keys, chains_keys, ChainsListed, last_index}
-
--- ---- what a test reads of a row
-
-pub dir_at : (a : List ℕ) (i w : ℕ) → 0 < w → wrong_dir (part a (i * w) w) ≡ no_dir (dir_of (get_or a (i * w) 0))
-dir_at a i w h = ap (λ (b : ℕ). no_dir (dir_of b)) (get_d_part a (i * w) w 0 h ∙ ap (λ (k : ℕ). get_or a k 0) (add-zero (i * w)))
-
-pub above_at : (a : List ℕ) (i : ℕ) → next_above (part a (i * 10) 10) ≡ ltb (2 ^ 32) (num (part a (i * 10 + 2) 8))
-unfolding next
-above_at a i = ap (λ (l : List ℕ). ltb (2 ^ 32) (num l)) (part_part a (i * 10) 10 2 8 (omega arith))
+use Rattle.chain.specs.Chain.{wrong_dir, next_above, count, next, key_row, chain_keys, window, wrong_table, wrong_rows, listed_keys, chains_keys, ChainsListed, last_index}
 
 -- ---- numbers that are counted
 

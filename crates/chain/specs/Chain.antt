@@ -1,6 +1,6 @@
 -- chain.rs: the direction of a chain, the inner lengths, and `Receiver::window` with document 01's refusals.
 -- Assumes nothing.
-use Rattle.std.specs.Prelude.{◌≡◌, ℕ, zero, suc, ◌+◌, ◌-◌, ◌*◌, ◌/◌, ◌^◌, ◌≤◌, min, Bool, true, false, cond, ◌||◌, List, [], ◌∷◌, ◌++◌, map, reverse, length, take, ◌==◌, nat_lt, slice_index}
+use Rattle.std.specs.Prelude.{◌≡◌, ℕ, zero, suc, ◌+◌, ◌-◌, ◌*◌, ◌/◌, ◌^◌, ◌≤◌, min, Bool, true, false, cond, ◌||◌, List, [], ◌∷◌, ◌++◌, map, reverse, length, take, ◌==◌, nat_lt, slice_index, Option, Some, None, Result, Ok, Err}
 use mathlib.Core.List.{flat_map}
 use Rattle.octets.specs.Bytes.{part, splice, num, be}
 use Rattle.courier_core.specs.Core.{refusal_number, first_of}
@@ -10,10 +10,6 @@ use Rattle.table.specs.Lists.{any}
 use Rattle.table.specs.Rows.{all_rows, join, ragged}
 use Rattle.chain.specs.declared.Dir.{Dir}
 use Rattle.chain.specs.declared.Dir.TheVariants.{I, R}
-use Rattle.chain.specs.declared.DirRead.{DirRead}
-use Rattle.chain.specs.declared.DirRead.TheVariants.{Is, Neither}
-use Rattle.chain.specs.declared.Windowed.{Windowed}
-use Rattle.chain.specs.declared.Windowed.TheVariants.{Refused, Listed}
 
 -- `Dir::label`: the byte of a direction, `I` or `R`
 abbrev pub dir_label : Dir → ℕ
@@ -21,13 +17,13 @@ dir_label I = 73
 dir_label R = 82
 
 -- the direction of a byte: every byte but those two has none
-abbrev pub dir_of : ℕ → DirRead
-dir_of b = cond (b == 73) (Is I) (cond (b == 82) (Is R) Neither)
+abbrev pub dir_of : ℕ → Option Dir
+dir_of b = cond (b == 73) (Some I) (cond (b == 82) (Some R) None)
 
 -- a byte that is no direction's
-abbrev pub no_dir : DirRead → Bool
-no_dir (Is d) = false
-no_dir Neither = true
+abbrev pub no_dir : Option Dir → Bool
+no_dir (Some d) = false
+no_dir None = true
 
 -- INNER_BUCKETS: the lengths of an inner plaintext
 abbrev pub inner_buckets : List ℕ
@@ -97,14 +93,14 @@ window_tests answer skipped chains =
     (nat_lt (length answer) answer_size, refusal.ShortArea) ∷ (wrong_rows skipped chains, refusal.WindowRows) ∷ []
 
 -- an answer in document 01's terms: the number of its refusal (0 for none), and how many rows it lists
-abbrev pub window_values : Windowed → ℕ × ℕ
-window_values (Refused why) = (refusal_number why, 0)
-window_values (Listed n) = (0, n)
+abbrev pub window_values : Result ℕ Refusal → ℕ × ℕ
+window_values (Err why) = (refusal_number why, 0)
+window_values (Ok n) = (0, n)
 
 -- the window call: its answer, the same in document 01's terms, and the answer area with the listed rows at its front
-unfoldable pub window_says : List ℕ → List ℕ → List ℕ → Windowed
+unfoldable pub window_says : List ℕ → List ℕ → List ℕ → Result ℕ Refusal
 window_says answer skipped chains =
-    first_of (window_tests answer skipped chains) Refused (Listed (length (window skipped chains)))
+    first_of (window_tests answer skipped chains) Err (Ok (length (window skipped chains)))
 
 unfoldable pub window_answer : List ℕ → List ℕ → List ℕ → ℕ × ℕ
 window_answer answer skipped chains =

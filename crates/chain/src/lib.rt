@@ -16,24 +16,10 @@ pub const TAG_LEN: usize = 16;
 pub const MAX_SKIPPED: usize = 500;
 
 // The direction of a message chain, named after the sender's role.
-#[derive(Drop)]
+#[derive(Clone, Copy, PartialEq, Eq)]
 pub enum Dir {
     I,
     R,
-}
-
-// What a byte says of a direction.
-#[derive(Drop)]
-pub enum DirRead {
-    Is(Dir),
-    Neither,
-}
-
-// What the window call answers: why it is refused, or how many rows it lists.
-#[derive(Drop)]
-pub enum Windowed {
-    Refused(Refusal),
-    Listed(usize),
 }
 
 impl Dir {
@@ -46,15 +32,13 @@ impl Dir {
         }
     }
 
-    pub fn from_label(b: u8) -> DirRead
+    pub fn from_label(b: u8) -> Option<Dir>
         ensures { result ≡ dir_of b }
     {
-        if b == b'I' {
-            DirRead::Is(Dir::I)
-        } else if b == b'R' {
-            DirRead::Is(Dir::R)
-        } else {
-            DirRead::Neither
+        match b {
+            b'I' => Some(Dir::I),
+            b'R' => Some(Dir::R),
+            _ => None,
         }
     }
 }
@@ -73,10 +57,7 @@ pub fn is_bucket(n: usize) -> bool
 pub fn no_dir(b: u8) -> bool
     ensures { result ≡ no_dir (dir_of b) }
 {
-    match Dir::from_label(b) {
-        DirRead::Is(_) => false,
-        DirRead::Neither => true,
-    }
+    Dir::from_label(b).is_none()
 }
 
 // Are the bytes not whole rows of the width, or does a row begin with a byte that is no direction?
@@ -84,49 +65,28 @@ fn wrong_table(area: &[u8], width: usize) -> bool
     requires { 0 < width }
     ensures { result ≡ wrong_table width area.now }
 {
-    if 0 < area.len() % width {
-        return true;
-    }
     let n = area.len() / width;
-    let mut i = 0;
-    while i < n {
-        if no_dir(area[i * width]) {
-            return true;
-        }
-        i += 1;
-    }
-    false
+    0 < area.len() % width || table::any(area, width, n, |row| no_dir(row[0]))
 }
 
 // Has a chain row a next above 2^32?
 fn nexts_above(chains: &[u8]) -> bool
     ensures { result ≡ any next_above (all_rows 10 chains.now) }
 {
-    let n = chains.len() / 10;
-    let mut i = 0;
-    while i < n {
-        if 0x1_0000_0000 < octets::get_u64(chains, i * 10 + 2) {
-            return true;
-        }
-        i += 1;
-    }
-    false
+    table::any(chains, 10, chains.len() / 10, |chain| {
+        0x1_0000_0000 < octets::get_u64(chain, 2)
+    })
 }
 
 // Is there anything in the rows that number 12 refuses?
+#[tactic(auto, unfolding(crate::specs::Chain::wrong_rows))]
 fn wrong_rows(skipped: &[u8], chains: &[u8]) -> bool
     ensures { result ≡ wrong_rows skipped.now chains.now }
 {
-    if wrong_table(skipped, 6) {
-        return true;
-    }
-    if wrong_table(chains, 10) {
-        return true;
-    }
-    if MAX_SKIPPED < skipped.len() / 6 {
-        return true;
-    }
-    nexts_above(chains)
+    wrong_table(skipped, 6)
+        || wrong_table(chains, 10)
+        || MAX_SKIPPED < skipped.len() / 6
+        || nexts_above(chains)
 }
 
 // How many keys of a chain are listed after n others: those from next up to the last index, as long as there is room.
@@ -135,15 +95,7 @@ fn listed(n: usize, next: u64) -> usize
     ensures { result ≡ min (500 - n) (2 ^ 32 - next) }
 {
     let room = MAX_SKIPPED - n;
-    if 0x1_0000_0000 <= next {
-        return 0;
-    }
-    let left = 0x1_0000_0000 - next;
-    if left < room as u64 {
-        left as usize
-    } else {
-        room
-    }
+    0x1_0000_0000u64.saturating_sub(next).min(room as u64) as usize
 }
 
 // Writes the key of the index as row n.
@@ -163,10 +115,8 @@ fn list_chain(answer: &mut [u8], n: usize, chain: &[u8]) -> usize
 {
     let next = octets::get_u64(chain, 2);
     let k = listed(n, next);
-    let mut i = 0;
-    while i < k {
+    for i in 0..k {
         put_key(answer, n + i, chain, (next + i as u64) as u32);
-        i += 1;
     }
     n + k
 }
@@ -177,9 +127,7 @@ fn list_chains(answer: &mut [u8], skipped: usize, chains: &[u8]) -> usize
     ensures { ChainsListed skipped (chains_keys (500 - skipped) (all_rows 10 chains.now)) answer.old answer.new result }
 {
     let mut n = skipped;
-    let mut i = chains.len() / 10;
-    while 0 < i {
-        i -= 1;
+    for i in (0..chains.len() / 10).rev() {
         n = list_chain(answer, n, &chains[i * 10..i * 10 + 10]);
     }
     n
@@ -187,17 +135,17 @@ fn list_chains(answer: &mut [u8], skipped: usize, chains: &[u8]) -> usize
 
 // `Receiver::window`: writes a row for each message key that a receiver could still derive, from the skipped keys and the chains
 // that it holds, and answers how many.
-pub fn window(skipped: &[u8], chains: &[u8], answer: &mut [u8]) -> Windowed
+pub fn window(skipped: &[u8], chains: &[u8], answer: &mut [u8]) -> Result<usize, Refusal>
     ensures value { result ≡ window_says answer.old skipped.now chains.now }
     ensures result_value { window_values result ≡ window_answer answer.old skipped.now chains.now }
     ensures answer_after { answer.new ≡ window_area answer.old skipped.now chains.now }
 {
     if answer.len() < 3000 {
-        return Windowed::Refused(Refusal::ShortArea);
+        return Err(Refusal::ShortArea);
     }
     if wrong_rows(skipped, chains) {
-        return Windowed::Refused(Refusal::WindowRows);
+        return Err(Refusal::WindowRows);
     }
     octets::copy_in(answer, 0, skipped);
-    Windowed::Listed(list_chains(answer, skipped.len() / 6, chains))
+    Ok(list_chains(answer, skipped.len() / 6, chains))
 }

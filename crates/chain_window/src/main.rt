@@ -1,458 +1,247 @@
-// Runs the window call on its boundary cases and writes what it answers and what it leaves in the answer area.
+// Runs the window call on its boundary cases and prints what it answers and what it leaves in the answer area.
 #![tactic(auto)]
 
-use chain::{Dir, DirRead, Windowed};
-
-// Standard output.
-const STDOUT: i32 = 1;
+use chain::Dir;
+use courier_core::Refusal;
+use std::io;
 
 // What stands in the answer area before a call.
 const FILL: u8 = 0xAA;
 
-fn text(s: &[u8]) {
-    io::write_all(STDOUT, s);
-}
+// ---- rows
 
-fn number(n: u64) {
-    io::print_decimal(STDOUT, n);
-}
-
-fn small(n: u8) {
-    number(n as u64);
-}
-
-// Writes row i of the answer: direction, generation, index.
-fn show_row(answer: &[u8], i: usize) {
-    if answer.len() / 6 <= i {
-        return;
-    }
-    let at = i * 6;
-    text(b" ");
-    text(&answer[at..at + 1]);
-    text(b" ");
-    small(answer[at + 1]);
-    text(b" ");
-    number(octets::get_u32(answer, at + 2) as u64);
-}
-
-// Writes the n rows if they are few, else the last alone.
-fn show_rows(answer: &[u8], n: usize) {
-    if n == 0 {
-        return;
-    }
-    if 8 < n {
-        text(b", last");
-        show_row(answer, n - 1);
-        return;
-    }
-    let mut i = 0;
-    while i < n {
-        text(b",");
-        show_row(answer, i);
-        i += 1;
-    }
-}
-
-// Are the bytes from index at on as they were?
-fn kept(answer: &[u8], at: usize) -> bool {
-    let mut i = at;
-    while i < answer.len() {
-        if answer[i] != FILL {
-            return false;
-        }
-        i += 1;
-    }
-    true
-}
-
-// A number that every byte of the area and its place goes into.
-fn next_sum(acc: u64, b: u8) -> u64 {
-    (acc % 1_000_003 * 31 + b as u64) % 1_000_003
-}
-
-fn sum(answer: &[u8]) -> u64 {
-    let mut acc: u64 = 0;
-    let mut i = 0;
-    while i < answer.len() {
-        acc = next_sum(acc, answer[i]);
-        i += 1;
-    }
-    acc
-}
-
-fn show_rest(answer: &[u8], n: usize) {
-    if answer.len() / 6 < n {
-        return;
-    }
-    if kept(answer, n * 6) {
-        text(b", rest kept");
-    } else {
-        text(b", rest changed");
-    }
-    text(b", sum ");
-    number(sum(answer));
-}
-
-// What a call answered, and what stands in the whole area.
-fn show_answer(said: Windowed, answer: &[u8]) {
-    match said {
-        Windowed::Refused(why) => {
-            text(b": refused ");
-            small(courier_core::refusal_number(why));
-            show_rest(answer, 0);
-        }
-        Windowed::Listed(n) => {
-            text(b": listed ");
-            number(n as u64);
-            show_rows(answer, n);
-            show_rest(answer, n);
-        }
-    }
-    text(b"\n");
-}
-
-// Calls window on the parts, and on the first size bytes of the area.
-fn call(skipped: &[u8], chains: &[u8], area: &mut [u8], size: usize) -> Windowed {
-    if area.len() < size {
-        return Windowed::Listed(0);
-    }
-    chain::window(skipped, chains, &mut area[0..size])
-}
-
-// Runs the call on the first n bytes of the skipped rows and the first m of the chain rows, with an answer area of the size.
-fn run_rows(label: &[u8], skipped: &[u8], n: usize, chains: &[u8], m: usize, size: usize) {
-    if skipped.len() < n {
-        return;
-    }
-    if chains.len() < m {
-        return;
-    }
-    let mut area = [FILL; 3006];
-    text(label);
-    let said = call(&skipped[0..n], &chains[0..m], &mut area, size);
-    show_answer(said, &area);
-}
-
-// A row of a chain.
-fn put_chain(rows: &mut [u8], i: usize, dir: u8, next: u64) {
-    if rows.len() / 10 <= i {
-        return;
-    }
-    let head = [dir, (i % 256) as u8];
-    octets::copy_in(rows, i * 10, &head);
-    octets::put_u64(rows, i * 10 + 2, next);
-}
-
-// The nexts of three chains.
-#[derive(Clone, Copy)]
-struct Nexts(u64, u64, u64);
-
-// The rows of three chains, the third of the direction.
-fn chains_at(nexts: Nexts, third: u8) -> [u8; 30] {
+// The rows of three chains: their nexts, and the direction of the third.
+fn three_chains(nexts: [u64; 3], third: u8) -> [u8; 30] {
     let mut rows = [0u8; 30];
-    put_chain(&mut rows, 0, b'I', nexts.0);
-    put_chain(&mut rows, 1, b'R', nexts.1);
-    put_chain(&mut rows, 2, third, nexts.2);
+    let dirs = [b'I', b'R', third];
+    for i in 0..3 {
+        rows[i * 10] = dirs[i];
+        rows[i * 10 + 1] = i as u8;
+        octets::put_u64(&mut rows, i * 10 + 2, nexts[i]);
+    }
     rows
 }
 
-fn run(label: &[u8], skipped: &[u8], n: usize, nexts: Nexts, m: usize, size: usize) {
-    let chains = chains_at(nexts, b'I');
-    run_rows(label, skipped, n, &chains, m, size);
+fn chains(first: u64, second: u64, third: u64) -> [u8; 30] {
+    three_chains([first, second, third], b'I')
 }
 
 // Skipped keys: direction I or R in turn, generation 9, index from 1,000 on.
-fn put_key(rows: &mut [u8], i: usize) {
-    if rows.len() / 6 <= i {
-        return;
+fn skipped_keys() -> [u8; 3006] {
+    let mut rows = [9u8; 3006];
+    for i in 0..501u16 {
+        let at = i as usize * 6;
+        rows[at] = if i % 2 == 0 { b'I' } else { b'R' };
+        octets::put_u32(&mut rows, at + 2, 1000 + u32::from(i));
     }
-    let dir = if i % 2 == 0 { b'I' } else { b'R' };
-    let head = [dir, 9];
-    octets::copy_in(rows, i * 6, &head);
-    octets::put_u32(rows, i * 6 + 2, (1000 + i % 1000) as u32);
+    rows
 }
 
-fn put_skipped(rows: &mut [u8]) {
-    let mut i = 0;
-    while i < 501 {
-        put_key(rows, i);
-        i += 1;
+// ---- what is printed
+
+// A listed row: direction, generation, index.
+fn show_row(rt: &impl Print, row: &[u8]) -> io::Result<()> {
+    if row.len() < 6 {
+        return Ok(());
+    }
+    let index = octets::get_u32(row, 2);
+    print!(rt; " {} {} {index}", char::from(row[0]), row[1])
+}
+
+// The n listed rows if they are few, else the last alone.
+fn show_rows(rt: &impl Print, answer: &[u8], n: usize) -> io::Result<()> {
+    if 8 < n {
+        print!(rt; ", last")?;
+        return match answer.chunks_exact(6).take(n).last() {
+            Some(row) => show_row(rt, row),
+            None => Ok(()),
+        };
+    }
+    for row in answer.chunks_exact(6).take(n) {
+        print!(rt; ",")?;
+        show_row(rt, row)?;
+    }
+    Ok(())
+}
+
+// Are the bytes behind the first n as they were?
+fn kept(answer: &[u8], n: usize) -> bool {
+    answer.iter().skip(n).all(|b| *b == FILL)
+}
+
+// A number that every byte of the area and its place goes into.
+fn sum(answer: &[u8]) -> u64 {
+    answer.iter().fold(
+        0,
+        |acc, b| (acc % 1_000_003 * 31 + u64::from(*b)) % 1_000_003,
+    )
+}
+
+// What stands behind n listed rows, and in the whole area.
+fn show_rest(rt: &impl Print, answer: &[u8], n: usize) -> io::Result<()> {
+    let rest = if kept(answer, n.min(501) * 6) {
+        "kept"
+    } else {
+        "changed"
+    };
+    println!(rt; ", rest {rest}, sum {}", sum(answer))
+}
+
+// What a call answered, and what stands in the whole area.
+fn show_answer(rt: &impl Print, said: Result<usize, Refusal>, answer: &[u8]) -> io::Result<()> {
+    match said {
+        Err(why) => {
+            print!(rt; ": refused {}", courier_core::refusal_number(why))?;
+            show_rest(rt, answer, 0)
+        }
+        Ok(n) => {
+            print!(rt; ": listed {n}")?;
+            show_rows(rt, answer, n)?;
+            show_rest(rt, answer, n)
+        }
     }
 }
+
+// Runs the call with an answer area of the size.
+fn run(rt: &impl Print, what: &str, skipped: &[u8], chains: &[u8], size: usize) -> io::Result<()> {
+    let mut area = [FILL; 3006];
+    print!(rt; "{what}")?;
+    let said = chain::window(skipped, chains, &mut area[..size.min(3006)]);
+    show_answer(rt, said, &area)
+}
+
+// The same, with one chain and the least area that is enough.
+fn run_one(rt: &impl Print, what: &str, skipped: &[u8], next: u64) -> io::Result<()> {
+    run(rt, what, skipped, &chains(next, 0, 0)[..10], 3000)
+}
+
+// ---- the cases
 
 // How many are skipped.
-fn counts(skipped: &[u8]) {
-    run(b"0 skipped, next 7", skipped, 0, Nexts(7, 0, 0), 10, 3000);
-    run(b"1 skipped, next 7", skipped, 6, Nexts(7, 0, 0), 10, 3000);
-    run(
-        b"499 skipped, next 7",
-        skipped,
-        2994,
-        Nexts(7, 0, 0),
-        10,
-        3000,
-    );
-    run(
-        b"500 skipped, next 7",
-        skipped,
-        3000,
-        Nexts(7, 0, 0),
-        10,
-        3000,
-    );
-    run(
-        b"501 skipped, next 7",
-        skipped,
-        3006,
-        Nexts(7, 0, 0),
-        10,
-        3000,
-    );
+fn counts(rt: &impl Print, skipped: &[u8; 3006]) -> io::Result<()> {
+    run_one(rt, "0 skipped, next 7", &skipped[..0], 7)?;
+    run_one(rt, "1 skipped, next 7", &skipped[..6], 7)?;
+    run_one(rt, "499 skipped, next 7", &skipped[..2994], 7)?;
+    run_one(rt, "500 skipped, next 7", &skipped[..3000], 7)?;
+    run_one(rt, "501 skipped, next 7", &skipped[..3006], 7)
 }
 
-fn no_chain(skipped: &[u8]) {
-    run(b"0 skipped, no chain", skipped, 0, Nexts(0, 0, 0), 0, 3000);
-    run(
-        b"500 skipped, no chain",
-        skipped,
-        3000,
-        Nexts(0, 0, 0),
-        0,
-        3000,
-    );
-    run(
-        b"answer of 0, nothing to list",
-        skipped,
-        0,
-        Nexts(0, 0, 0),
-        0,
-        0,
-    );
+fn no_chain(rt: &impl Print, skipped: &[u8; 3006]) -> io::Result<()> {
+    run(rt, "0 skipped, no chain", &[], &[], 3000)?;
+    run(rt, "500 skipped, no chain", &skipped[..3000], &[], 3000)?;
+    run(rt, "answer of 0, nothing to list", &[], &[], 0)
 }
 
 // Where a chain stands.
-fn one_chain(skipped: &[u8]) {
-    run(
-        b"498 skipped, next 0",
-        skipped,
-        2988,
-        Nexts(0, 0, 0),
-        10,
-        3000,
-    );
-    run(
-        b"1 skipped, next 2^32 - 3",
-        skipped,
-        6,
-        Nexts(0xFFFF_FFFD, 0, 0),
-        10,
-        3000,
-    );
-    run(
-        b"1 skipped, next 2^32 - 1",
-        skipped,
-        6,
-        Nexts(0xFFFF_FFFF, 0, 0),
-        10,
-        3000,
-    );
-    run(
-        b"1 skipped, next 2^32",
-        skipped,
-        6,
-        Nexts(0x1_0000_0000, 0, 0),
-        10,
-        3000,
-    );
-    run(
-        b"1 skipped, next 2^32 + 1",
-        skipped,
-        6,
-        Nexts(0x1_0000_0001, 0, 0),
-        10,
-        3000,
-    );
-    run(
-        b"1 skipped, next 2^64 - 1",
-        skipped,
-        6,
-        Nexts(u64::MAX, 0, 0),
-        10,
-        3000,
-    );
+fn one_chain(rt: &impl Print, skipped: &[u8; 3006]) -> io::Result<()> {
+    run_one(rt, "498 skipped, next 0", &skipped[..2988], 0)?;
+    let first = &skipped[..6];
+    run_one(rt, "1 skipped, next 2^32 - 3", first, 0xFFFF_FFFD)?;
+    run_one(rt, "1 skipped, next 2^32 - 1", first, 0xFFFF_FFFF)?;
+    run_one(rt, "1 skipped, next 2^32", first, 0x1_0000_0000)?;
+    run_one(rt, "1 skipped, next 2^32 + 1", first, 0x1_0000_0001)?;
+    run_one(rt, "1 skipped, next 2^64 - 1", first, u64::MAX)
 }
 
 // Several chains: the last is listed first.
-fn several(skipped: &[u8]) {
-    let ends = Nexts(0xFFFF_FFFF, 0xFFFF_FFFE, 0xFFFF_FFFD);
-    run(b"two chains at the end", skipped, 0, ends, 20, 3000);
-    run(b"three chains at the end", skipped, 0, ends, 30, 3000);
-    run(
-        b"496 skipped, three chains at the end",
-        skipped,
-        2976,
-        ends,
-        30,
-        3000,
-    );
-    let mixed = Nexts(7, 0x1_0000_0000, 0xFFFF_FFFE);
-    run(
-        b"490 skipped, next 7, 2^32, 2^32 - 2",
-        skipped,
-        2940,
-        mixed,
-        30,
-        3000,
-    );
-    run(b"499 skipped, two chains", skipped, 2994, mixed, 20, 3000);
-    run(
-        b"0 skipped, next 0, 2^32 + 1, 0",
-        skipped,
-        0,
-        Nexts(0, 0x1_0000_0001, 0),
-        30,
-        3000,
-    );
+fn several(rt: &impl Print, skipped: &[u8; 3006]) -> io::Result<()> {
+    let ends = chains(0xFFFF_FFFF, 0xFFFF_FFFE, 0xFFFF_FFFD);
+    run(rt, "two chains at the end", &[], &ends[..20], 3000)?;
+    run(rt, "three chains at the end", &[], &ends, 3000)?;
+    let many = "496 skipped, three chains at the end";
+    run(rt, many, &skipped[..2976], &ends, 3000)?;
+    let mixed = chains(7, 0x1_0000_0000, 0xFFFF_FFFE);
+    let three = "490 skipped, next 7, 2^32, 2^32 - 2";
+    run(rt, three, &skipped[..2940], &mixed, 3000)?;
+    let two = "499 skipped, two chains";
+    run(rt, two, &skipped[..2994], &mixed[..20], 3000)?;
+    let above = chains(0, 0x1_0000_0001, 0);
+    run(rt, "0 skipped, next 0, 2^32 + 1, 0", &[], &above, 3000)
 }
 
 // Rows that are not whole.
-fn shapes(skipped: &[u8]) {
+fn shapes(rt: &impl Print, skipped: &[u8; 3006]) -> io::Result<()> {
+    let rows = chains(7, 8, 9);
     run(
-        b"5 bytes of skipped rows",
-        skipped,
-        5,
-        Nexts(7, 8, 9),
-        10,
+        rt,
+        "5 bytes of skipped rows",
+        &skipped[..5],
+        &rows[..10],
         3000,
-    );
+    )?;
     run(
-        b"7 bytes of skipped rows",
-        skipped,
-        7,
-        Nexts(7, 8, 9),
-        10,
+        rt,
+        "7 bytes of skipped rows",
+        &skipped[..7],
+        &rows[..10],
         3000,
-    );
+    )?;
+    run(rt, "9 bytes of chain rows", &skipped[..6], &rows[..9], 3000)?;
     run(
-        b"9 bytes of chain rows",
-        skipped,
-        6,
-        Nexts(7, 8, 9),
-        9,
+        rt,
+        "11 bytes of chain rows",
+        &skipped[..6],
+        &rows[..11],
         3000,
-    );
-    run(
-        b"11 bytes of chain rows",
-        skipped,
-        6,
-        Nexts(7, 8, 9),
-        11,
-        3000,
-    );
+    )
 }
 
 // Directions that are neither I nor R.
-fn directions(skipped: &[u8]) {
+fn directions(rt: &impl Print, skipped: &[u8; 3006]) -> io::Result<()> {
     let keys = b"RRRRRRiRRRRR";
-    run(
-        b"second skipped direction i, first alone",
-        keys,
-        6,
-        Nexts(7, 8, 9),
-        0,
-        3000,
-    );
-    run(
-        b"second skipped direction i",
-        keys,
-        12,
-        Nexts(7, 8, 9),
-        0,
-        3000,
-    );
-    let rows = chains_at(Nexts(7, 8, 9), 0);
-    run_rows(
-        b"third chain direction 0, first two alone",
-        skipped,
-        2994,
-        &rows,
-        20,
-        3000,
-    );
-    run_rows(b"third chain direction 0", skipped, 2994, &rows, 30, 3000);
+    let first = "second skipped direction i, first alone";
+    run(rt, first, &keys[..6], &[], 3000)?;
+    run(rt, "second skipped direction i", keys, &[], 3000)?;
+    let rows = three_chains([7, 8, 9], 0);
+    let two = "third chain direction 0, first two alone";
+    run(rt, two, &skipped[..2994], &rows[..20], 3000)?;
+    run(rt, "third chain direction 0", &skipped[..2994], &rows, 3000)
 }
 
 // Sizes of the answer area, and the order of the refusals.
-fn sizes(skipped: &[u8]) {
-    run(b"answer of 2,999", skipped, 6, Nexts(7, 0, 0), 10, 2999);
-    run(b"answer of 3,000", skipped, 6, Nexts(7, 0, 0), 10, 3000);
-    run(b"answer of 3,001", skipped, 6, Nexts(7, 0, 0), 10, 3001);
-    run(
-        b"answer of 2,999, rows not whole",
-        skipped,
-        5,
-        Nexts(7, 0, 0),
-        11,
-        2999,
-    );
-    run(
-        b"answer of 2,999, 501 skipped",
-        skipped,
-        3006,
-        Nexts(7, 0, 0),
-        10,
-        2999,
-    );
+fn sizes(rt: &impl Print, skipped: &[u8; 3006]) -> io::Result<()> {
+    let rows = chains(7, 0, 0);
+    let chain = &rows[..10];
+    run(rt, "answer of 2,999", &skipped[..6], chain, 2999)?;
+    run(rt, "answer of 3,000", &skipped[..6], chain, 3000)?;
+    run(rt, "answer of 3,001", &skipped[..6], chain, 3001)?;
+    let whole = "answer of 2,999, rows not whole";
+    run(rt, whole, &skipped[..5], &rows[..11], 2999)?;
+    let many = "answer of 2,999, 501 skipped";
+    run(rt, many, skipped, chain, 2999)
 }
 
 // The lengths up to 5,000 that are a bucket.
-fn buckets() {
-    text(b"buckets:");
-    let mut n = 0;
-    while n < 5000 {
+fn buckets(rt: &impl Print) -> io::Result<()> {
+    print!(rt; "buckets:")?;
+    for n in 0..5000 {
         if chain::is_bucket(n) {
-            text(b" ");
-            number(n as u64);
+            print!(rt; " {n}")?;
         }
-        n += 1;
     }
-    text(b"\n");
+    println!(rt)
 }
 
-// The byte of a direction, twice, once by the label of what it was read as.
-fn show_label(b: u8) {
-    match Dir::from_label(b) {
-        DirRead::Is(d) => {
-            text(b" ");
-            small(b);
-            text(b" as ");
-            small(d.label());
+// Each byte of a direction, twice, once by the label of what it was read as.
+fn labels(rt: &impl Print) -> io::Result<()> {
+    print!(rt; "directions:")?;
+    for b in 0..=u8::MAX {
+        if let Some(d) = Dir::from_label(b) {
+            print!(rt; " {b} as {}", d.label())?;
         }
-        DirRead::Neither => {}
     }
+    println!(rt)
 }
 
-fn labels() {
-    text(b"directions:");
-    let mut b = 0u8;
-    while b < 255 {
-        show_label(b);
-        b += 1;
-    }
-    show_label(b);
-    text(b"\n");
-}
-
-fn main() {
-    labels();
-    buckets();
-    let mut skipped = [0u8; 3006];
-    put_skipped(&mut skipped);
-    counts(&skipped);
-    no_chain(&skipped);
-    one_chain(&skipped);
-    several(&skipped);
-    shapes(&skipped);
-    directions(&skipped);
-    sizes(&skipped);
+fn main(rt: HostRuntime) -> io::Result<()> {
+    let skipped = skipped_keys();
+    labels(&rt)?;
+    buckets(&rt)?;
+    counts(&rt, &skipped)?;
+    no_chain(&rt, &skipped)?;
+    one_chain(&rt, &skipped)?;
+    several(&rt, &skipped)?;
+    shapes(&rt, &skipped)?;
+    directions(&rt, &skipped)?;
+    sizes(&rt, &skipped)
 }

@@ -5,32 +5,26 @@ ghost use Rattle.std.specs.Prelude.{◌≡◌, ◌+◌, ◌*◌, ◌/◌, ◌%�
 ghost use Rattle.octets.specs.Bytes.{splice};
 ghost use Rattle.columns.specs.Columns.{blanks, column, hex_digit, hexes};
 
-// A line has 80 columns: no more blanks are put at once.
-const LINE: usize = 80;
-
 pub fn put_blanks(out: &mut [u8], at: usize, n: usize)
-    requires { (at + n ≤ length out.old) × (n ≤ 80) }
+    requires { at + n ≤ length out.old }
     ensures { out.new ≡ splice out.old at (blanks n) }
 {
-    let blanks = [b' '; LINE];
-    octets::copy_in(out, at, &blanks[0..n]);
+    out[at..at + n].fill(b' ');
 }
 
 // A number to the right of a column: its digits from the last on, then blanks.
 pub fn put_column(out: &mut [u8], at: usize, width: usize, n: u64)
-    requires { (at + width ≤ length out.old) × (width ≤ 80) }
+    requires { at + width ≤ length out.old }
     ensures { out.new ≡ splice out.old at (column width n) }
 {
     let mut v = n;
-    let mut k = width;
-    while 0 < k {
-        k -= 1;
-        out[at + k] = (48 + v % 10) as u8;
+    for k in (0..width).rev() {
+        out[at + k] = b'0' + (v % 10) as u8;
         if v < 10 {
             put_blanks(out, at, k);
             return;
         }
-        v = v / 10;
+        v /= 10;
     }
 }
 
@@ -39,19 +33,7 @@ fn digit(d: u8) -> u8
     requires { d < 16 }
     ensures { result ≡ hex_digit d }
 {
-    if d < 10 { 48 + d } else { 87 + d }
-}
-
-fn high(b: u8) -> u8
-    ensures { result ≡ hex_digit (b / 16) }
-{
-    digit(b / 16)
-}
-
-fn low(b: u8) -> u8
-    ensures { result ≡ hex_digit (b % 16) }
-{
-    digit(b % 16)
+    if d < 10 { b'0' + d } else { b'a' + (d - 10) }
 }
 
 // Two digits for each byte.
@@ -59,10 +41,8 @@ pub fn put_hex(out: &mut [u8], at: usize, bytes: &[u8])
     requires { at + 2 * length bytes.now ≤ length out.old }
     ensures { out.new ≡ splice out.old at (hexes bytes.now) }
 {
-    let mut i = 0;
-    while i < bytes.len() {
-        out[at + 2 * i] = high(bytes[i]);
-        out[at + 2 * i + 1] = low(bytes[i]);
-        i += 1;
+    for (i, b) in bytes.iter().enumerate() {
+        out[at + 2 * i] = digit(b / 16);
+        out[at + 2 * i + 1] = digit(b % 16);
     }
 }

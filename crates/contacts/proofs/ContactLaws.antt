@@ -1,20 +1,16 @@
 -- The calls contact, clock, setting and fresh exchange, by what their tests say.
 -- Assumes nothing.
-use Rattle.std.proofs.Common.{◌≡◌, ℕ, ◌<◌, ◌≤◌, Bool, true, false, cond, not, ◌&&◌, ◌||◌, ltb, leb, List, [], ◌∷◌, ◌++◌, length, sym, refl, ap, ◌∙◌, ap₂, arith, le-ltb, lt-ltb, le-leb}
+use Rattle.std.proofs.Common.{◌≡◌, ℕ, ◌<◌, ◌≤◌, Bool, true, false, cond, not, ◌&&◌, ◌||◌, ltb, leb, List, [], ◌∷◌, ◌++◌, Result, Ok, Err, length, ◌⊎◌, inl, inr, sym, refl, ap, ◌∙◌, ap₂, arith, le-ltb, lt-ltb, le-leb, Option, Some, None}
 use borrow.Author.Tests.{lt-leb}
 use Rattle.courier_core.specs.Core.{verification_byte}
 use Rattle.courier_core.specs.declared.ContactId.{ContactId}
 use Rattle.courier_core.specs.declared.Verification.{Verification}
 use Rattle.courier_core.specs.declared.Refusal.{Refusal}
 use Rattle.courier_core.specs.declared.Refusal.TheVariants as refusal
-use Rattle.table.specs.declared.Found.{Found}
-use Rattle.table.specs.declared.Found.TheVariants.{At, Nothing}
 use Rattle.table.specs.Lists.{replace_at, is_at}
 use Rattle.table.specs.Rows.{held, join, written}
 use Rattle.table.specs.Codec.{table_of, with_table, TableNow}
 use Rattle.state.specs.declared.CourierConfig.{CourierConfig}
-use Rattle.state.specs.declared.Configured.{Configured}
-use Rattle.state.specs.declared.Configured.TheVariants as configured
 use Rattle.state.specs.Config.{in_range, config_new}
 use Rattle.rows.specs.declared.Device.{Device}
 use Rattle.rows.specs.declared.Exchange.{Exchange}
@@ -28,9 +24,7 @@ use Rattle.model.specs.Contacts.{set_clock, known, contact_place, put_contact, c
 use Rattle.model.specs.Step.{step, tests, perform}
 use Rattle.model.specs.Areas.{Areas, Written, view, view_session, store, store_device, store_session}
 use Rattle.model.specs.Lent.{Does, no_answers, device_in, contacts_in, exchange_in}
-use Rattle.contacts.specs.Answers.{said_of, opened_of, device_with}
-use Rattle.contacts.specs.declared.Said.TheVariants as said
-use Rattle.contacts.specs.declared.Opened.TheVariants as opened
+use Rattle.contacts.specs.Answers.{said_of, opened_of}
 use Rattle.table.proofs.TableLaws.{length_table}
 use Rattle.contacts.proofs.FindLaws.{is_known_lem}
 use Rattle.model.proofs.CallLaws.{refused_here, not_here, no_test, quiet_call, refused_call}
@@ -46,87 +40,83 @@ module _ (d : Device) (x : List ℕ) (id : ContactId) (v : Verification) where
   refuses = not (known T id) && leb 256 (length T)
 
   -- the table after the call, by the place of the contact
-  put : Found → ℕ → List Contact
+  put : Option ℕ → ℕ → List Contact
   put f b = match_found f (λ i. replace_at i (entry b) T) (T ++ (entry b ∷ []))
 
-  module _ {f : Found} (e : f ≡ contact_place T id) where
+  module _ {f : Option ℕ} (e : f ≡ contact_place T id) where
     put_at : {b : ℕ} → b ≡ verification_byte v → put_contact T id v ≡ put f b
     unfolding put_contact put
     put_at q = ap₂ put (sym e) (sym q)
 
-    refuses_at : {n : ℕ} {b : Bool} → length x ≡ 2304 → n ≡ held 2304 9 d.contacts → leb 256 n ≡ b → refuses ≡ (not (is_at f) && b)
-    refuses_at l h t =
+    refuses_at : {n : ℕ} {b : Bool} → n ≡ held (length x) 9 d.contacts → leb 256 n ≡ b → refuses ≡ (not (is_at f) && b)
+    refuses_at h t =
         ap₂ (λ (k m : _). not k && m) (sym (is_known_lem d.contacts x id f e))
-        (ap (leb 256) (length_table contact_codec d.contacts x ∙ ap (λ (m : ℕ). held m 9 d.contacts) l ∙ sym h) ∙ t)
+        (ap (leb 256) (length_table contact_codec d.contacts x ∙ sym h) ∙ t)
 
   module _ (a : Areas) where
     abbrev lent : Areas
     lent = device_in d (contacts_in x a)
 
-    taken : {n : ℕ} {y : List ℕ} {ts : List Contact} {r : Device} → refuses ≡ false → put_contact T id v ≡ ts → TableNow contact_codec x ts n y
-        → r ≡ device_with d.courier d.now_s n d
-        → Written said_of (step (view lent) (contact id v)) said.Done lent (device_in r (contacts_in y a)) no_answers no_answers
+    taken : {n : ℕ} {y : List ℕ} {ts : List Contact} → refuses ≡ false → put_contact T id v ≡ ts → TableNow contact_codec x ts n y
+        → Written said_of (step (view lent) (contact id v)) (Ok tt) lent (device_in (record d { contacts = n }) (contacts_in y a)) no_answers no_answers
     unfolding step tests perform contact_tests set_contact view store store_device store_session
-    taken {n} {y} t e N q =
+    taken t e N =
         quiet_call done (contacts_now (put_contact T id v)) (not_here _ _ _ t (no_test _)) refl
-        (ap (λ (k : Device). device_in k (contacts_in y a)) q
-        ∙ ap₂ (λ (m : ℕ) (z : List ℕ). device_in (device_with d.courier d.now_s m d) (contacts_in z a)) (N.count ∙ ap length (sym e))
+        (ap₂ (λ (m : ℕ) (z : List ℕ). device_in (record d { contacts = m }) (contacts_in z a)) (N.count ∙ ap length (sym e))
         (N.area ∙ ap (with_table contact_codec x) (sym e)))
 
-    module _ {b n : ℕ} {y : List ℕ} {r : Device} (w : b ≡ verification_byte v) (q : r ≡ device_with d.courier d.now_s n d) where
-      pub altered : {i : ℕ} → At i ≡ contact_place T id → TableNow contact_codec x (replace_at i (entry b) T) n y
-          → Written said_of (step (view lent) (contact id v)) said.Done lent (device_in r (contacts_in y a)) no_answers no_answers
+    module _ {b n : ℕ} {y : List ℕ} (w : b ≡ verification_byte v) where
+      pub altered : {i : ℕ} → Some i ≡ contact_place T id → TableNow contact_codec x (replace_at i (entry b) T) n y
+          → Written said_of (step (view lent) (contact id v)) (Ok tt) lent (device_in (record d { contacts = n }) (contacts_in y a)) no_answers no_answers
       unfolding put
-      altered {i} e N = taken (ap (λ (k : Bool). not k && leb 256 (length T)) (sym (is_known_lem d.contacts x id (At i) e))) (put_at e w) N q
+      altered {i} e N = taken (ap (λ (k : Bool). not k && leb 256 (length T)) (sym (is_known_lem d.contacts x id (Some i) e))) (put_at e w) N
 
-      pub added : {m : ℕ} → Nothing ≡ contact_place T id → length x ≡ 2304 → m ≡ held 2304 9 d.contacts → m < 256
+      pub added : {m : ℕ} → None ≡ contact_place T id → m ≡ held (length x) 9 d.contacts → m < 256
           → TableNow contact_codec x (T ++ (entry b ∷ [])) n y
-          → Written said_of (step (view lent) (contact id v)) said.Done lent (device_in r (contacts_in y a)) no_answers no_answers
+          → Written said_of (step (view lent) (contact id v)) (Ok tt) lent (device_in (record d { contacts = n }) (contacts_in y a)) no_answers no_answers
       unfolding put
-      added {m} e l h t N = taken (refuses_at e l h (lt-leb 256 m t)) (put_at e w) N q
+      added {m} e h t N = taken (refuses_at e h (lt-leb 256 m t)) (put_at e w) N
 
-    pub full : {m : ℕ} → Nothing ≡ contact_place T id → length x ≡ 2304 → m ≡ held 2304 9 d.contacts → 256 ≤ m
-        → Written said_of (step (view lent) (contact id v)) (said.Refused refusal.LogRecord) lent lent no_answers no_answers
+    pub full : {m : ℕ} → None ≡ contact_place T id → m ≡ held (length x) 9 d.contacts → 256 ≤ m
+        → Written said_of (step (view lent) (contact id v)) (Err refusal.LogRecord) lent lent no_answers no_answers
     unfolding step tests perform contact_tests view
-    full {m} e l h t = refused_call refusal.LogRecord (refused_here _ _ _ (refuses_at e l h (le-leb 256 m t))) refl refl
+    full {m} e h t = refused_call refusal.LogRecord (refused_here _ _ _ (refuses_at e h (le-leb 256 m t))) refl refl
 
 -- the clock
-pub clocked : (d : Device) (seconds : ℕ) {r : Device} → r ≡ device_with d.courier seconds d.contacts d
-    → Does said_of (clock seconds) said.Done (device_in d) (device_in r) no_answers no_answers
+pub clocked : (d : Device) (seconds : ℕ) → Does said_of (clock seconds) (Ok tt) (device_in d) (device_in (record d { now_s = seconds })) no_answers no_answers
 unfolding step tests perform set_clock store store_device store_session
-clocked d seconds q a = quiet_call done (now_snow seconds) (no_test _) refl (ap (λ (k : Device). device_in k a) q)
+clocked d seconds a = quiet_call done (now_snow seconds) (no_test _) refl refl
 
 -- the setting
 module _ (d : Device) (enabled : Bool) (copies lifetime : ℕ) where
   abbrev config : CourierConfig
   config = record { enabled = enabled; copies = copies; lifetime_min = lifetime }
 
-  abbrev choice : Bool → Configured
-  choice b = cond b (configured.As config) (configured.Refused refusal.Configuration)
+  abbrev choice : Bool → Result CourierConfig Refusal
+  choice b = cond b (Ok config) (Err refusal.Configuration)
 
-  pub set : {courier : CourierConfig} {r : Device} → r ≡ device_with courier d.now_s d.contacts d
-      → configured.As courier ≡ config_new enabled copies lifetime
-      → Does said_of (setting enabled copies lifetime) said.Done (device_in d) (device_in r) no_answers no_answers
+  pub set : {courier : CourierConfig} → Ok courier ≡ config_new enabled copies lifetime
+      → Does said_of (setting enabled copies lifetime) (Ok tt) (device_in d) (device_in (record d { courier = courier })) no_answers no_answers
   unfolding config_new step tests perform setting_tests set_config store store_device store_session
-  set {courier} {r} w q a = go (in_range copies lifetime) refl q
+  set {courier} q a = go (in_range copies lifetime) refl q
     where
-      go : (b : Bool) → in_range copies lifetime ≡ b → configured.As courier ≡ choice b
-          → Written said_of (step (view (device_in d a)) (setting enabled copies lifetime)) said.Done (device_in d a) (device_in r a) no_answers no_answers
+      go : (b : Bool) → in_range copies lifetime ≡ b → Ok courier ≡ choice b
+          → Written said_of (step (view (device_in d a)) (setting enabled copies lifetime)) (Ok tt) (device_in d a) (device_in (record d { courier = courier }) a) no_answers no_answers
       go true e f =
           let k : courier ≡ config = cc in
           quiet_call done (courier_now config) (not_here _ _ _ (ap not e) (no_test _)) refl
-          (ap (λ (x : Device). device_in x a) w ∙ ap (λ (x : CourierConfig). device_in (device_with x d.now_s d.contacts d) a) k)
+          (ap (λ (x : CourierConfig). device_in (record d { courier = x }) a) k)
       go false e f = let z : ◌≡◌ {A = ℕ} 0 1 = cc in absurd (omega arith)
 
-  pub not_set : {why : Refusal} → configured.Refused why ≡ config_new enabled copies lifetime
-      → Does said_of (setting enabled copies lifetime) (said.Refused why) (device_in d) (device_in d) no_answers no_answers
+  pub not_set : {why : Refusal} → Err why ≡ config_new enabled copies lifetime
+      → Does said_of (setting enabled copies lifetime) (Err why) (device_in d) (device_in d) no_answers no_answers
   unfolding config_new step tests perform setting_tests
   not_set {why} q a = go (in_range copies lifetime) refl q
     where
-      go : (b : Bool) → in_range copies lifetime ≡ b → configured.Refused why ≡ choice b
-          → Written said_of (step (view (device_in d a)) (setting enabled copies lifetime)) (said.Refused why) (device_in d a) (device_in d a) no_answers no_answers
+      go : (b : Bool) → in_range copies lifetime ≡ b → Err why ≡ choice b
+          → Written said_of (step (view (device_in d a)) (setting enabled copies lifetime)) (Err why) (device_in d a) (device_in d a) no_answers no_answers
       go true e f = let z : ◌≡◌ {A = ℕ} 0 1 = cc in absurd (omega arith)
-      go false e f = let k : why ≡ refusal.Configuration = cc in refused_call refusal.Configuration (refused_here _ _ _ (ap not e)) (ap said.Refused k) refl
+      go false e f = let k : why ≡ refusal.Configuration = cc in refused_call refusal.Configuration (refused_here _ _ _ (ap not e)) (ap Err k) refl
 
 -- a fresh exchange
 module _ (d : Device) (x : List ℕ) (peer : ContactId) (pre off : List ℕ) (e : Exchange) (a : Areas) where
@@ -136,29 +126,22 @@ module _ (d : Device) (x : List ℕ) (peer : ContactId) (pre off : List ℕ) (e 
   abbrev short : Bool
   short = ltb (length pre) 4096 || ltb (length off) 8704
 
-  long : 4096 ≤ length pre → 8704 ≤ length off → short ≡ false
-  long p o = ap₂ ◌||◌ (le-ltb (length pre) 4096 p) (le-ltb (length off) 8704 o)
-
-  too_short : short ≡ true → Written opened_of (step (view (with e)) (open_exchange peer)) (opened.Refused refusal.ShortArea) (with e) (with e) no_answers no_answers
+  pub too_short : (length pre < 4096) ⊎ ((4096 ≤ length pre) × (length off < 8704))
+      → Written opened_of (step (view (with e)) (open_exchange peer)) (Err refusal.ShortArea) (with e) (with e) no_answers no_answers
   unfolding step tests perform open_exchange_tests view view_session
-  too_short t = refused_call refusal.ShortArea (refused_here _ _ _ t) refl refl
+  too_short (inl h) = refused_call refusal.ShortArea (refused_here _ _ _ (ap (λ (b : Bool). b || ltb (length off) 8704) (lt-ltb (length pre) 4096 h))) refl refl
+  too_short (inr (p, h)) = refused_call refusal.ShortArea (refused_here _ _ _ (ap₂ ◌||◌ (le-ltb (length pre) 4096 p) (lt-ltb (length off) 8704 h))) refl refl
 
-  pub short_prefixes : length pre < 4096
-      → Written opened_of (step (view (with e)) (open_exchange peer)) (opened.Refused refusal.ShortArea) (with e) (with e) no_answers no_answers
-  short_prefixes h = too_short (ap (λ (b : Bool). b || ltb (length off) 8704) (lt-ltb (length pre) 4096 h))
+  module _ (p : 4096 ≤ length pre) (o : 8704 ≤ length off) where
+    long : short ≡ false
+    long = ap₂ ◌||◌ (le-ltb (length pre) 4096 p) (le-ltb (length off) 8704 o)
 
-  module _ (p : 4096 ≤ length pre) where
-    pub short_offers : length off < 8704
-        → Written opened_of (step (view (with e)) (open_exchange peer)) (opened.Refused refusal.ShortArea) (with e) (with e) no_answers no_answers
-    short_offers h = too_short (ap₂ ◌||◌ (le-ltb (length pre) 4096 p) (lt-ltb (length off) 8704 h))
-
-    pub stranger : 8704 ≤ length off → known (table_of contact_codec d.contacts x) peer ≡ false
-        → Written opened_of (step (view (with e)) (open_exchange peer)) (opened.Refused refusal.UnknownContact) (with e) (with e) no_answers no_answers
+    pub stranger : known (table_of contact_codec d.contacts x) peer ≡ false
+        → Written opened_of (step (view (with e)) (open_exchange peer)) (Err refusal.UnknownContact) (with e) (with e) no_answers no_answers
     unfolding step tests perform open_exchange_tests view view_session
-    stranger o k = refused_call refusal.UnknownContact (not_here _ _ _ (long p o) (refused_here _ _ _ (ap not k))) refl refl
+    stranger k = refused_call refusal.UnknownContact (not_here _ _ _ long (refused_here _ _ _ (ap not k))) refl refl
 
-    pub opens : 8704 ≤ length off → known (table_of contact_codec d.contacts x) peer ≡ true → {f : Exchange} → f ≡ fresh_exchange peer
-        → Written opened_of (step (view (with e)) (open_exchange peer)) (opened.As f) (with e) (with f) no_answers no_answers
+    pub opens : known (table_of contact_codec d.contacts x) peer ≡ true → {f : Exchange} → f ≡ fresh_exchange peer
+        → Written opened_of (step (view (with e)) (open_exchange peer)) (Ok f) (with e) (with f) no_answers no_answers
     unfolding step tests perform open_exchange_tests open_exchanged opened_for view view_session store store_device store_session with_table written join
-    opens o k q =
-        quiet_call done (opened_for peer) (not_here _ _ _ (long p o) (not_here _ _ _ (ap not k) (no_test _))) (ap opened.As q) (ap with q)
+    opens k q = quiet_call done (opened_for peer) (not_here _ _ _ long (not_here _ _ _ (ap not k) (no_test _))) (ap Ok q) (ap with q)

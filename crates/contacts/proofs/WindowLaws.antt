@@ -12,24 +12,20 @@ use Rattle.rows.specs.Rows.{reachable_codec, reachable_of}
 use Rattle.model.specs.Contacts.{known}
 use Rattle.model.specs.Window.{window_rows, strangers}
 
--- a contact's number is known as it is
-pub known_same : (ps : List Contact) {x y : ℕ} {b : Bool} → known ps (record { 0 = x }) ≡ b → x ≡ y → not (known ps (record { 0 = y })) ≡ not b
-known_same ps k e = ap (λ (n : ℕ). not (known ps (record { 0 = n }))) (sym e) ∙ ap not k
-
 -- the rows from i on decide
-module _ (ps : List Contact) (a : List ℕ) (n : ℕ) (held-n : n ≡ held (length a) 30 (length a / 30)) (i : ℕ)
+module _ (ps : List Contact) (a : List ℕ) (i : ℕ)
     (left : strangers ps (window_rows a) ≡ strangers ps (drop i (window_rows a))) where
   abbrev stranger : Reachable → Bool
   stranger r = not (known ps r.contact)
 
-  pub stranger_next : (v : ℕ) (b : Bool) → i < n → v ≡ num (part a (i * 30) 8) → not (known ps (record { 0 = v })) ≡ b
+  pub stranger_next : (v : ℕ) (b : Bool) → i < length a / 30 → v ≡ num (part a (i * 30) 8) → not (known ps (record { 0 = v })) ≡ b
       → strangers ps (window_rows a) ≡ (b || strangers ps (drop (i + 1) (window_rows a)))
-  unfolding strangers window_rows reachable_of
+  unfolding strangers window_rows reachable_of held
   stranger_next v b h e t =
       left ∙ any_next stranger (window_rows a) i _ b (table_next reachable_codec (length a / 30) a i (omega arith))
       (ap (λ (x : ℕ). not (known ps (record { 0 = x })))
       (ap num (part_part a (i * 30) 30 0 8 (omega arith) ∙ ap (λ (k : ℕ). part a k 8) (add-zero (i * 30))) ∙ sym e) ∙ t)
 
-  pub stranger_end : n ≤ i → false ≡ strangers ps (window_rows a)
-  unfolding strangers window_rows
+  pub stranger_end : length a / 30 ≤ i → false ≡ strangers ps (window_rows a)
+  unfolding strangers window_rows held
   stranger_end h = sym (left ∙ any_end stranger (window_rows a) i (omega (arith, length_table reachable_codec (length a / 30) a)))

@@ -1,257 +1,159 @@
 // Contacts and the clock in minutes, and the calls that set them: contact, setting, clock, fresh exchange.
 #![tactic(auto)]
 
-ghost use Rattle.std.specs.Prelude.{◌≡◌, ◌+◌, ◌*◌, ◌<◌, ◌≤◌, true, not, [], ◌∷◌, ◌++◌, length};
+ghost use Rattle.std.specs.Prelude.{◌≡◌, ◌+◌, ◌*◌, ◌<◌, ◌≤◌, true, not, [], ◌∷◌, ◌++◌, length, ◌==◌, MatchOption};
+ghost use Rattle.octets.specs.Bytes.{part};
 ghost use Rattle.table.specs.Lists.{replace_at};
-ghost use Rattle.table.specs.Rows.{held};
+ghost use Rattle.table.specs.Rows.{held, Fits};
 ghost use Rattle.table.specs.Codec.{table_of, TableNow};
 ghost use Rattle.rows.specs.declared.Exchange.{Exchange as AnExchange};
-ghost use Rattle.rows.specs.Rows.{contact_width, contact_codec};
+ghost use Rattle.rows.specs.Rows.{contact_width, contact_of, contact_codec};
 ghost use Rattle.model.specs.Calls.{contact as contact_call, setting as setting_call, clock as clock_call, open_exchange};
 ghost use Rattle.model.specs.Contacts.{now_min, lifetime_end, contact_place, known as known_of, is_verified, added_before};
 ghost use Rattle.model.specs.Window.{window_rows, strangers as some_stranger};
 ghost use Rattle.model.specs.Lent.{Does, no_answers, device_in, contacts_in, exchange_in};
-ghost use Rattle.contacts.specs.Answers.{said_of, opened_of, exchange_after, device_with};
+ghost use Rattle.contacts.specs.Answers.{said_of, opened_of, exchange_after};
 
 use courier_core::{ContactId, Refusal, Verification};
-use rows::{Contact, Device, Exchange};
-use state::{Configured, CourierConfig};
-use table::Found;
+use rows::{CONTACT_WIDTH, Contact, Device, Exchange, OFFER_WIDTH, REACHABLE_WIDTH, Row};
+use state::CourierConfig;
+
+// The byte of a verified contact's row.
+const VERIFIED: u8 = 1;
+
+const MAX_CONTACTS: usize = 256;
+
+// An exchange lists up to 512 prefixes of 8 bytes, and up to 512 offers.
+const PREFIX_AREA: usize = 512 * 8;
+
+const OFFER_AREA: usize = 512 * OFFER_WIDTH;
 
 // ---- time
 
+#[tactic(auto, unfolding(model::specs::Contacts::now_min))]
 pub fn now_min(seconds: u64) -> u32
     ensures { result ≡ now_min seconds }
 {
-    let minute = seconds / 60;
-    if minute < 4294967295 {
-        minute as u32
-    } else {
-        4294967295
-    }
+    (seconds / 60).min(u32::MAX as u64) as u32
 }
 
+#[tactic(auto, unfolding(model::specs::Contacts::lifetime_end))]
 pub fn lifetime_end(seconds: u64, config: CourierConfig) -> u32
     ensures { result ≡ lifetime_end seconds config }
 {
-    let minute = now_min(seconds) as u64;
-    let end = minute + config.lifetime_min as u64;
-    if end < 4294967295 {
-        end as u32
-    } else {
-        4294967295
-    }
+    now_min(seconds).saturating_add(u32::from(config.lifetime_min))
 }
 
 // ---- contacts: a count that may be anything is cut to the rows that fit
 
+fn contact_count(contacts: &[u8], count: usize) -> usize
+    ensures { Fits (length contacts.now) contact_width count result }
+{
+    table::fit(contacts.len(), CONTACT_WIDTH, count)
+}
+
 // Where a contact stands.
-pub fn contact_place(contacts: &[u8], count: usize, id: ContactId) -> Found
+pub fn contact_place(contacts: &[u8], count: usize, id: ContactId) -> Option<usize>
     ensures { result ≡ contact_place (table_of contact_codec count contacts.now) id }
 {
-    let n = table::fit(contacts.len(), rows::CONTACT_WIDTH, count);
-    let mut i = 0;
-    while i < n {
-        if octets::get_u64(contacts, i * rows::CONTACT_WIDTH) == id.0 {
-            return Found::At(i);
-        }
-        i += 1;
-    }
-    Found::Nothing
+    let n = contact_count(contacts, count);
+    table::position(contacts, CONTACT_WIDTH, n, |row| {
+        ContactId(octets::get_u64(row, 0)) == id
+    })
 }
 
 pub fn known(contacts: &[u8], count: usize, id: ContactId) -> bool
     ensures { result ≡ known_of (table_of contact_codec count contacts.now) id }
 {
-    match contact_place(contacts, count, id) {
-        Found::At(_) => true,
-        Found::Nothing => false,
-    }
+    contact_place(contacts, count, id).is_some()
 }
 
+// Is the contact in row i verified?
+fn verified_at(contacts: &[u8], i: usize) -> bool
+    requires { i * contact_width + contact_width ≤ length contacts.now }
+    ensures { result ≡ (contact_of (part contacts.now (i * contact_width) contact_width)).verification == 1 }
+{
+    Contact::read(contacts, i * CONTACT_WIDTH).verification == VERIFIED
+}
+
+#[tactic(auto, using(crate::proofs::FindLaws::place_fits, crate::proofs::FindLaws::verified_some, crate::proofs::FindLaws::verified_none))]
 pub fn is_verified(contacts: &[u8], count: usize, id: ContactId) -> bool
     ensures { result ≡ is_verified (table_of contact_codec count contacts.now) id }
 {
-    match contact_place(contacts, count, id) {
-        Found::At(i) => {
-            let row = rows::contact_at(contacts, i * rows::CONTACT_WIDTH);
-            row.verification == 1
-        }
-        Found::Nothing => false,
-    }
+    contact_place(contacts, count, id).is_some_and(|i| verified_at(contacts, i))
 }
 
 // How many contacts were added before this one.
 pub fn added_before(contacts: &[u8], count: usize, id: ContactId) -> usize
     ensures { result ≡ added_before (table_of contact_codec count contacts.now) id }
 {
-    match contact_place(contacts, count, id) {
-        Found::At(i) => i,
-        Found::Nothing => table::fit(contacts.len(), rows::CONTACT_WIDTH, count),
-    }
+    contact_place(contacts, count, id).unwrap_or(contact_count(contacts, count))
 }
 
 // Is a contact not known? The one before it is, and so it is looked for only where it is another.
-fn is_stranger(contacts: &[u8], count: usize, before: u64, id: u64) -> bool
-    requires { known_of (table_of contact_codec count contacts.now) (record { 0 = before }) ≡ true }
-    ensures { result ≡ not (known_of (table_of contact_codec count contacts.now) (record { 0 = id })) }
+fn is_stranger(contacts: &[u8], count: usize, before: Option<ContactId>, id: ContactId) -> bool
+    requires { MatchOption before Unit (λ b. known_of (table_of contact_codec count contacts.now) b ≡ true) }
+    ensures { result ≡ not (known_of (table_of contact_codec count contacts.now) id) }
 {
-    if before == id {
-        return false;
-    }
-    !known(contacts, count, ContactId(id))
+    before != Some(id) && !known(contacts, count, id)
 }
 
 // Number 2 of a window: a contact in it isn't known. The rows of a contact follow each other.
 pub fn strangers(contacts: &[u8], count: usize, window: &[u8]) -> bool
     ensures { result ≡ some_stranger (table_of contact_codec count contacts.now) (window_rows window.now) }
 {
-    let n = table::fit(
-        window.len(),
-        rows::REACHABLE_WIDTH,
-        window.len() / rows::REACHABLE_WIDTH,
-    );
-    if n == 0 {
-        return false;
-    }
-    let mut before = octets::get_u64(window, 0);
-    if !known(contacts, count, ContactId(before)) {
-        return true;
-    }
-    let mut i = 0;
-    while i < n {
-        let id = octets::get_u64(window, i * rows::REACHABLE_WIDTH);
+    let mut before = None;
+    for i in 0..window.len() / REACHABLE_WIDTH {
+        let id = ContactId(octets::get_u64(window, i * REACHABLE_WIDTH));
         if is_stranger(contacts, count, before, id) {
             return true;
         }
-        before = id;
-        i += 1;
+        before = Some(id);
     }
     false
 }
 
 // ---- the calls
 
-// What a call says that has no more to say.
-#[derive(Drop)]
-pub enum Said {
-    Done,
-    Refused(Refusal),
-}
-
-#[derive(Drop)]
-pub struct Answered {
-    pub device: Device,
-    pub said: Said,
-}
-
-#[derive(Clone, Copy)]
-pub enum Opened {
-    As(Exchange),
-    Refused(Refusal),
-}
-
-// The device with another setting, clock and count of contacts.
-fn device_with(device: Device, courier: CourierConfig, seconds: u64, contacts: usize) -> Device
-    ensures { result ≡ device_with courier seconds contacts device }
-{
-    Device {
-        courier,
-        now_s: seconds,
-        contacts,
-        own: device.own,
-        carried: device.carried,
-        tombstones: device.tombstones,
-        bad_tags: device.bad_tags,
-        next_slot: device.next_slot,
-    }
-}
-
 // Sets the clock.
-pub fn clock(device: Device, seconds: u64) -> Answered
-    ensures { Does said_of (clock_call seconds) result.said (device_in device) (device_in result.device) no_answers no_answers }
+pub fn clock(device: &mut Device, seconds: u64)
+    ensures { Does said_of (clock_call seconds) (Ok tt) (device_in device.old) (device_in device.new) no_answers no_answers }
 {
-    let courier = device.courier;
-    Answered {
-        device: device_with(device, courier, seconds, device.contacts),
-        said: Said::Done,
-    }
+    device.now_s = seconds;
 }
 
 // Sets the configuration, if it is in its range.
-pub fn setting(device: Device, enabled: bool, copies: u8, lifetime: u16) -> Answered
-    ensures { Does said_of (setting_call enabled copies lifetime) result.said (device_in device) (device_in result.device) no_answers no_answers }
+pub fn setting(device: &mut Device, enabled: bool, copies: u8, lifetime: u16) -> Result<(), Refusal>
+    ensures { Does said_of (setting_call enabled copies lifetime) result (device_in device.old) (device_in device.new) no_answers no_answers }
 {
-    match CourierConfig::new(enabled, copies, lifetime) {
-        Configured::As(courier) => Answered {
-            device: device_with(device, courier, device.now_s, device.contacts),
-            said: Said::Done,
-        },
-        Configured::Refused(why) => Answered {
-            device,
-            said: Said::Refused(why),
-        },
-    }
-}
-
-// Puts a contact in place of the one at i; answers how many there are.
-fn alter(contacts: &mut [u8], count: usize, i: usize, row: Contact) -> usize
-    requires { i < held (length contacts.old) contact_width count }
-    ensures { TableNow contact_codec contacts.old (replace_at i row (table_of contact_codec count contacts.old)) result contacts.new }
-{
-    let n = table::fit(contacts.len(), rows::CONTACT_WIDTH, count);
-    let b = rows::contact_bytes(row);
-    table::replace(contacts, rows::CONTACT_WIDTH, n, i, &b);
-    n
-}
-
-// Adds a contact behind the last; answers how many there are.
-fn add(contacts: &mut [u8], count: usize, row: Contact) -> usize
-    requires { held (length contacts.old) contact_width count * contact_width + contact_width ≤ length contacts.old }
-    ensures { TableNow contact_codec contacts.old (table_of contact_codec count contacts.old ++ (row ∷ [])) result contacts.new }
-{
-    let n = table::fit(contacts.len(), rows::CONTACT_WIDTH, count);
-    let b = rows::contact_bytes(row);
-    table::push(contacts, rows::CONTACT_WIDTH, n, &b)
+    device.courier = CourierConfig::new(enabled, copies, lifetime)?;
+    Ok(())
 }
 
 // Adds a contact, or alters a known one in its place. A 257th is refused.
 pub fn contact(
-    device: Device,
+    device: &mut Device,
     id: ContactId,
     verification: Verification,
     contacts: &mut [u8; 2304],
-) -> Answered
-    ensures { Does said_of (contact_call id verification) result.said (λ a. device_in device (contacts_in contacts.old a)) (λ a. device_in result.device (contacts_in contacts.new a)) no_answers no_answers }
+) -> Result<(), Refusal>
+    ensures { Does said_of (contact_call id verification) result (λ a. device_in device.old (contacts_in contacts.old a)) (λ a. device_in device.new (contacts_in contacts.new a)) no_answers no_answers }
 {
-    let courier = device.courier;
     let count = device.contacts;
     let row = Contact {
         id,
-        verification: courier_core::verification_byte(verification),
+        verification: verification.byte(),
     };
     match contact_place(contacts, count, id) {
-        Found::At(i) => {
-            let n = alter(contacts, count, i, row);
-            Answered {
-                device: device_with(device, courier, device.now_s, n),
-                said: Said::Done,
+        Some(i) => device.contacts = Contact::replace(contacts, count, i, row),
+        None => {
+            if contact_count(contacts, count) >= MAX_CONTACTS {
+                return Err(Refusal::LogRecord);
             }
-        }
-        Found::Nothing => {
-            if 256 <= table::fit(2304, rows::CONTACT_WIDTH, count) {
-                return Answered {
-                    device,
-                    said: Said::Refused(Refusal::LogRecord),
-                };
-            }
-            let n = add(contacts, count, row);
-            Answered {
-                device: device_with(device, courier, device.now_s, n),
-                said: Said::Done,
-            }
+            device.contacts = Contact::push(contacts, count, row);
         }
     }
+    Ok(())
 }
 
 // An exchange opened for a contact, nothing listed or offered in it.
@@ -261,19 +163,16 @@ pub fn fresh_exchange(
     contacts: &[u8; 2304],
     prefixes: &[u8],
     offers: &[u8],
-) -> Opened
+) -> Result<Exchange, Refusal>
     ensures { (e : AnExchange) → Does opened_of (open_exchange peer) result
         (λ a. device_in device (contacts_in contacts.now (exchange_in e prefixes.now offers.now a)))
         (λ a. device_in device (contacts_in contacts.now (exchange_in (exchange_after e result) prefixes.now offers.now a))) no_answers no_answers }
 {
-    if prefixes.len() < 4096 {
-        return Opened::Refused(Refusal::ShortArea);
+    if prefixes.len() < PREFIX_AREA || offers.len() < OFFER_AREA {
+        return Err(Refusal::ShortArea);
     }
-    if offers.len() < 8704 {
-        return Opened::Refused(Refusal::ShortArea);
+    if !known(contacts, device.contacts, peer) {
+        return Err(Refusal::UnknownContact);
     }
-    if known(contacts, device.contacts, peer) {
-        return Opened::As(Exchange::fresh(peer));
-    }
-    Opened::Refused(Refusal::UnknownContact)
+    Ok(Exchange::fresh(peer))
 }

@@ -3,7 +3,7 @@
 use mathlib.Core.Path.{◌≡◌, refl, sym, ap}
 use mathlib.Core.Bool.{Bool, true, false}
 use mathlib.Core.List.{List, [], ◌∷◌, ◌++◌}
-use mathlib.Core.Option.{none, some}
+use Rattle.std.specs.Prelude.{Some, None, Ok}
 use Prim.Native.Nat.{ℕ, ◌+◌, ◌*◌, ◌^◌, ◌≤◌, ◌<◌}
 use native.Mathlib.Omega.{arith}
 use lib.ListN.{length, take, drop}
@@ -13,11 +13,9 @@ use Rattle.table.specs.Lists.{more}
 use Rattle.table.specs.Lists as lists
 use Rattle.chain.specs.Chain.{is_bucket, window}
 use Rattle.courier.specs.Courier.{carried_length, envelope_valid}
-use Rattle.courier.proofs.Laws.{valid_if, not_valid, not_carried}
+use Rattle.courier.proofs.Laws.{valid_if, not_valid}
 use Rattle.state.specs.declared.Carried.{Carried}
 use Rattle.state.specs.declared.Tombstone.{Tombstone}
-use Rattle.state.specs.declared.Configured.TheVariants as configured
-use Rattle.state.specs.declared.RowAnswer.TheVariants as row_answer
 use Rattle.state.specs.Config.{in_range, config_new, config_number}
 use Rattle.state.specs.Held.{carried, tombstone, held_row, row_answered, row_area, held_decode}
 use Rattle.state.proofs.RowLaws.{ProperTombstone}
@@ -57,8 +55,8 @@ pub record Corners : Type 0 where
   pub expiry_10 : (len copies : ℕ) → envelope_valid len copies 10 10 ≡ false
   -- ---- state.rs
   -- (1, 60) and (16, 10,080) pass
-  pub config_least : (enabled : Bool) → config_new enabled 1 60 ≡ configured.As (record { enabled = enabled; copies = 1; lifetime_min = 60 })
-  pub config_most : (enabled : Bool) → config_new enabled 16 10080 ≡ configured.As (record { enabled = enabled; copies = 16; lifetime_min = 10080 })
+  pub config_least : (enabled : Bool) → config_new enabled 1 60 ≡ Ok (record { enabled = enabled; copies = 1; lifetime_min = 60 })
+  pub config_most : (enabled : Bool) → config_new enabled 16 10080 ≡ Ok (record { enabled = enabled; copies = 16; lifetime_min = 10080 })
   -- 0, 17, 59 and 10,081 fail
   pub copies_0 : (enabled : Bool) (lifetime : ℕ) → config_number (config_new enabled 0 lifetime) ≡ 7
   pub copies_17 : (enabled : Bool) (lifetime : ℕ) → config_number (config_new enabled 17 lifetime) ≡ 7
@@ -66,20 +64,20 @@ pub record Corners : Type 0 where
   pub lifetime_10081 : (enabled : Bool) (copies : ℕ) → config_number (config_new enabled copies 10081) ≡ 7
   -- a carried row whose copies fell to 0 is still written: its bytes, the copies 0, at the front of the area, and the rest of it stays
   pub no_copies_written : (r : Carried) (ct area : List ℕ) → ProperCarried r → r.header.copies ≡ 0 → 2110 ≤ length area
-      → (row_answered (held_row (carried r ct)) area ≡ row_answer.Written (46 + length (take 2064 ct)))
+      → (row_answered (held_row (carried r ct)) area ≡ Ok (46 + length (take 2064 ct)))
       × (row_area (held_row (carried r ct)) area
       ≡ (0 ∷ []) ++ be 8 r.depositor.0 ++ r.header.tag ++ r.header.c ++ be 4 r.header.expiry_min ++ (0 ∷ []) ++ take 2064 ct
       ++ drop (46 + length (take 2064 ct)) area)
   -- and `Held::decode` refuses it
-  pub no_copies_refused : (r : Carried) (ct : List ℕ) → ProperCarried r → r.header.copies ≡ 0 → held_decode (held_row (carried r ct)) ≡ none
+  pub no_copies_refused : (r : Carried) (ct : List ℕ) → ProperCarried r → r.header.copies ≡ 0 → held_decode (held_row (carried r ct)) ≡ None
   -- reading back equals what was written
   pub carried_read_back : (r : Carried) (ct : List ℕ) → ProperCarried r → InnerCarried (length ct) → 0 < r.header.copies
-      → 0 < r.header.expiry_min → held_decode (held_row (carried r ct)) ≡ some (carried r ct)
+      → 0 < r.header.expiry_min → held_decode (held_row (carried r ct)) ≡ Some (carried r ct)
   -- only where copies and expiry are above 0
-  pub read_back_only : (r : Carried) (ct : List ℕ) → ProperCarried r → held_decode (held_row (carried r ct)) ≡ some (carried r ct)
+  pub read_back_only : (r : Carried) (ct : List ℕ) → ProperCarried r → held_decode (held_row (carried r ct)) ≡ Some (carried r ct)
       → (0 < r.header.copies) × (0 < r.header.expiry_min)
   -- a tombstone row has no such condition
-  pub tombstone_read_back : (t : Tombstone) → ProperTombstone t → held_decode (held_row (tombstone t)) ≡ some (tombstone t)
+  pub tombstone_read_back : (t : Tombstone) → ProperTombstone t → held_decode (held_row (tombstone t)) ≡ Some (tombstone t)
   -- ---- couriering.rs, a comment a line (model/proofs/Corners.antt)
   pub couriering : CourieringCorners
 
@@ -94,7 +92,8 @@ fails enabled copies lifetime k = ap config_number (sym (refused enabled copies 
 
 -- a length that no courier carries is not valid, whatever the copies and the expiry
 never_valid : (len : ℕ) → carried_length len ≡ false → (copies expiry minute : ℕ) → envelope_valid len copies expiry minute ≡ false
-never_valid len h copies expiry minute = sym (not_carried len copies expiry minute h)
+unfolding envelope_valid
+never_valid len h copies expiry minute = rw h
 
 pub corners : Corners
 unfolding carried_length in_range config_new

@@ -2,21 +2,22 @@
 -- Assumes nothing.
 use mathlib.Core.Path.{◌≡◌, refl, sym, ap, ap₂, ◌∙◌}
 use mathlib.Core.Bool.{Bool, true, false, cond}
+use Rattle.std.specs.Prelude.{Option, Some, None}
+use Rattle.std.proofs.lemmas.Option.{cond_some}
 use mathlib.Core.List.{List, [], ◌∷◌, ◌++◌}
 use Prim.Native.Nat.{ℕ, ◌+◌, ◌^◌, ◌≤◌, ◌<◌}
 use native.Mathlib.Nat.{add-zero}
 use native.Mathlib.Omega.{arith}
 use lib.ListN.{length, get_or, set, length-append}
 use lib.Dec.{leb}
-use borrow.Author.Tests.{le-leb, lt-leb, leb-true, leb-false}
+use borrow.Author.Tests.{le-leb, leb-true, leb-false}
 use Rattle.octets.specs.Bytes.{Bytes, splice, part, num, be}
 use Rattle.octets.proofs.Parts.{part_left, part_part, part_add, part_whole, part_right, splice_then, splice_all, length_splice}
 use Rattle.octets.proofs.Numbers.{length_be, num_be}
 use Rattle.octets.proofs.Parts.{set_splice, part_hit, part_one}
 use Rattle.octets.proofs.Numbers.{num_one, be_num_part}
 use Rattle.courier.specs.declared.Header.{Header}
-use Rattle.courier.specs.declared.HeaderRead.{HeaderRead}
-use Rattle.courier.specs.Courier.{header_bytes, header_of, no_header, envelope_decode}
+use Rattle.courier.specs.Courier.{header_bytes, header_of, envelope_decode}
 
 -- what the types of a header's fields say of them
 pub record Proper (h : Header) : Type 0 where
@@ -100,49 +101,30 @@ header_read s at t u e n h et eu ee en =
 
 -- ---- whole or not
 
-abbrev pub found : Header → HeaderRead
-found h = record { whole = true; header = h }
-
-abbrev short : HeaderRead
-short = record { whole = false; header = no_header }
-
-pub decode_whole : (s : List ℕ) (at : ℕ) (h : Header) → at + 37 ≤ length s → h ≡ header_of (part s at 37) → found h ≡ envelope_decode s at
+pub decode_whole : (s : List ℕ) (at : ℕ) → at + 37 ≤ length s → Some (header_of (part s at 37)) ≡ envelope_decode s at
 unfolding envelope_decode
-decode_whole s at h k e = ap found e ∙ rw (le-leb (at + 37) (length s) k)
-
-pub decode_short : (s : List ℕ) (at : ℕ) (h : Header) → length s < at + 37 → h ≡ no_header → record { whole = false; header = h } ≡ envelope_decode s at
-unfolding envelope_decode
-decode_short s at h k e =
-    let r : record { whole = false; header = h } ≡ short = ap (λ (x : Header). record { whole = false; header = x }) e in
-    r ∙ rw (lt-leb (at + 37) (length s) k)
-
-abbrev header_in : HeaderRead → Header
-header_in r = r.header
+decode_whole s at k = rw (le-leb (at + 37) (length s) k)
 
 -- what an envelope that was read says of the bytes
-pub whole_header : (s : List ℕ) (at : ℕ) (r : HeaderRead) → r ≡ envelope_decode s at → r.whole ≡ true
-    → (at + 37 ≤ length s) × (r.header ≡ header_of (part s at 37))
+pub whole_header : {r : Option Header} (s : List ℕ) (at : ℕ) (h : Header) → r ≡ envelope_decode s at → r ≡ Some h
+    → (at + 37 ≤ length s) × (h ≡ header_of (part s at 37))
 unfolding envelope_decode
-whole_header s at r e w = go (leb (at + 37) (length s)) refl e
-  where
-    go : (b : Bool) → leb (at + 37) (length s) ≡ b → r ≡ cond b (found (header_of (part s at 37))) short → (at + 37 ≤ length s) × (r.header ≡ header_of (part s at 37))
-    go true p q = (leb-true (at + 37) (length s) p, ap header_in q)
-    go false p q = let z : ◌≡◌ {A = ℕ} 0 1 = cc in absurd (omega arith)
+whole_header s at h e w = let p = cond_some (leb (at + 37) (length s)) _ h (sym e ∙ w) in (leb-true (at + 37) (length s) p.0, sym p.1)
 
-pub not_whole : (s : List ℕ) (at : ℕ) (r : HeaderRead) → r ≡ envelope_decode s at → r.whole ≡ false → length s < at + 37
+pub not_whole : {r : Option Header} (s : List ℕ) (at : ℕ) → r ≡ envelope_decode s at → r ≡ None → length s < at + 37
 unfolding envelope_decode
-not_whole s at r e w = go (leb (at + 37) (length s)) refl e
+not_whole s at e w = go (leb (at + 37) (length s)) refl (sym e ∙ w)
   where
-    go : (b : Bool) → leb (at + 37) (length s) ≡ b → r ≡ cond b (found (header_of (part s at 37))) short → length s < at + 37
+    go : (b : Bool) → leb (at + 37) (length s) ≡ b → cond b (Some (header_of (part s at 37))) None ≡ None → length s < at + 37
     go false p q = leb-false (at + 37) (length s) p
-    go true p q = let z : ◌≡◌ {A = ℕ} 0 1 = cc in absurd (omega arith)
+    go true p q = cc
 
 -- an envelope that is written is read back, whatever stands before and after it
-pub decode_encode : (x ct : List ℕ) (h : Header) → Proper h → envelope_decode (x ++ (header_bytes h ++ ct)) (length x) ≡ found h
+pub decode_encode : (x ct : List ℕ) (h : Header) → Proper h → envelope_decode (x ++ (header_bytes h ++ ct)) (length x) ≡ Some h
 decode_encode x ct h p =
     let l : length (x ++ (header_bytes h ++ ct)) ≡ length x + (37 + length ct) =
     length-append x (header_bytes h ++ ct) ∙ ap (λ (k : ℕ). length x + k) (length-append (header_bytes h) ct ∙ ap (λ (k : ℕ). k + length ct) (length_header h p)) in
     let e : part (x ++ (header_bytes h ++ ct)) (length x) 37 ≡ header_bytes h =
     ap (λ (k : ℕ). part (x ++ (header_bytes h ++ ct)) k 37) (sym (add-zero (length x))) ∙ part_right x (header_bytes h ++ ct) (length x) 0 37 refl
     ∙ part_left (header_bytes h) ct 0 37 (omega (arith, length_header h p)) ∙ part_whole (header_bytes h) 37 (length_header h p) in
-    sym (decode_whole (x ++ (header_bytes h ++ ct)) (length x) h (omega (arith, l)) (sym (ap header_of e ∙ header_of_bytes h p)))
+    sym (decode_whole (x ++ (header_bytes h ++ ct)) (length x) (omega (arith, l))) ∙ ap Some (ap header_of e ∙ header_of_bytes h p)

@@ -1,20 +1,20 @@
 -- Laws of what a courier takes and of its answer as a byte.
 -- Assumes nothing.
-use mathlib.Core.Path.{◌≡◌, refl, sym, ◌∙◌}
+use mathlib.Core.Path.{◌≡◌, refl, sym, ap, ◌∙◌}
 use mathlib.Core.Bool.{Bool, true, false, ◌&&◌}
 use Prim.Native.Nat.{ℕ, zero, suc, ◌-◌, ◌≤◌, ◌<◌}
 use native.Mathlib.Omega.{arith}
-use lib.ListN.{get_or-eq_default}
+use Rattle.std.specs.Prelude.{Some, None}
+use Rattle.std.proofs.lemmas.Option.{same_Some, none-some, slice_get_past}
 use lib.Dec.{leb, ltb}
-use borrow.Author.Tests.{le-leb, lt-leb, leb-true, leb-false, ltb-true, lt-ltb}
+use borrow.Author.Tests.{leb-true, leb-false, ltb-true, lt-ltb}
 use Rattle.chain.specs.Chain.{is_bucket}
 use Rattle.courier.specs.declared.Custody.{Custody}
 use Rattle.courier.specs.declared.Custody.TheVariants as custody
-use Rattle.courier.specs.declared.CustodyRead.TheVariants as custody_read
 use Rattle.courier.specs.Courier.{carried_length, envelope_valid, custody_code, custody_codes, from_code}
 
 -- the custody byte and back
-pub code_back : (c : Custody) → from_code (custody_code c) ≡ custody_read.Known c
+pub code_back : (c : Custody) → from_code (custody_code c) ≡ Some c
 unfolding from_code
 code_back custody.Accepted = refl
 code_back custody.Full = refl
@@ -22,23 +22,23 @@ code_back custody.Duplicate = refl
 code_back custody.Off = refl
 code_back custody.Invalid = refl
 
-same : (a c : Custody) → custody_read.Known a ≡ custody_read.Known c → custody_code a ≡ custody_code c
-same a c e = cc
+same : (a c : Custody) → Some a ≡ Some c → custody_code a ≡ custody_code c
+same a c e = ap custody_code (same_Some a c e)
 
 -- a byte that is a code is the code's byte
-pub byte_back : (n : ℕ) (c : Custody) → from_code n ≡ custody_read.Known c → n ≡ custody_code c
+pub byte_back : (n : ℕ) (c : Custody) → from_code n ≡ Some c → n ≡ custody_code c
 unfolding from_code
 byte_back zero c e = same custody.Accepted c e
 byte_back (suc zero) c e = same custody.Full c e
 byte_back (suc (suc zero)) c e = same custody.Duplicate c e
 byte_back (suc (suc (suc zero))) c e = same custody.Off c e
 byte_back (suc (suc (suc (suc zero)))) c e = same custody.Invalid c e
-byte_back (suc (suc (suc (suc (suc n))))) c e = let z : ◌≡◌ {A = ℕ} 0 1 = cc in absurd (omega arith)
+byte_back (suc (suc (suc (suc (suc n))))) c e = absurd (none-some c e)
 
 -- every byte above 4 is refused
-pub no_code : (n : ℕ) → 4 < n → custody_read.Unknown ≡ from_code n
+pub no_code : (n : ℕ) → 4 < n → None ≡ from_code n
 unfolding from_code
-no_code n h = sym (get_or-eq_default custody_codes custody_read.Unknown h)
+no_code n h = sym (slice_get_past custody_codes n h)
 
 pub both : (a b : Bool) → (a && b) ≡ true → (a ≡ true) × (b ≡ true)
 both true b e = (refl, e)
@@ -60,33 +60,6 @@ valid_parts len copies expiry minute e =
     let f = both (carried_length len && ltb 0 copies) (ltb minute expiry) e in
     let g = both (carried_length len) (ltb 0 copies) f.0 in
     (g.0, ltb-true 0 copies g.1, ltb-true minute expiry f.1)
-
--- ---- the tests of `carried_length` and `valid`, one after the other
-
-pub too_short : (len : ℕ) → len < 16 → false ≡ carried_length len
-unfolding carried_length
-too_short len h = rw (lt-leb 16 len h)
-
-pub too_long : (len : ℕ) → 16 ≤ len → 2048 < len - 16 → false ≡ carried_length len
-unfolding carried_length
-too_long len h k = rw (le-leb 16 len h, lt-leb (len - 16) 2048 k)
-
-pub carried_if : (len : ℕ) (r : Bool) → 16 ≤ len → len - 16 ≤ 2048 → r ≡ is_bucket (len - 16) → r ≡ carried_length len
-unfolding carried_length
-carried_if len r h k e = e ∙ rw (le-leb 16 len h, le-leb (len - 16) 2048 k)
-
-module _ (len copies expiry minute : ℕ) where
-  pub not_carried : carried_length len ≡ false → false ≡ envelope_valid len copies expiry minute
-  unfolding envelope_valid
-  not_carried e = rw e
-
-  pub no_copies : carried_length len ≡ true → copies ≡ 0 → false ≡ envelope_valid len copies expiry minute
-  unfolding envelope_valid
-  no_copies e z = rw (e, z)
-
-  pub in_time : carried_length len ≡ true → (copies ≡ 0 → ⊥) → ltb minute expiry ≡ envelope_valid len copies expiry minute
-  unfolding envelope_valid
-  in_time e z = rw (e, lt-ltb 0 copies (omega arith))
 
 pub valid_if : (len copies expiry minute : ℕ) → carried_length len ≡ true → 0 < copies → minute < expiry → envelope_valid len copies expiry minute ≡ true
 unfolding envelope_valid

@@ -12,12 +12,12 @@ use Rattle.octets.specs.Bytes.{splice, part, same_bytes}
 use Rattle.octets.proofs.Parts.{part_whole}
 use Rattle.data.specs.declared.Encoded.{Encoded}
 use Rattle.data.specs.Leb128.{leb_in, leb128, encoded}
-use Rattle.kdf.specs.declared.Key.{Key}
-use Rattle.kdf.specs.declared.Digest.{Digest}
-use Rattle.kdf.specs.Kdf.{mac, kdf, hash, answered, key_as, digest_as}
+use Rattle.std.specs.Prelude.{Some}
+use Rattle.std.proofs.lemmas.Option.{same_Some}
+use Rattle.kdf.specs.Kdf.{mac, answered, key_as}
 use Rattle.chain.specs.declared.Dir.{Dir}
 use Rattle.chain.specs.Chain.{dir_label}
-use Rattle.courier.specs.Tags.{route_label, delivered_label, route_input, route_tag, delivered_secret, commitment_of, tombstone_matches, RouteBytes}
+use Rattle.courier.specs.Tags.{route_label, route_input, route_tag, commitment_of, tombstone_matches}
 
 -- an index has at most five bytes
 leb_length : (n v : ℕ) → length (leb_in n v) ≤ suc n
@@ -36,6 +36,11 @@ index_fits i e q =
     let z : length (leb128 i ++ replicate (5 - length (leb128 i)) 0) ≡ 5 =
     omega (arith, length-append (leb128 i) (replicate (5 - length (leb128 i)) 0), length-replicate {A = ℕ} (5 - length (leb128 i)) 0) in
     (ap (λ (x : Encoded). length x.bytes) q ∙ z, omega (arith, ap (λ (x : Encoded). x.len) q))
+
+-- an array whose first len bytes are a route tag's input
+pub record RouteBytes (dir : Dir) (generation idx : ℕ) (bytes : List ℕ) (len : ℕ) : Type 0 where
+  pub fits : len ≤ length bytes
+  pub input : take len bytes ≡ route_input dir generation idx
 
 -- the direction, the generation and the index, written one after the other
 pub route_made : (dir : Dir) (generation i label : ℕ) (e : Encoded) (x : List ℕ) → label ≡ dir_label dir → e ≡ encoded (leb128 i)
@@ -57,21 +62,10 @@ route_made dir generation i label e x el ee ex =
 
 -- ---- what comes out: both labels are short
 
-pub route_sent : (key : List ℕ) (dir : Dir) (generation i : ℕ) (x : List ℕ) (n : ℕ) (r : Key) → RouteBytes dir generation i x n
-    → r ≡ key_as route_label (mac key route_label (take (n - 0) x)) → r.bytes ≡ route_tag key dir generation i
+pub route_sent : (key : List ℕ) (dir : Dir) (generation i : ℕ) (x : List ℕ) (n : ℕ) (r : List ℕ) → RouteBytes dir generation i x n
+    → Some r ≡ key_as route_label (mac key route_label (take n x)) → r ≡ route_tag key dir generation i
 unfolding key_as answered route_tag
-route_sent key dir generation i x n r p e =
-    let z : n - 0 ≡ n = omega arith in
-    ap (λ (k : Key). k.bytes) e ∙ ap (mac key route_label) (ap (λ (k : ℕ). take k x) z ∙ p.input)
-
-pub secret_made : (key : List ℕ) (r : Key) → r ≡ key_as delivered_label (kdf key [] delivered_label [] 16) → r.bytes ≡ delivered_secret key
-unfolding key_as answered delivered_secret
-secret_made key r e = ap (λ (k : Key). k.bytes) e
-
-pub committed : (s : List ℕ) (r : Digest) (x : List ℕ) → r ≡ digest_as delivered_label (hash delivered_label s) → x ≡ take 16 r.bytes
-    → x ≡ commitment_of s
-unfolding digest_as answered commitment_of
-committed s r x e ex = ex ∙ ap (λ (d : Digest). take 16 d.bytes) e
+route_sent key dir generation i x n r p e = same_Some _ _ e ∙ ap (mac key route_label) p.input
 
 pub matched : (c s x : List ℕ) (r : Bool) → length c ≡ 16 → length x ≡ 16 → x ≡ commitment_of s
     → r ≡ same_bytes (part x 0 16) (part c 0 16) → r ≡ tombstone_matches c s

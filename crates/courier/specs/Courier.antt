@@ -1,14 +1,11 @@
 -- Document 01's courier.rs: the bytes of an envelope before its ciphertext, what a courier takes, and its answer as a byte.
 -- Assumes nothing.
-use Rattle.std.specs.Prelude.{ℕ, ◌+◌, ◌-◌, Bool, true, false, cond, ◌&&◌, List, [], ◌∷◌, ◌++◌, length, get_or, replicate, leb, ltb}
+use Rattle.std.specs.Prelude.{ℕ, ◌+◌, ◌-◌, Bool, cond, ◌&&◌, List, [], ◌∷◌, ◌++◌, length, slice_get, leb, ltb, Option, Some, None}
 use Rattle.octets.specs.Bytes.{part, num, be}
 use Rattle.chain.specs.Chain.{is_bucket}
 use Rattle.courier.specs.declared.Header.{Header}
-use Rattle.courier.specs.declared.HeaderRead.{HeaderRead}
 use Rattle.courier.specs.declared.Custody.{Custody}
 use Rattle.courier.specs.declared.Custody.TheVariants as custody
-use Rattle.courier.specs.declared.CustodyRead.{CustodyRead}
-use Rattle.courier.specs.declared.CustodyRead.TheVariants as custody_read
 
 -- `Envelope::encode`: tag 16, commitment 16, expiry 4, copies 1; the ciphertext follows
 unfoldable pub header_bytes : Header → List ℕ
@@ -18,14 +15,9 @@ header_bytes h = h.tag ++ h.c ++ be 4 h.expiry_min ++ (h.copies ∷ [])
 unfoldable pub header_of : List ℕ → Header
 header_of b = record { tag = part b 0 16; c = part b 16 16; expiry_min = num (part b 32 4); copies = num (part b 36 1) }
 
-abbrev pub no_header : Header
-no_header = record { tag = replicate 16 0; c = replicate 16 0; expiry_min = 0; copies = 0 }
-
 -- `Envelope::decode` of the bytes of s from at on: none if they are fewer than 37
-unfoldable pub envelope_decode : List ℕ → ℕ → HeaderRead
-envelope_decode s at =
-    cond (leb (at + 37) (length s)) (record { whole = true; header = header_of (part s at 37) })
-    (record { whole = false; header = no_header })
+unfoldable pub envelope_decode : List ℕ → ℕ → Option Header
+envelope_decode s at = cond (leb (at + 37) (length s)) (Some (header_of (part s at 37))) None
 
 -- a ciphertext length that a courier carries: less 16 it is a bucket of at most 2,048
 unfoldable pub carried_length : ℕ → Bool
@@ -43,11 +35,10 @@ custody_code custody.Duplicate = 2
 custody_code custody.Off = 3
 custody_code custody.Invalid = 4
 
-abbrev pub custody_codes : List CustodyRead
-custody_codes =
-    custody_read.Known custody.Accepted ∷ custody_read.Known custody.Full ∷ custody_read.Known custody.Duplicate
-    ∷ custody_read.Known custody.Off ∷ custody_read.Known custody.Invalid ∷ []
+-- each stands in the list where its code says
+abbrev pub custody_codes : List Custody
+custody_codes = custody.Accepted ∷ custody.Full ∷ custody.Duplicate ∷ custody.Off ∷ custody.Invalid ∷ []
 
 -- `Custody::from_code`: a byte above 4 is no code
-unfoldable pub from_code : ℕ → CustodyRead
-from_code code = get_or custody_codes code custody_read.Unknown
+unfoldable pub from_code : ℕ → Option Custody
+from_code code = slice_get custody_codes code

@@ -1,6 +1,6 @@
 -- Document 01's courier.rs: `route_tag`, `delivered`, `commitment` and `tombstone_matches`, by the hashes of kdf.rs.
 -- Assumes nothing.
-use Rattle.std.specs.Prelude.{ℕ, ◌≤◌, ◌≡◌, Bool, List, [], ◌∷◌, length, take}
+use Rattle.std.specs.Prelude.{ℕ, Bool, List, [], ◌∷◌, take}
 use Rattle.octets.specs.Bytes.{same_bytes}
 use Rattle.data.specs.Leb128.{leb128}
 use Rattle.kdf.specs.Kdf.{mac, kdf, hash}
@@ -33,8 +33,3 @@ commitment_of s = take 16 (hash delivered_label s)
 -- `tombstone_matches`: does s open the commitment c
 unfoldable pub tombstone_matches : List ℕ → List ℕ → Bool
 tombstone_matches c s = same_bytes (commitment_of s) c
-
--- an array whose first len bytes are a route tag's input
-pub record RouteBytes (dir : Dir) (generation idx : ℕ) (bytes : List ℕ) (len : ℕ) : Type 0 where
-  pub fits : len ≤ length bytes
-  pub input : take len bytes ≡ route_input dir generation idx

@@ -3,8 +3,8 @@
 
 ghost use Rattle.std.specs.Prelude.{◌≡◌, ◌+◌, ◌≤◌, length, take, leb};
 ghost use Rattle.octets.specs.Bytes.{part};
-ghost use Rattle.courier.specs.Tags.{route_tag, RouteBytes, delivered_secret, commitment_of, tombstone_matches};
-ghost use Rattle.courier.specs.Courier.{header_bytes, header_of, no_header, envelope_decode, carried_length, envelope_valid, custody_code, from_code};
+ghost use Rattle.courier.specs.Tags.{route_tag, delivered_secret, commitment_of, tombstone_matches};
+ghost use Rattle.courier.specs.Courier.{header_bytes, header_of, envelope_decode, carried_length, envelope_valid, custody_code, from_code};
 
 use chain::Dir;
 
@@ -23,15 +23,8 @@ pub struct Header {
     pub copies: u8,
 }
 
-// A header, if all of its bytes were there. (An enum can't hold an array.)
-#[derive(Drop)]
-pub struct HeaderRead {
-    pub whole: bool,
-    pub header: Header,
-}
-
 // A courier's answer to an envelope.
-#[derive(Clone, Copy)]
+#[derive(Clone, Copy, PartialEq, Eq)]
 pub enum Custody {
     Accepted,
     Full,
@@ -40,67 +33,42 @@ pub enum Custody {
     Invalid,
 }
 
-#[derive(Drop)]
-pub enum CustodyRead {
-    Known(Custody),
-    Unknown,
-}
-
-// What a route tag is the MAC of: its first len bytes.
-#[derive(Drop)]
-struct RouteInput {
-    bytes: [u8; 7],
-    len: usize,
-}
-
-fn route_input(dir: Dir, generation: u8, idx: u32) -> RouteInput
-    ensures { RouteBytes dir generation idx result.bytes result.len }
-{
-    let label = dir.label();
-    let index = data::leb128(idx);
-    let low = index.bytes;
-    let mut bytes = [0u8; 7];
-    bytes[0] = label;
-    bytes[1] = generation;
-    octets::copy_in(&mut bytes, 2, &low);
-    RouteInput {
-        bytes,
-        len: 2 + index.len,
-    }
-}
-
+// The MAC of the direction, the generation and the index: no more than 7 bytes, which stand at the front of an array.
+#[tactic(auto, unfolding(kdf::specs::Kdf::key_as, kdf::specs::Kdf::answered))]
 pub fn route_tag(key: [u8; 32], dir: Dir, generation: u8, idx: u32) -> [u8; 16]
     ensures { result ≡ route_tag key dir generation idx }
 {
-    let input = route_input(dir, generation, idx);
-    let bytes = input.bytes;
-    let n = input.len;
-    let tag = kdf::mac(&key, b"route", &bytes[0..n]);
-    tag.bytes
+    let index = data::leb128(idx);
+    let mut input = [0u8; 7];
+    input[0] = dir.label();
+    input[1] = generation;
+    octets::put_array(&mut input, 2, index.bytes);
+    kdf::mac(&key, b"route", &input[..2 + index.len]).unwrap()
 }
 
+#[tactic(auto, unfolding(kdf::specs::Kdf::key_as, kdf::specs::Kdf::answered, crate::specs::Tags::delivered_secret))]
 pub fn delivered(key: [u8; 32]) -> [u8; 16]
     ensures { result ≡ delivered_secret key }
 {
-    let s = kdf::kdf_16(&key, b"", b"delivered", b"");
-    s.bytes
+    kdf::kdf_16(&key, b"", b"delivered", b"").unwrap()
 }
 
+#[tactic(auto, unfolding(octets::specs::Bytes::part))]
 fn trunc16(digest: [u8; 48]) -> [u8; 16]
     ensures { result ≡ take 16 digest }
 {
-    octets::get_16(&digest, 0)
+    octets::get_array(&digest, 0)
 }
 
+#[tactic(auto, unfolding(kdf::specs::Kdf::digest_as, kdf::specs::Kdf::answered, crate::specs::Tags::commitment_of))]
 pub fn commitment(s: [u8; 16]) -> [u8; 16]
     ensures { result ≡ commitment_of s }
 {
-    let digest = kdf::hash(b"delivered", &s);
-    let bytes = digest.bytes;
-    trunc16(bytes)
+    trunc16(kdf::hash(b"delivered", &s).unwrap())
 }
 
 // Does s open the commitment c? All bytes are compared, whatever they are.
+#[tactic(auto, using(crate::proofs::TagLaws::matched))]
 pub fn tombstone_matches(c: [u8; 16], s: [u8; 16]) -> bool
     ensures { result ≡ tombstone_matches c s }
 {
@@ -112,28 +80,24 @@ pub fn tombstone_matches(c: [u8; 16], s: [u8; 16]) -> bool
 pub fn header_bytes(h: Header) -> [u8; 37]
     ensures { result ≡ header_bytes h }
 {
-    let tag = h.tag;
-    let c = h.c;
     let mut b = [0u8; 37];
-    octets::copy_in(&mut b, 0, &tag);
-    octets::copy_in(&mut b, 16, &c);
+    octets::put_array(&mut b, 0, h.tag);
+    octets::put_array(&mut b, 16, h.c);
     octets::put_u32(&mut b, 32, h.expiry_min);
     b[36] = h.copies;
     b
 }
 
 // The header whose 37 bytes start at an index.
+#[tactic(auto, using(crate::proofs::HeaderLaws::header_read))]
 fn header_at(s: &[u8], at: usize) -> Header
     requires { at + 37 ≤ length s.now }
     ensures { result ≡ header_of (part s.now at 37) }
 {
-    let tag = octets::get_16(s, at);
-    let c = octets::get_16(s, at + 16);
-    let expiry_min = octets::get_u32(s, at + 32);
     Header {
-        tag,
-        c,
-        expiry_min,
+        tag: octets::get_array(s, at),
+        c: octets::get_array(s, at + 16),
+        expiry_min: octets::get_u32(s, at + 32),
         copies: s[at + 36],
     }
 }
@@ -142,70 +106,37 @@ fn header_at(s: &[u8], at: usize) -> Header
 pub fn within(len: usize, at: usize, n: usize) -> bool
     ensures { result ≡ leb (at + n) len }
 {
-    if len < at {
-        return false;
-    }
-    if len - at < n {
-        return false;
-    }
-    true
+    at <= len && n <= len - at
 }
 
 // `Envelope::decode` of what follows the first at bytes; the ciphertext is what follows the header.
-pub fn decode(s: &[u8], at: usize) -> HeaderRead
+#[tactic(auto, unfolding(crate::specs::Courier::envelope_decode))]
+pub fn decode(s: &[u8], at: usize) -> Option<Header>
     ensures { result ≡ envelope_decode s.now at }
 {
     if within(s.len(), at, ENVELOPE_HEADER) {
-        let header = header_at(s, at);
-        return HeaderRead {
-            whole: true,
-            header,
-        };
-    }
-    let header = no_header();
-    HeaderRead {
-        whole: false,
-        header,
-    }
-}
-
-pub fn no_header() -> Header
-    ensures { result ≡ no_header }
-{
-    let none = [0u8; 16];
-    Header {
-        tag: none,
-        c: none,
-        expiry_min: 0,
-        copies: 0,
+        Some(header_at(s, at))
+    } else {
+        None
     }
 }
 
 // Does a ciphertext of len bytes seal an inner length that couriers carry?
+#[tactic(auto, unfolding(crate::specs::Courier::carried_length))]
 pub fn carried_length(len: usize) -> bool
     ensures { result ≡ carried_length len }
 {
-    if len < chain::TAG_LEN {
-        return false;
-    }
-    let inner = len - chain::TAG_LEN;
-    if COURIER_INNER_MAX < inner {
-        return false;
-    }
-    chain::is_bucket(inner)
+    chain::TAG_LEN <= len
+        && len - chain::TAG_LEN <= COURIER_INNER_MAX
+        && chain::is_bucket(len - chain::TAG_LEN)
 }
 
 // `Envelope::valid`: a courier takes an envelope with a ciphertext of len bytes at a minute.
+#[tactic(auto, unfolding(crate::specs::Courier::envelope_valid))]
 pub fn valid(len: usize, copies: u8, expiry: u32, minute: u32) -> bool
     ensures { result ≡ envelope_valid len copies expiry minute }
 {
-    if !carried_length(len) {
-        return false;
-    }
-    if copies == 0 {
-        return false;
-    }
-    minute < expiry
+    carried_length(len) && copies > 0 && minute < expiry
 }
 
 impl Custody {
@@ -221,16 +152,17 @@ impl Custody {
         }
     }
 
-    pub fn from_code(code: u8) -> CustodyRead
+    #[tactic(auto, unfolding(crate::specs::Courier::from_code))]
+    pub fn from_code(code: u8) -> Option<Custody>
         ensures { result ≡ from_code code }
     {
         match code {
-            0 => CustodyRead::Known(Custody::Accepted),
-            1 => CustodyRead::Known(Custody::Full),
-            2 => CustodyRead::Known(Custody::Duplicate),
-            3 => CustodyRead::Known(Custody::Off),
-            4 => CustodyRead::Known(Custody::Invalid),
-            _ => CustodyRead::Unknown,
+            0 => Some(Custody::Accepted),
+            1 => Some(Custody::Full),
+            2 => Some(Custody::Duplicate),
+            3 => Some(Custody::Off),
+            4 => Some(Custody::Invalid),
+            _ => None,
         }
     }
 }

@@ -1,6 +1,6 @@
 -- Document 01's numbers of the refusals ("Refused calls") and bytes of a verification ("Drill program", PT).
 -- Assumes nothing.
-use Rattle.std.specs.Prelude.{ℕ, Bool, cond, List, [], ◌∷◌}
+use Rattle.std.specs.Prelude.{ℕ, Bool, cond, List, [], ◌∷◌, ◌==◌, Option, Some, None}
 use Rattle.courier_core.specs.declared.Refusal.{Refusal}
 use Rattle.courier_core.specs.declared.Refusal.TheVariants as refusal
 use Rattle.courier_core.specs.declared.Verification.{Verification}
@@ -25,6 +25,11 @@ abbrev pub verification_byte : Verification → ℕ
 verification_byte verification.Unverified = 0
 verification_byte verification.Verified = 1
 verification_byte verification.Compromised = 2
+
+-- the verification that a byte says: a byte above 2 says none
+abbrev pub verification_from : ℕ → Option Verification
+verification_from byte =
+    cond (byte == 0) (Some verification.Unverified) (cond (byte == 1) (Some verification.Verified) (cond (byte == 2) (Some verification.Compromised) None))
 
 -- A call's refusals are one list of (condition, refusal) in document 01's order: what the first that holds says, and `otherwise` where none holds.
 abbrev pub first_of {ℓ} : {A : Type ℓ} → List (Bool × Refusal) → (Refusal → A) → A → A

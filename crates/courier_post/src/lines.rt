@@ -62,56 +62,55 @@ fn show_reply(replies: &[u8; 61440], i: usize) {
     let at = i % 1536 * 40;
     let kind = octets::get_u8(replies, at);
     show_kind(kind);
-    show_tag(octets::get_16(replies, at + 3));
+    show_tag(octets::get_array(replies, at + 3));
     match kind {
         0 => {}
         1 => show_envelope(replies, at),
         2 => number(octets::get_u8(replies, at + 19) as u64),
-        _ => show_tag(octets::get_16(replies, at + 19)),
+        _ => show_tag(octets::get_array(replies, at + 19)),
     }
     end();
 }
 
-// A fetch: 0 and the ciphertext's length with the envelope, or 255 for none.
-pub fn show_fetched(answer: u8, len: usize, replies: &[u8; 61440]) {
-    text(b"answer");
-    number(answer as u64);
+// A fetch: 0 and the ciphertext's length, with the envelope.
+pub fn show_fetched(len: usize, replies: &[u8; 61440]) {
+    text(b"answer 0");
     number(len as u64);
     end();
-    if answer == 0 {
-        show_reply(replies, 0);
-    }
+    show_reply(replies, 0);
+}
+
+// A fetch without one: a refusal's number, or 255 for none; and no length.
+pub fn show_missing(answer: u8) {
+    text(b"answer");
+    number(answer as u64);
+    text(b" 0\n");
 }
 
 pub fn show_replies(replies: &[u8; 61440], n: usize) {
-    let mut i = 0;
-    while i < n {
+    for i in 0..n {
         show_reply(replies, i);
-        i += 1;
     }
 }
 
 // An action: a slot put or deleted, or an own row's contact and message number.
 fn show_action(actions: &[u8; 6708], i: usize) {
     let row = rows::action_at(actions, i % 516 * 13);
-    let kind = row.kind;
-    match kind {
+    match row.kind {
         0 => text(b"put"),
         1 => text(b"del"),
         _ => text(b"own put"),
     }
     number(row.number);
-    if kind == 2 {
+    if row.kind == 2 {
         number(row.msgno as u64);
     }
     end();
 }
 
 pub fn show_actions(actions: &[u8; 6708], n: usize) {
-    let mut i = 0;
-    while i < n {
+    for i in 0..n {
         show_action(actions, i);
-        i += 1;
     }
 }
 
@@ -120,12 +119,10 @@ pub fn show_actions(actions: &[u8; 6708], n: usize) {
 // Slot, depositor, tag, expiry, copies.
 pub fn show_carried(carried: &[u8; 14592], i: usize) {
     let row = rows::carried_at(carried, i % 256 * 57);
-    let depositor = row.depositor;
-    let tag = row.tag;
     text(b"carried");
     number(row.slot);
-    number(depositor.0);
-    show_tag(tag);
+    number(row.depositor.0);
+    show_tag(row.tag);
     text(b" expiry");
     number(row.expiry_min as u64);
     text(b" copies");
@@ -136,12 +133,10 @@ pub fn show_carried(carried: &[u8; 14592], i: usize) {
 // Contact, message number, tag, expiry, copies, renewed.
 pub fn show_own(own: &[u8; 13824], i: usize) {
     let row = rows::own_at(own, i % 256 * 54);
-    let contact = row.contact;
-    let tag = row.tag;
     text(b"own");
-    number(contact.0);
+    number(row.contact.0);
     number(row.msgno as u64);
-    show_tag(tag);
+    show_tag(row.tag);
     text(b" expiry");
     number(row.expiry_min as u64);
     text(b" copies");
@@ -154,12 +149,10 @@ pub fn show_own(own: &[u8; 13824], i: usize) {
 // Slot, tag, secret, expiry.
 pub fn show_tombstone(tombstones: &[u8; 176], i: usize) {
     let row = rows::tombstone_at(tombstones, i % 4 * 44);
-    let tag = row.tag;
-    let s = row.s;
     text(b"tombstone");
     number(row.slot);
-    show_tag(tag);
-    show_tag(s);
+    show_tag(row.tag);
+    show_tag(row.s);
     text(b" expiry");
     number(row.expiry_min as u64);
     end();
@@ -186,10 +179,8 @@ pub fn show_prefixes(prefixes: &[u8; 4096], n: usize) {
     text(b"ours");
     number(n as u64);
     text(b":");
-    let mut i = 0;
-    while i < n {
+    for i in 0..n {
         show_prefix(prefixes, i);
-        i += 1;
     }
     end();
 }

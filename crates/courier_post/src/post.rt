@@ -2,12 +2,9 @@
 use crate::lines;
 use crate::lines::{end, number, text};
 use chain::Dir;
-use contacts::Opened;
 use courier::Header;
-use courier_core::{ContactId, Verification};
-use envelope::{Answer, Enveloped};
-use inventory::{Listed, Received};
-use maintenance::Maintained;
+use courier_core::{ContactId, Refusal, Verification};
+use envelope::Answer;
 use rows::{Device, Exchange};
 
 // What goes by value and the lent areas: 16 carried cells, 4 own ones, 4 tombstone rows, 2 rows of bad tags.
@@ -21,13 +18,6 @@ pub struct Post {
     pub bad_tags: [u8; 48],
     pub own_cells: [u8; 8256],
     pub carried_cells: [u8; 33024],
-}
-
-// The post after an envelope, and the answer.
-#[derive(Drop)]
-struct Taken {
-    post: Post,
-    answer: Answer,
 }
 
 // ---- tags, secrets, headers
@@ -80,68 +70,6 @@ pub fn header(b: u8, copies: u8, expiry: u32) -> Header {
     }
 }
 
-// An envelope of 48 bytes of ciphertext, with no window.
-fn envelope_from(
-    device: Device,
-    peer: u64,
-    head: Header,
-    contacts: &[u8; 2304],
-    own: &[u8; 13824],
-    carried: &mut [u8; 14592],
-    tombstones: &[u8; 176],
-    cells: &mut [u8; 33024],
-    replies: &mut [u8; 61440],
-    actions: &mut [u8; 6708],
-) -> Enveloped {
-    let ct = [0u8; 48];
-    envelope::envelope(
-        device,
-        ContactId(peer),
-        head,
-        &ct,
-        b"",
-        contacts,
-        own,
-        carried,
-        tombstones,
-        cells,
-        replies,
-        actions,
-    )
-}
-
-// A list of prefixes from contact 5.
-fn inventory_from(
-    device: Device,
-    exchange: Exchange,
-    contacts: &[u8; 2304],
-    own: &[u8; 13824],
-    carried: &[u8; 14592],
-    tombstones: &[u8; 176],
-    bad_tags: &[u8; 48],
-    window: &[u8],
-    list: &[u8],
-    prefixes: &mut [u8; 4096],
-    offers: &mut [u8; 8704],
-    replies: &mut [u8; 61440],
-) -> Received {
-    inventory::receive_inventory(
-        device,
-        exchange,
-        ContactId(5),
-        contacts,
-        own,
-        carried,
-        tombstones,
-        bad_tags,
-        window,
-        list,
-        prefixes,
-        offers,
-        replies,
-    )
-}
-
 impl Post {
     pub fn fresh() -> Post {
         Post {
@@ -159,9 +87,7 @@ impl Post {
     // ---- set-up
 
     pub fn at_second(mut self, seconds: u64) -> Post {
-        let r = contacts::clock(self.device, seconds);
-        let device = r.device;
-        self.device = device;
+        contacts::clock(&mut self.device, seconds);
         self
     }
 
@@ -170,34 +96,25 @@ impl Post {
     }
 
     pub fn setting(mut self, copies: u8, lifetime: u16) -> Post {
-        let r = contacts::setting(self.device, true, copies, lifetime);
-        let device = r.device;
-        self.device = device;
+        let _ = contacts::setting(&mut self.device, true, copies, lifetime);
         self
     }
 
     pub fn contact(mut self, id: u64) -> Post {
-        let mut known = self.contacts;
-        let r = contacts::contact(
-            self.device,
+        let _ = contacts::contact(
+            &mut self.device,
             ContactId(id),
             Verification::Unverified,
-            &mut known,
+            &mut self.contacts,
         );
-        let device = r.device;
-        self.device = device;
-        self.contacts = known;
         self
     }
 
     // An own envelope for a contact.
     pub fn own_envelope(mut self, id: u64, msgno: u32) -> Post {
-        let known = self.contacts;
-        let mut own = self.own;
-        let mut cells = self.own_cells;
         let ct = [0u8; 48];
-        let r = own_envelope::own_envelope(
-            self.device,
+        let _ = own_envelope::own_envelope(
+            &mut self.device,
             ContactId(id),
             msgno,
             ROUTE_KEY,
@@ -206,252 +123,201 @@ impl Post {
             msgno,
             own_secret(),
             &ct,
-            &known,
-            &mut own,
-            &mut cells,
+            &self.contacts,
+            &mut self.own,
+            &mut self.own_cells,
         );
-        let device = r.device;
-        self.device = device;
-        self.own = own;
-        self.own_cells = cells;
         self
     }
 
     // A tag is bad for a peer.
     pub fn report_failed(mut self, peer: u64, tag: [u8; 16]) -> Post {
-        let known = self.contacts;
-        let mut bad = self.bad_tags;
-        let r = reports::report_failed(self.device, ContactId(peer), tag, &known, &mut bad);
-        let device = r.device;
-        self.device = device;
-        self.bad_tags = bad;
+        let _ = reports::report_failed(
+            &mut self.device,
+            ContactId(peer),
+            tag,
+            &self.contacts,
+            &mut self.bad_tags,
+        );
         self
     }
 
     // A carried row's copies fell to 0, as peers that accept leave them.
     pub fn without_copies(mut self, i: usize) -> Post {
-        let mut carried = self.carried;
-        carried[i % 256 * 57 + 52] = 0;
-        self.carried = carried;
+        self.carried[i % 256 * 57 + 52] = 0;
         self
     }
 
     // An envelope that a peer sends, of which nothing is written.
-    pub fn deposit(self, peer: u64, head: Header) -> Post {
-        let mut replies = [0u8; 61440];
-        let mut actions = [0u8; 6708];
-        let r = self.take(peer, head, &mut replies, &mut actions);
-        r.post
+    pub fn deposit(mut self, peer: u64, head: Header) -> Post {
+        let _ = self.take(peer, head, &mut [0u8; 61440], &mut [0u8; 6708]);
+        self
     }
 
     // ---- calls
 
+    // An envelope of 48 bytes of ciphertext, with no window.
     fn take(
-        mut self,
+        &mut self,
         peer: u64,
         head: Header,
         replies: &mut [u8; 61440],
         actions: &mut [u8; 6708],
-    ) -> Taken {
-        let known = self.contacts;
-        let own = self.own;
-        let mut carried = self.carried;
-        let tombstones = self.tombstones;
-        let mut cells = self.carried_cells;
-        let r = envelope_from(
-            self.device,
-            peer,
+    ) -> Result<Answer, Refusal> {
+        envelope::envelope(
+            &mut self.device,
+            ContactId(peer),
             head,
-            &known,
-            &own,
-            &mut carried,
-            &tombstones,
-            &mut cells,
+            &[0u8; 48],
+            b"",
+            &self.contacts,
+            &self.own,
+            &mut self.carried,
+            &self.tombstones,
+            &mut self.carried_cells,
             replies,
             actions,
-        );
-        let device = r.device;
-        let answer = r.answer;
-        self.device = device;
-        self.carried = carried;
-        self.carried_cells = cells;
-        Taken { post: self, answer }
+        )
     }
 
     // An envelope that a peer sends, with no window.
-    pub fn send(self, peer: u64, head: Header) -> Post {
+    pub fn send(mut self, peer: u64, head: Header) -> Post {
         let mut replies = [0u8; 61440];
         let mut actions = [0u8; 6708];
-        let r = self.take(peer, head, &mut replies, &mut actions);
-        let answer = r.answer;
-        match answer {
-            Answer::Refused(why) => lines::show_refusal(why),
-            Answer::Ours(_, _, _) => text(b"ours\n"),
-            Answer::Done(n, m) => {
+        match self.take(peer, head, &mut replies, &mut actions) {
+            Err(why) => lines::show_refusal(why),
+            Ok(Answer::Ours(_, _, _)) => text(b"ours\n"),
+            Ok(Answer::Done(n, m)) => {
                 lines::show_replies(&replies, n);
                 lines::show_actions(&actions, m);
             }
         }
-        r.post
+        self
     }
 
     pub fn fetch(&self, peer: u64, tag: [u8; 16]) {
-        let known = self.contacts;
-        let own = self.own;
-        let carried = self.carried;
-        let own_cells = self.own_cells;
-        let cells = self.carried_cells;
         let mut replies = [0u8; 61440];
-        let mut answer = 9u8;
-        let ct = fetch::fetch(
+        match fetch::fetch(
             self.device,
             ContactId(peer),
             tag,
-            &known,
-            &own,
-            &carried,
-            &own_cells,
-            &cells,
+            &self.contacts,
+            &self.own,
+            &self.carried,
+            &self.own_cells,
+            &self.carried_cells,
             &mut replies,
-            &mut answer,
-        );
-        lines::show_fetched(answer, ct.len(), &replies);
+        ) {
+            Ok(Some(ct)) => lines::show_fetched(ct.len(), &replies),
+            Ok(None) => lines::show_missing(255),
+            Err(why) => lines::show_missing(courier_core::refusal_number(why)),
+        }
     }
 
     // A tombstone whose secret has the bytes of its tag is stored.
     pub fn stored_tombstone(mut self, tag: [u8; 16], expiry: u32) -> Post {
-        let mut tombstones = self.tombstones;
-        let mut actions = [0u8; 6708];
-        let r = tombstones::stored_tombstone(
-            self.device,
+        let _ = tombstones::stored_tombstone(
+            &mut self.device,
             tag,
             tag,
             expiry,
-            &mut tombstones,
-            &mut actions,
+            &mut self.tombstones,
+            &mut [0u8; 6708],
         );
-        let device = r.device;
-        self.device = device;
-        self.tombstones = tombstones;
         self
     }
 
     // The host reports an envelope opened.
     pub fn report_opened(mut self, peer: u64, tag: [u8; 16], expiry: u32) -> Post {
-        let known = self.contacts;
-        let mut tombstones = self.tombstones;
-        let mut replies = [0u8; 61440];
-        let mut actions = [0u8; 6708];
-        let r = reports::report_opened(
-            self.device,
+        let _ = reports::report_opened(
+            &mut self.device,
             ContactId(peer),
             tag,
             secret(),
             expiry,
-            &known,
-            &mut tombstones,
-            &mut replies,
-            &mut actions,
+            &self.contacts,
+            &mut self.tombstones,
+            &mut [0u8; 61440],
+            &mut [0u8; 6708],
         );
-        let device = r.device;
-        self.device = device;
-        self.tombstones = tombstones;
         self
     }
 
     // A tomb from contact 7.
     pub fn tomb(mut self, tag: [u8; 16], s: [u8; 16]) -> Post {
-        let known = self.contacts;
-        let mut own = self.own;
-        let mut carried = self.carried;
-        let mut tombstones = self.tombstones;
         let mut actions = [0u8; 6708];
-        let r = tombs::receive_tomb(
-            self.device,
+        let said = tombs::receive_tomb(
+            &mut self.device,
             ContactId(7),
             tag,
             s,
-            &known,
-            &mut own,
-            &mut carried,
-            &mut tombstones,
+            &self.contacts,
+            &mut self.own,
+            &mut self.carried,
+            &mut self.tombstones,
             &mut actions,
         );
-        let device = r.device;
-        let said = r.said;
-        self.device = device;
-        self.own = own;
-        self.carried = carried;
-        self.tombstones = tombstones;
         show_said(said, &actions);
-        lines::show_counts(device);
+        lines::show_counts(self.device);
         self
     }
 
     pub fn maintenance(mut self) -> Post {
-        let mut own = self.own;
-        let mut carried = self.carried;
-        let mut tombstones = self.tombstones;
         let mut actions = [0u8; 6708];
-        let r = maintenance::maintain_couriers(
-            self.device,
-            &mut own,
-            &mut carried,
-            &mut tombstones,
+        let listed = maintenance::maintain_couriers(
+            &mut self.device,
+            &mut self.own,
+            &mut self.carried,
+            &mut self.tombstones,
             &mut actions,
         );
-        let device = r.device;
-        let answer = r.answer;
-        self.device = device;
-        self.own = own;
-        self.carried = carried;
-        self.tombstones = tombstones;
-        show_maintained(answer, &actions);
-        lines::show_counts(device);
+        match listed {
+            Err(why) => lines::show_refusal(why),
+            Ok(n) => lines::show_actions(&actions, n),
+        }
+        lines::show_counts(self.device);
         self
     }
 
     // Our inventory for a peer.
     pub fn inventory_of_ours(&self, peer: u64) {
-        let known = self.contacts;
-        let own = self.own;
-        let carried = self.carried;
         let mut prefixes = [0u8; 4096];
         match inventory::inventory(
             self.device,
             ContactId(peer),
-            &known,
-            &own,
-            &carried,
+            &self.contacts,
+            &self.own,
+            &self.carried,
             &mut prefixes,
         ) {
-            Listed::Refused(why) => lines::show_refusal(why),
-            Listed::Wrote(n) => lines::show_prefixes(&prefixes, n),
+            Err(why) => lines::show_refusal(why),
+            Ok(n) => lines::show_prefixes(&prefixes, n),
         }
     }
 
     // A fresh exchange with contact 5, in which it lists prefixes and then none.
     pub fn listed(&self, window: &[u8], list: &[u8]) {
-        let known = self.contacts;
-        let prefixes = [0u8; 4096];
-        let offers = [0u8; 8704];
-        match contacts::fresh_exchange(self.device, ContactId(5), &known, &prefixes, &offers) {
-            Opened::Refused(why) => lines::show_refusal(why),
-            Opened::As(exchange) => self.exchange(exchange, window, list),
+        let mut prefixes = [0u8; 4096];
+        let mut offers = [0u8; 8704];
+        match contacts::fresh_exchange(
+            self.device,
+            ContactId(5),
+            &self.contacts,
+            &prefixes,
+            &offers,
+        ) {
+            Err(why) => lines::show_refusal(why),
+            Ok(exchange) => {
+                let e = self.receive(exchange, window, list, &mut prefixes, &mut offers);
+                let e = self.receive(e, window, b"", &mut prefixes, &mut offers);
+                text(b"offered");
+                number(e.offered as u64);
+                end();
+            }
         }
     }
 
-    fn exchange(&self, exchange: Exchange, window: &[u8], list: &[u8]) {
-        let mut prefixes = [0u8; 4096];
-        let mut offers = [0u8; 8704];
-        let e = self.receive(exchange, window, list, &mut prefixes, &mut offers);
-        let e = self.receive(e, window, b"", &mut prefixes, &mut offers);
-        text(b"offered");
-        number(e.offered as u64);
-        end();
-    }
-
-    // Writes what a list is answered with.
+    // Writes what a list of prefixes from contact 5 is answered with.
     fn receive(
         &self,
         exchange: Exchange,
@@ -460,28 +326,23 @@ impl Post {
         prefixes: &mut [u8; 4096],
         offers: &mut [u8; 8704],
     ) -> Exchange {
-        let known = self.contacts;
-        let own = self.own;
-        let carried = self.carried;
-        let tombstones = self.tombstones;
-        let bad = self.bad_tags;
         let mut replies = [0u8; 61440];
-        let r = inventory_from(
+        let r = inventory::receive_inventory(
             self.device,
             exchange,
-            &known,
-            &own,
-            &carried,
-            &tombstones,
-            &bad,
+            ContactId(5),
+            &self.contacts,
+            &self.own,
+            &self.carried,
+            &self.tombstones,
+            &self.bad_tags,
             window,
             list,
             prefixes,
             offers,
             &mut replies,
         );
-        let said = r.said;
-        show_received(said, &replies);
+        show_received(r.said, &replies);
         r.exchange
     }
 }
@@ -496,25 +357,18 @@ fn show_answered(replies: &[u8; 61440], n: usize, searched: usize) {
     end();
 }
 
-fn show_received(said: inventory::Said, replies: &[u8; 61440]) {
+fn show_received(said: Result<inventory::Said, Refusal>, replies: &[u8; 61440]) {
     match said {
-        inventory::Said::Refused(why) => lines::show_refusal(why),
-        inventory::Said::Malformed => text(b"malformed\n"),
-        inventory::Said::Done(n, searched) => show_answered(replies, n, searched),
+        Err(why) => lines::show_refusal(why),
+        Ok(inventory::Said::Malformed) => text(b"malformed\n"),
+        Ok(inventory::Said::Done(n, searched)) => show_answered(replies, n, searched),
     }
 }
 
-fn show_said(said: tombs::Said, actions: &[u8; 6708]) {
+fn show_said(said: Result<tombs::Said, Refusal>, actions: &[u8; 6708]) {
     match said {
-        tombs::Said::Refused(why) => lines::show_refusal(why),
-        tombs::Said::Malformed => text(b"malformed\n"),
-        tombs::Said::Done(n) => lines::show_actions(actions, n),
-    }
-}
-
-fn show_maintained(answer: Maintained, actions: &[u8; 6708]) {
-    match answer {
-        Maintained::Refused(why) => lines::show_refusal(why),
-        Maintained::Done(n) => lines::show_actions(actions, n),
+        Err(why) => lines::show_refusal(why),
+        Ok(tombs::Said::Malformed) => text(b"malformed\n"),
+        Ok(tombs::Said::Done(n)) => lines::show_actions(actions, n),
     }
 }

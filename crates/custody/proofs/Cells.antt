@@ -1,13 +1,14 @@
 -- Laws of the cells that rows name, of their marks, and of the first cell that none names.
 -- Assumes nothing.
-use Rattle.std.proofs.Common.{◌≡◌, ℕ, suc, ◌+◌, ◌-◌, ◌*◌, ◌/◌, ◌<◌, ◌≤◌, min, Bool, true, false, cond, not, ◌||◌, eqb, List, [], ◌∷◌, map, length, get_or, drop, set, replicate, sym, refl, ap, ◌∙◌, ap₂, add-one, arith, length-set, drop_of_length-le, get_or-set_other, get_or-set_same, eqb-true}
+use Rattle.std.proofs.Common.{◌≡◌, ℕ, zero, suc, ◌+◌, ◌*◌, ◌/◌, ◌<◌, ◌≤◌, min, Bool, true, false, cond, not, ◌||◌, eqb, List, [], ◌∷◌, map, length, get_or, take, drop, drop-cons, set, replicate, sym, refl, ap, ◌∙◌, ap₂, add-one, arith, length-set, drop_of_length-le, get_or-set_other, get_or-set_same, eqb-true, Option, Some}
 use borrow.Author.Tests.{eqb-false}
 use lib.ListN.{length-map, length-replicate, get_or-replicate}
 use lib.Seq.{set_out}
+use Rattle.std.specs.List.{position, position_from}
+use Rattle.std.specs.Bool.{◌==◌}
+use Rattle.std.proofs.lemmas.Iterator.Adapters.{position_from-zero}
 use Rattle.octets.specs.Bytes.{part, num}
 use Rattle.octets.proofs.Parts.{part_part}
-use Rattle.table.specs.declared.Found.{Found}
-use Rattle.table.specs.declared.Found.TheVariants.{At, Nothing}
 use Rattle.table.specs.Lists.{any}
 use Rattle.table.specs.Rows.{held, rows}
 use Rattle.table.specs.Codec.{Codec, table_of}
@@ -88,31 +89,36 @@ module _ (w n o : ℕ) (a : List ℕ) (fits : o + 2 ≤ w) where
         rw (drop_of_length-le named past) at (so_far.at cell inside)
 
 -- the first free cell, by the cells that typed rows name
-pub free_table : {A : Type 0} (c : Codec A) (cell : A → ℕ) (o size count n : ℕ) (a : List ℕ) (f : Found) → n ≡ held (length a) c.width count
-    → ((b : List ℕ) → num (part b o 2) ≡ cell (c.decode b)) → f ≡ free_cell size (cells_named c.width o n a) → f ≡ free_cell size (map cell (table_of c count a))
+pub free_table : {A : Type 0} (c : Codec A) (cell : A → ℕ) (o size count : ℕ) (a : List ℕ) (f : Option ℕ) → ((b : List ℕ) → num (part b o 2) ≡ cell (c.decode b)) → f ≡ free_cell size (cells_named c.width o (held (length a) c.width count) a) → f ≡ free_cell size (map cell (table_of c count a))
 unfolding cells_named table_of
-free_table {A} c cell o size count n a f e same q =
-    q ∙ ap (free_cell size) (ap (λ (k : ℕ). map (cell_of o) (rows c.width k a)) e ∙ go (rows c.width (held (length a) c.width count) a))
+free_table {A} c cell o size count a f same q = q ∙ ap (free_cell size) (go (rows c.width (held (length a) c.width count) a))
   where
     go : (rs : List (List ℕ)) → map (cell_of o) rs ≡ map cell (map c.decode rs)
     go [] = refl
     go (r ∷ rs) = ap₂ (λ (x : ℕ) (xs : List ℕ). x ∷ xs) (same r) (go rs)
 
--- ---- the first free cell of m, from cell i on
+-- ---- the first mark that is 0
 
-pub free_start : (size m : ℕ) (named : List ℕ) → m ≡ min 256 (size / 2064) → free_cell size named ≡ free_from (m - 0) 0 named
-unfolding free_cell cell_count
-free_start size m named e = let k : m - 0 ≡ m = omega arith in ap (λ (x : ℕ). free_from x 0 named) (sym (k ∙ e))
+module _ (named marks : List ℕ) (size : length marks ≡ 256) (marked : Marked named marks) where
+  abbrev blank : ℕ → Bool
+  blank m = m == 0
 
-module _ (m i : ℕ) (named : List ℕ) where
-  pub free_next : (b : Bool) → i < m → any (λ (k : ℕ). eqb k i) named ≡ b
-      → free_from (m - i) i named ≡ cond b (free_from (m - (i + 1)) (i + 1) named) (At i)
+  blank_from : (n i : ℕ) → n + i ≤ 256 → position_from blank i (take n (drop i marks)) ≡ free_from n i named
   unfolding free_from
-  free_next b h e =
-      let k : m - i ≡ suc (m - (i + 1)) = omega arith in
-      ap (λ (x : ℕ). free_from x i named) k
-      ∙ ap₂ (λ (c : Bool) (j : ℕ). cond c (free_from (m - (i + 1)) j named) (At i)) e (sym (add-one i))
+  blank_from zero i h = refl
+  blank_from (suc n) i h =
+      let x : ℕ = get_or marks i 0 in
+      let inside : i < length marks = omega arith in
+      ap (λ (l : List ℕ). position_from blank i (take (suc n) l)) (drop-cons marks i 0 inside)
+      ∙ ap (λ (j : ℕ). cond (x == 0) (Some i) (position_from blank j (take n (drop (suc i) marks)))) (add-one i)
+      ∙ ap (cond (x == 0) (Some i)) (blank_from n (suc i) (omega arith)) ∙ swap (x == 0) (free_from n (suc i) named) (Some i)
+      ∙ ap (λ (b : Bool). cond b (free_from n (suc i) named) (Some i)) (sym (mark_tells named marks i marked (omega arith)))
+    where
+      swap : (b : Bool) (f g : Option ℕ) → cond b g f ≡ cond (not b) f g
+      swap true f g = refl
+      swap false f g = refl
 
-  pub free_end : m ≤ i → free_from (m - i) i named ≡ Nothing
-  unfolding free_from
-  free_end h = let k : m - i ≡ 0 = omega arith in ap (λ (x : ℕ). free_from x i named) k
+  pub first_free : (n bytes : ℕ) → n ≡ min 256 (bytes / 2064) → position blank (take n marks) ≡ free_cell bytes named
+  unfolding free_cell cell_count
+  first_free n bytes e =
+      position_from-zero blank (take n marks) ∙ blank_from n 0 (omega arith) ∙ ap (λ (k : ℕ). free_from k 0 named) e

@@ -1,6 +1,6 @@
 -- Laws of the tests of the envelope call: rows by their keys, and each test over its parts.
 -- Assumes nothing.
-use Rattle.std.proofs.Common.{◌≡◌, ℕ, suc, ◌+◌, ◌*◌, ◌<◌, ◌≤◌, Bool, true, false, cond, not, ◌||◌, eqb, ltb, leb, List, length, drop, sym, refl, ap, ◌∙◌, ap₂, arith, drop_of_length-le, ltb-false, ltb-true, le-ltb, lt-ltb}
+use Rattle.std.proofs.Common.{◌≡◌, ℕ, suc, ◌+◌, ◌*◌, ◌<◌, ◌≤◌, Bool, true, false, cond, not, ◌||◌, eqb, ltb, leb, List, map, length, drop, sym, ap, ◌∙◌, ap₂, arith, drop_of_length-le, le-ltb}
 use Rattle.octets.specs.Bytes.{part, num}
 use Rattle.octets.proofs.Parts.{part_part}
 use Rattle.courier_core.specs.declared.ContactId.{ContactId}
@@ -8,10 +8,10 @@ use Rattle.courier.specs.declared.Header.{Header}
 use Rattle.courier.specs.declared.Custody.{Custody}
 use Rattle.courier.specs.declared.Custody.TheVariants as custody
 use Rattle.courier.specs.Courier.{envelope_valid}
-use Rattle.table.specs.Lists.{any}
-use Rattle.table.specs.Rows.{held}
-use Rattle.table.specs.Codec.{table_of}
-use Rattle.table.proofs.FindLaws.{count_next, count_end}
+use Rattle.table.specs.Lists.{any, is_at}
+use Rattle.table.specs.Rows.{held, rows}
+use Rattle.table.specs.Codec.{Codec, table_of}
+use Rattle.table.proofs.FindLaws.{count_next, count_end, position_any, position_map}
 use Rattle.table.proofs.RowLaws.{held_inside}
 use Rattle.table.proofs.TableLaws.{length_table, table_next}
 use Rattle.rows.specs.declared.Device.{Device}
@@ -21,11 +21,24 @@ use Rattle.rows.specs.Rows.{contact_codec, own_codec, carried_codec, tombstone_c
 use Rattle.model.specs.Basics.{same_contact}
 use Rattle.model.specs.State.{State}
 use Rattle.model.specs.Areas.{Areas, view}
-use Rattle.model.specs.Contacts.{minute_of, is_verified}
+use Rattle.model.specs.Contacts.{now_min, minute_of, is_verified}
 use Rattle.model.specs.Cells.{cell_length}
 use Rattle.model.specs.Custody.{own_of_tag, carried_of_tag, quota, duplicate, deposited, carried_total, full, custody_of}
 use Rattle.model.specs.Tombs.{tombstoned}
 use Rattle.model.proofs.Laws.{carried_total_lem}
+
+-- a value is not both
+pub clash : {A : Type 0} (b : Bool) → b ≡ true → b ≡ false → A
+clash b p q = let z : ◌≡◌ {A = ℕ} 0 1 = cc in absurd (omega arith)
+
+-- a test of the rows of an area is the same test of the typed rows
+pub any_row : {A : Type 0} (c : Codec A) (count n : ℕ) (a : List ℕ) → n ≡ held (length a) c.width count → (p : List ℕ → Bool) (q : A → Bool)
+    → ((b : List ℕ) → p b ≡ q (c.decode b)) → (b : Bool) → b ≡ any p (rows c.width n a) → b ≡ any q (table_of c count a)
+unfolding table_of
+any_row c count n a h p q same b e =
+    let R : List (List ℕ) = rows c.width n a in
+    e ∙ sym (position_any p 0 R) ∙ ap is_at (position_map c.decode p q same 0 R) ∙ position_any q 0 (map c.decode R)
+    ∙ ap (λ (k : ℕ). any q (map c.decode (rows c.width k a))) h
 
 -- what own, carried and tombstone rows say of a tag is what duplicate says
 pub duplicate_of : {device : Device} {own carried tombstones : List ℕ} (tag : List ℕ) (a : Areas) → a.device ≡ device → a.own ≡ own → a.carried ≡ carried
@@ -61,30 +74,23 @@ module _ (count n : ℕ) (a : List ℕ) (peer : ContactId) (held-n : n ≡ held 
 -- ---- the bytes of carried rows
 
 module _ (size count n : ℕ) (a : List ℕ) (held-n : n ≡ held (length a) carried_width count) where
-  abbrev rows : List Carried
-  rows = table_of carried_codec count a
+  abbrev held_rows : List Carried
+  held_rows = table_of carried_codec count a
 
   pub total_next : (i s t v : ℕ) → i < n → v ≡ cell_length size (num (part a (i * 57 + 55) 2)) (num (part a (i * 57 + 53) 2)) → t ≡ s + (37 + v)
-      → carried_total size rows ≡ s + carried_total size (drop i rows) → carried_total size rows ≡ t + carried_total size (drop (i + 1) rows)
+      → carried_total size held_rows ≡ s + carried_total size (drop i held_rows) → carried_total size held_rows ≡ t + carried_total size (drop (i + 1) held_rows)
   unfolding carried_total carried_of
   total_next i s t v h e et left =
       let f : v ≡ cell_length size (num (part (part a (i * 57) 57) 55 2)) (num (part (part a (i * 57) 57) 53 2)) =
       e ∙ sym (ap₂ (λ (x y : List ℕ). cell_length size (num x) (num y)) (part_part a (i * 57) 57 55 2 (omega arith)) (part_part a (i * 57) 57 53 2 (omega arith))) in
       omega (arith, left, f, ap (carried_total size) (table_next carried_codec count a i (omega arith)))
 
-  pub total_end : (i s : ℕ) → n ≤ i → carried_total size rows ≡ s + carried_total size (drop i rows) → s ≡ carried_total size rows
+  pub total_end : (i s : ℕ) → n ≤ i → carried_total size held_rows ≡ s + carried_total size (drop i held_rows) → s ≡ carried_total size held_rows
   unfolding carried_total
   total_end i s h left =
-      omega (arith, left, ap (carried_total size) (drop_of_length-le rows {i = i} (omega (arith, length_table carried_codec count a))))
+      omega (arith, left, ap (carried_total size) (drop_of_length-le held_rows {i = i} (omega (arith, length_table carried_codec count a))))
 
 -- ---- Full
-
-pub ltb_same : (a b c d : ℕ) → (a < b → c < d) → (b ≤ a → d ≤ c) → ltb a b ≡ ltb c d
-ltb_same a b c d up down = go (ltb a b) refl
-  where
-    go : (x : Bool) → ltb a b ≡ x → ltb a b ≡ ltb c d
-    go true e = e ∙ sym (lt-ltb c d (up (ltb-true a b e)))
-    go false e = e ∙ sym (le-ltb c d (down (ltb-false a b e)))
 
 -- a ciphertext that fits a cell never passes the limit of bytes
 pub few_bytes : (size len count : ℕ) (a : List ℕ) → length a ≤ 14592 → len ≤ 2064
@@ -124,6 +130,10 @@ module _ {device : Device} (a : Areas) (e : a.device ≡ device) where
   pub carried_in_lem : {x : List ℕ} → a.carried ≡ x → (view a).carried ≡ table_of carried_codec device.carried x
   unfolding view
   carried_in_lem p = rw (e, p)
+
+  pub minute_in : {m : ℕ} → m ≡ now_min device.now_s → m ≡ minute_of (view a)
+  unfolding view
+  minute_in p = p ∙ ap (λ (x : Device). now_min x.now_s) (sym e)
 
 pub cells_in : (a : Areas) {size : ℕ} → size ≡ length a.carried_cells → size ≡ length (view a).carried_cells
 unfolding view

@@ -1,20 +1,18 @@
 -- Laws of the window's rows and of bad tags.
 -- Assumes nothing.
-use Rattle.std.proofs.Common.{◌≡◌, ℕ, ◌+◌, ◌*◌, ◌/◌, ◌%◌, ◌<◌, ◌≤◌, Bool, true, false, not, ◌&&◌, ◌||◌, eqb, ltb, List, [], ◌∷◌, length, get_or, take, drop, sym, refl, ap, ◌∙◌, ap₂, arith, length-drop, take-take, eq-eqb, ne_eqb}
+use Rattle.std.proofs.Common.{◌≡◌, ℕ, ◌+◌, ◌*◌, ◌/◌, ◌%◌, ◌<◌, ◌≤◌, Bool, true, false, cond, not, Option, Some, ◌&&◌, ◌||◌, eqb, ltb, List, [], ◌∷◌, length, get_or, take, drop, sym, refl, ap, ◌∙◌, ap₂, arith, length-drop, take-take}
+use Rattle.std.specs.Ordering.{partial_lt, partial_ordering_then, nat_cmp, is_lt, is_some_and}
+use Rattle.std.specs.declared.cmp.Ordering.{Ordering}
+use Rattle.std.specs.declared.cmp.Ordering.TheVariants.{Less, Equal, Greater}
 use Rattle.octets.specs.Bytes.{part, num, same_bytes}
-use Rattle.octets.proofs.Parts.{part_part, part_whole}
-use Rattle.courier_core.specs.declared.ContactId.{ContactId}
+use Rattle.octets.proofs.Parts.{part_whole}
 use Rattle.chain.specs.Chain.{dir_of, no_dir}
-use Rattle.table.specs.Lists.{any}
-use Rattle.table.specs.Rows.{held, has_key, ragged}
-use Rattle.table.specs.Codec.{table_of}
-use Rattle.table.proofs.FindLaws.{any_next, any_end}
-use Rattle.table.proofs.TableLaws.{length_table, table_next}
-use Rattle.rows.specs.declared.BadTag.{BadTag}
+use Rattle.table.specs.Lists.{any, position}
+use Rattle.table.specs.Rows.{held, rows, has_key, ragged}
+use Rattle.table.proofs.TableLaws.{length_table, table_next, table_find}
 use Rattle.rows.specs.declared.Reachable.{Reachable}
-use Rattle.rows.specs.Rows.{reachable_codec, reachable_of, bad_tag_codec, bad_tag_of}
-use Rattle.model.specs.Basics.{same_contact}
-use Rattle.model.specs.Window.{window_rows, wrong_direction, key_below, keys_rise, wrong_window, is_bad}
+use Rattle.rows.specs.Rows.{reachable_codec, reachable_of}
+use Rattle.model.specs.Window.{window_rows, lookup, wrong_direction, key_below, keys_rise, wrong_window}
 use Rattle.octets.proofs.Numbers.{num_one}
 
 -- a key of 16 bytes or fewer is that of the tag's front
@@ -22,31 +20,57 @@ pub key_front : (o : ℕ) (key b : List ℕ) → length key ≤ 16 → has_key o
 unfolding has_key part
 key_front o key b h = ap (λ (l : List ℕ). same_bytes l key) (sym (take-take (length key) 16 (drop o b) h))
 
-module _ (a : List ℕ) (n : ℕ) (held-n : n ≡ held (length a) 30 (length a / 30)) where
-  window_next : (i : ℕ) → i < n → drop i (window_rows a) ≡ reachable_of (part a (i * 30) 30) ∷ drop (i + 1) (window_rows a)
-  unfolding window_rows
+-- the rows of a window are all that fit
+pub whole_rows : (a : List ℕ) → length a / 30 ≡ held (length a) 30 (length a / 30)
+unfolding held
+whole_rows a = omega arith
+
+-- the byte of a direction, as it is read
+pub direction : (row : List ℕ) (b : Bool) → length row ≡ 30 → b ≡ no_dir (dir_of (get_or row 8 0)) → b ≡ no_dir (dir_of (num (part row 8 1)))
+direction row b h e = e ∙ ap (λ (x : ℕ). no_dir (dir_of x)) (sym (num_one row 8 (omega arith)))
+
+-- the first row that has a key is the first typed row whose tag begins with it
+pub looked_up : (a key : List ℕ) (f : Option ℕ) → length key ≤ 16 → f ≡ position (has_key 14 key) (rows 30 (length a / 30) a) → f ≡ lookup (window_rows a) key
+unfolding lookup window_rows reachable_of
+looked_up a key f h e = table_find reachable_codec (length a / 30) (length a / 30) a (whole_rows a) _ _ (λ b. key_front 14 key b h) f e
+
+abbrev by : Bool → Bool → Option Ordering
+by l e = Some (cond l Less (cond e Equal Greater))
+
+-- the order of keys, as that of tuples and as the model's
+pub key_order : (a b : Reachable)
+    → partial_lt (λ (p q : ℕ × ℕ × ℕ × ℕ). partial_ordering_then (partial_ordering_then (partial_ordering_then (Some (nat_cmp p.0 q.0)) (Some (nat_cmp p.1 q.1)))
+    (Some (nat_cmp p.2 q.2))) (Some (nat_cmp p.3 q.3))) (a.contact.0, a.dir, a.generation, a.idx) (b.contact.0, b.dir, b.generation, b.idx) ≡ key_below a b
+unfolding key_below
+key_order a b =
+    go (ltb a.contact.0 b.contact.0) (eqb a.contact.0 b.contact.0) (ltb a.dir b.dir) (eqb a.dir b.dir)
+    (ltb a.generation b.generation) (eqb a.generation b.generation) (ltb a.idx b.idx) (eqb a.idx b.idx)
+  where
+    go : (l e m f n g o h : Bool)
+        → is_some_and is_lt (partial_ordering_then (partial_ordering_then (partial_ordering_then (by l e) (by m f)) (by n g)) (by o h))
+        ≡ (l || (e && (m || (f && (n || (g && o))))))
+    go true e m f n g o h = refl
+    go false false m f n g o h = refl
+    go false true true f n g o h = refl
+    go false true false false n g o h = refl
+    go false true false true true g o h = refl
+    go false true false true false false o h = refl
+    go false true false true false true true h = refl
+    go false true false true false true false true = refl
+    go false true false true false true false false = refl
+
+module _ (a : List ℕ) where
+  window_next : (i : ℕ) → i < length a / 30 → drop i (window_rows a) ≡ reachable_of (part a (i * 30) 30) ∷ drop (i + 1) (window_rows a)
+  unfolding window_rows held
   window_next i h = table_next reachable_codec (length a / 30) a i (omega arith)
 
-  length_window : length (window_rows a) ≡ n
-  unfolding window_rows
-  length_window = length_table reachable_codec (length a / 30) a ∙ sym held-n
-
-  -- ---- directions: the rows from i on decide
-
-  module _ (i : ℕ) (left : any wrong_direction (window_rows a) ≡ any wrong_direction (drop i (window_rows a))) where
-    pub direction_next : (b : Bool) → i < n → i * 30 + 8 < length a → no_dir (dir_of (get_or a (i * 30 + 8) 0)) ≡ b
-        → any wrong_direction (window_rows a) ≡ (b || any wrong_direction (drop (i + 1) (window_rows a)))
-    unfolding wrong_direction reachable_of
-    direction_next b h k e =
-        left ∙ any_next wrong_direction (window_rows a) i _ b (window_next i h)
-        (ap (λ (x : ℕ). no_dir (dir_of x)) (ap num (part_part a (i * 30) 30 8 1 (omega arith)) ∙ num_one a (i * 30 + 8) (omega arith)) ∙ e)
-
-    pub direction_end : n ≤ i → false ≡ any wrong_direction (window_rows a)
-    direction_end h = sym (left ∙ any_end wrong_direction (window_rows a) i (omega (arith, length_window)))
+  length_window : length (window_rows a) ≡ length a / 30
+  unfolding window_rows held
+  length_window = omega (arith, length_table reachable_codec (length a / 30) a)
 
   -- ---- keys: a row against the next
 
-  pub rise_next : (i : ℕ) (b : Bool) → i + 1 < n → key_below (reachable_of (part a (i * 30) 30)) (reachable_of (part a (i * 30 + 30) 30)) ≡ b
+  pub rise_next : (i : ℕ) (b : Bool) → i + 1 < length a / 30 → key_below (reachable_of (part a (i * 30) 30)) (reachable_of (part a (i * 30 + 30) 30)) ≡ b
       → keys_rise (drop i (window_rows a)) ≡ (b && keys_rise (drop (i + 1) (window_rows a)))
   unfolding keys_rise
   rise_next i b h e =
@@ -57,7 +81,7 @@ module _ (a : List ℕ) (n : ℕ) (held-n : n ≡ held (length a) 30 (length a /
       ap keys_rise (window_next i (omega arith) ∙ ap (λ (l : List Reachable). x ∷ l) next)
       ∙ ap₂ (λ (c : Bool) (l : List Reachable). c && keys_rise l) e (sym next)
 
-  pub rise_end : (i : ℕ) → n ≤ i + 1 → keys_rise (drop i (window_rows a)) ≡ true
+  pub rise_end : (i : ℕ) → length a / 30 ≤ i + 1 → keys_rise (drop i (window_rows a)) ≡ true
   unfolding keys_rise
   rise_end i h = go (drop i (window_rows a)) (omega (arith, length_window, length-drop i (window_rows a)))
     where
@@ -73,32 +97,8 @@ wrong_of a x y z px py pz = rw (px, py, pz)
 
 -- ---- bad tags
 
--- a row at a place, by its peer and its tag
-module _ (a tag : List ℕ) (at id v : ℕ) (e : v ≡ num (part a at 8)) where
-  pub bad_peer : (r : Bool) → v ≡ id → length tag ≡ 16 → r ≡ same_bytes (part a (at + 8) 16) (part tag 0 16)
-      → r ≡ (eqb (num (part a at 8)) id && same_bytes (part a (at + 8) 16) tag)
-  bad_peer r q l f =
-      f ∙ ap₂ (λ (b : Bool) (t : List ℕ). b && same_bytes (part a (at + 8) 16) t) (sym (eq-eqb (num (part a at 8)) id (sym e ∙ q))) (part_whole tag 16 l)
-
-  pub bad_other : (v ≡ id → ⊥) → false ≡ (eqb (num (part a at 8)) id && same_bytes (part a (at + 8) 16) tag)
-  bad_other q = sym (ap (λ (b : Bool). b && same_bytes (part a (at + 8) 16) tag) (ne_eqb (num (part a at 8)) id (λ z. q (e ∙ z))))
-
--- the rows from i on decide
-
-module _ (count n : ℕ) (a : List ℕ) (peer : ContactId) (tag : List ℕ) (held-n : n ≡ held (length a) 24 count) (i : ℕ)
-    (left : is_bad (table_of bad_tag_codec count a) peer tag ≡ is_bad (drop i (table_of bad_tag_codec count a)) peer tag) where
-  pub bad_next : (b : Bool) → i < n → (eqb (num (part a (i * 24) 8)) peer.0 && same_bytes (part a (i * 24 + 8) 16) tag) ≡ b
-      → is_bad (table_of bad_tag_codec count a) peer tag ≡ (b || is_bad (drop (i + 1) (table_of bad_tag_codec count a)) peer tag)
-  unfolding is_bad bad_tag_of
-  bad_next b h e =
-      let z : i * 24 + 0 ≡ i * 24 = omega arith in
-      left ∙ any_next (λ (r : BadTag). same_contact r.peer peer && same_bytes r.tag tag) (table_of bad_tag_codec count a) i _ b
-      (table_next bad_tag_codec count a i (omega arith))
-      (ap₂ (λ (p t : List ℕ). eqb (num p) peer.0 && same_bytes t tag)
-      (part_part a (i * 24) 24 0 8 (omega arith) ∙ ap (λ (k : ℕ). part a k 8) z) (part_part a (i * 24) 24 8 16 (omega arith)) ∙ e)
-
-  pub bad_end : n ≤ i → false ≡ is_bad (table_of bad_tag_codec count a) peer tag
-  unfolding is_bad
-  bad_end h =
-      sym (left ∙ any_end (λ (r : BadTag). same_contact r.peer peer && same_bytes r.tag tag) (table_of bad_tag_codec count a) i
-      (omega (arith, length_table bad_tag_codec count a)))
+-- a row by its peer and its tag
+pub bad_row : (row tag : List ℕ) (id v : ℕ) (r : Bool) → v ≡ num (part row 0 8) → eqb v id ≡ true → length tag ≡ 16
+    → r ≡ same_bytes (part row 8 16) (part tag 0 16) → r ≡ (eqb (num (part row 0 8)) id && same_bytes (part row 8 16) tag)
+bad_row row tag id v r e q l f =
+    f ∙ ap₂ (λ (b : Bool) (t : List ℕ). b && same_bytes (part row 8 16) t) (sym (ap (λ (x : ℕ). eqb x id) (sym e) ∙ q)) (part_whole tag 16 l)

@@ -32,17 +32,9 @@ left_step (suc (suc (suc zero))) v h g = (omega arith, omega arith)
 left_step (suc (suc (suc (suc zero)))) v h g = absurd (omega arith)
 left_step (suc (suc (suc (suc (suc n))))) v h g = absurd (omega arith)
 
-pub left_end : (n v : ℕ) → v < left n → n < 5
-unfolding left
-left_end zero v h = omega arith
-left_end (suc zero) v h = omega arith
-left_end (suc (suc zero)) v h = omega arith
-left_end (suc (suc (suc zero))) v h = omega arith
-left_end (suc (suc (suc (suc zero)))) v h = omega arith
-left_end (suc (suc (suc (suc (suc n))))) v h = absurd (omega arith)
-
 -- n bytes are written, and v is to be encoded yet
 pub record Encoding (value : ℕ) (bytes : List ℕ) (v n : ℕ) : Type 0 where
+  pub few : n < 5
   pub small : v < left n
   pub room : length bytes ≡ 5
   pub zeros : drop n bytes ≡ replicate (5 - n) 0
@@ -52,18 +44,19 @@ module _ (value : ℕ) (bytes : List ℕ) (v n : ℕ) (s : Encoding value bytes 
   -- behind a byte written at n
   zeros_behind : (b : ℕ) → drop (n + 1) (set bytes n b) ≡ replicate (5 - (n + 1)) 0
   zeros_behind b =
-      let h : n < 5 = left_end n v s.small in
+      let h : n < 5 = s.few in
       let e : 5 - n ≡ suc (5 - (n + 1)) = omega arith in
       drop-set-lt (n + 1) bytes n b (omega arith) ∙ sym (drop-drop 1 n bytes) ∙ ap (drop 1) (s.zeros ∙ ap (λ (k : ℕ). replicate k 0) e)
 
   front : (b : ℕ) → take (n + 1) (set bytes n b) ≡ take n bytes ++ (b ∷ [])
-  front b = let h : n < 5 = left_end n v s.small in ap (λ (k : ℕ). take k (set bytes n b)) (add-one n) ∙ take-suc-set bytes n b (omega arith)
+  front b = let h : n < 5 = s.few in ap (λ (k : ℕ). take k (set bytes n b)) (add-one n) ∙ take-suc-set bytes n b (omega arith)
 
   pub encode_more : 128 ≤ v → Encoding value (set bytes n (v % 128 + 128)) (v / 128) (n + 1)
   encode_more g =
       let h : n < 4 = (left_step n v s.small g).0 in
       let e : 4 - n ≡ suc (4 - (n + 1)) = omega arith in
       record {
+        few = omega arith;
         small = (left_step n v s.small g).1;
         room = length-set bytes n (v % 128 + 128) ∙ s.room;
         zeros = zeros_behind (v % 128 + 128);
@@ -75,7 +68,7 @@ module _ (value : ℕ) (bytes : List ℕ) (v n : ℕ) (s : Encoding value bytes 
   pub encode_last : v < 128 → ◌≡◌ {A = Encoded} (record { bytes = set bytes n v; len = n + 1 }) (encoded (leb128 value))
   unfolding encoded
   encode_last g =
-      let h : n < 5 = left_end n v s.small in
+      let h : n < 5 = s.few in
       let b : List ℕ = take n bytes ++ (v ∷ []) in
       let whole : b ≡ leb128 value = ap (λ (l : List ℕ). take n bytes ++ l) (sym (leb_last (4 - n) v g)) ∙ s.whole in
       let len : length b ≡ n + 1 = length-append (take n bytes) (v ∷ []) ∙ ap (λ (k : ℕ). k + 1) (length-take-le n bytes (omega arith)) in

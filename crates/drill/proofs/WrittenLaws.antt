@@ -1,6 +1,7 @@
 -- Laws of what is sent. Assumes nothing.
 use mathlib.Core.Path.{◌≡◌, refl, sym, ap, ◌∙◌, subst}
 use mathlib.Core.Bool.{true, false, false≢true}
+use Rattle.std.specs.Prelude.{Bool, Option, Some, None}
 use mathlib.Core.List.{List, [], ◌++◌, append-nil, append_assoc}
 use Prim.Native.Nat.{ℕ, ◌+◌, ◌-◌, ◌%◌, ◌^◌, ◌≤◌, ◌<◌}
 use native.Mathlib.Omega.{arith}
@@ -11,14 +12,17 @@ use Rattle.octets.proofs.Parts.{length_part, take_written}
 use Rattle.text.specs.Text.{Puts}
 use Rattle.model.specs.State.{State}
 use Rattle.model.specs.Areas.{Areas}
-use Rattle.drill_run.specs.Drill.{drill_areas, printed}
+use Rattle.drill_run.specs.Drill.{drill_start, drill_areas, printed}
+use Rattle.drill_log.specs.declared.Why.{Why}
+use Rattle.drill_log.specs.declared.Why.TheVariants as cause
+use Rattle.drill_log.specs.Run.{goes_on}
 use Rattle.drill_turn.specs.declared.Turn.{Turn}
-use Rattle.drill_turn.specs.Stream.{left, read_of, Inside, Fed, Turned, AtEnd, Streamed, Printed}
-use Rattle.drill_turn.proofs.StreamLaws.{streamed_more, between_on, between_end}
+use Rattle.drill_turn.specs.Stream.{first_turn, left, read_of, read_turn, Inside, Waits, Keeps, Fed, Turned, AtEnd, Between, Streamed, Printed}
+use Rattle.drill_turn.proofs.StreamLaws.{fed_read, streamed_more, between_start, between_on, between_end}
 use Rattle.drill.specs.declared.Wrote.{Wrote}
 use Rattle.drill.specs.declared.Ran.{Ran}
-use Rattle.drill.specs.Reads.{Filled}
-use Rattle.drill.specs.Written.{Sent, Takes, Writes, ran_of, Halts, Finishes, Sending, SentAll}
+use Rattle.drill.specs.Reads.{Reads, Filled}
+use Rattle.drill.specs.Written.{Sent, Takes, Writes, ran_of, is_done, is_unbroken, Halts, Finishes, Sending, SentAll}
 
 -- ---- one write, none, and one after another
 
@@ -75,27 +79,72 @@ takes_text {most} {n} {total} {k} {total'} {o} {x} {text} {text'} h p e t =
 
 -- ---- the end of a run
 
+pub done_unbroken : (why : Option Why) → is_done why ≡ true → is_unbroken why ≡ true
+done_unbroken None h = h
+done_unbroken (Some cause.More) h = refl
+done_unbroken (Some cause.Full) h = refl
+done_unbroken (Some cause.Refused) h = refl
+done_unbroken (Some cause.Ended) h = refl
+done_unbroken (Some cause.Failed) h = h
+
+-- what goes on is not done
+pub going_not_done : (why : Why) → goes_on why ≡ true → is_done (Some why) ≡ false
+going_not_done cause.More h = refl
+going_not_done cause.Full h = refl
+going_not_done cause.Refused h = absurd (false≢true h)
+going_not_done cause.Ended h = absurd (false≢true h)
+going_not_done cause.Failed h = refl
+
+-- one is told at number 13, the other at the end
+is_ended : Option Why → Bool
+is_ended None = false
+is_ended (Some cause.More) = false
+is_ended (Some cause.Full) = false
+is_ended (Some cause.Refused) = false
+is_ended (Some cause.Ended) = true
+is_ended (Some cause.Failed) = false
+
 module _ (t : Turn) {r : Ran} where
-  pub halts_refused : (w : Wrote) → t.why ≡ 2 → w.whole ≡ true → r ≡ ran_of t w.total 2 → Halts t w r
+  pub halts_refused : (w : Wrote) → t.why ≡ cause.Refused → w.whole ≡ true → r ≡ ran_of t w.total (Some cause.Refused) → Halts t w r
   halts_refused w e whole is = subst (Halts t w) (sym is) (record { read = refl; wrote = refl; refused = λ h. (refl, e, whole) })
 
-  pub halts_cut : (w : Wrote) → r ≡ ran_of t w.total 5 → Halts t w r
-  halts_cut w is = subst (Halts t w) (sym is) (record { read = refl; wrote = refl; refused = λ h. absurd (omega (arith, h)) })
+  pub halts_cut : (w : Wrote) → r ≡ ran_of t w.total None → Halts t w r
+  halts_cut w is = subst (Halts t w) (sym is) (record { read = refl; wrote = refl; refused = λ h. absurd (false≢true h) })
 
-  pub finishes_ended : {total put : ℕ} {out : List ℕ} {w : Wrote} → t.why ≡ 3 → AtEnd t put out → Writes total (take put out) w → w.whole ≡ true
-      → r ≡ ran_of t w.total 3 → Finishes t total r
+  pub finishes_ended : {total put : ℕ} {out : List ℕ} {w : Wrote} → t.why ≡ cause.Ended → AtEnd t put out → Writes total (take put out) w → w.whole ≡ true
+      → r ≡ ran_of t w.total (Some cause.Ended) → Finishes t total r
   unfolding Writes
   finishes_ended {total} {put} {out} {w} e end writes whole is =
       subst (Finishes t total) (sym is) (record { read = refl; ended = λ h. (refl, e, record { put = put; out = out; end = end; sent = writes whole }) })
 
   -- a read or a write that failed
-  pub finishes_cut : (total wrote why : ℕ) → 4 ≤ why → r ≡ ran_of t wrote why → Finishes t total r
-  finishes_cut total wrote why h is = subst (Finishes t total) (sym is) (record { read = refl; ended = λ l. absurd (omega (arith, h, l)) })
+  pub finishes_cut : (total wrote : ℕ) (why : Option Why) → is_unbroken why ≡ false → r ≡ ran_of t wrote why → Finishes t total r
+  finishes_cut total wrote why h is = subst (Finishes t total) (sym is) (record { read = refl; ended = λ l. absurd (false≢true (sym h ∙ l)) })
 
 -- ---- the run
 
+-- before the first turn, over cells that stand as the start has them
+pub sending_start : {t : Turn} {zo zk input : List ℕ} (c o k t' oc rc p f : List ℕ) → oc ≡ zo → rc ≡ zk → t ≡ first_turn
+    → length c ≡ 2304 → length o ≡ 13824 → length k ≡ 14592 → length t' ≡ 45056 → length p ≡ 4096 → length f ≡ 8704
+    → Sending (drill_start zo zk) (drill_areas t.device t.exchange c o k t' oc rc p f) t input 0
+sending_start {t} {zo} {zk} {input} c o k t' oc rc p f eo ek e lc lo lk lt lp lf = record {
+  turning = record {
+    lines = [];
+    between = subst (λ (s : State). Between s (drill_areas t.device t.exchange c o k t' oc rc p f) t input []) (λ i. drill_start (eo i) (ek i))
+        (between_start c o k t' oc rc p f input e lc lo lk lt lp lf);
+  };
+  sent = sent_none;
+}
+
 pub inside_buffer : {from have size : ℕ} → Inside from have → size ≡ 65536 → have ≤ size
 inside_buffer i e = omega (arith, i.room, e)
+
+-- a read behind what is kept, whole or failed
+pub filled : {t k v : Turn} {input moved input' : List ℕ} {n : ℕ} (failed : Bool) → Waits t input → Keeps t input k moved → length moved ≡ 65536
+    → Reads moved k.have n input' → length input' ≡ 65536 → t.why ≡ cause.More → v ≡ read_turn k n failed → Filled t input v input'
+filled {t} {k} {v} {input} {moved} {input'} {n} failed waits keeps size reads size' more e =
+    let fed : Fed t input v input' = fed_read t input moved input' n failed waits.inside keeps reads.front (omega (arith, reads.room)) size' more e in
+    record { fed = fed; inside = λ w h. inside_buffer fed.inside size' }
 
 module _ {s : State} {c o k t oc rc p f : List ℕ} {u v : Turn} {input input' : List ℕ} {total : ℕ}
     (so_far : Sending s (drill_areas u.device u.exchange c o k t oc rc p f) u input total) (filled : Filled u input v input') where
@@ -106,20 +155,20 @@ module _ {s : State} {c o k t oc rc p f : List ℕ} {u v : Turn} {input input' :
   lines = so_far.turning.lines
 
   pub written_end : {r : Ran} → Finishes v total r → SentAll s r
-  unfolding SentAll
-  written_end {r} done low high =
-      let z = done.ended high in
+  unfolding SentAll is_ended
+  written_end {r} done told =
+      let z = done.ended (done_unbroken r.why told) in
       let w : Printed s (read_of v) (lines ++ take z.2.put z.2.out) = between_end so_far.turning.between fed z.1 (filled.inside z.1 so_far.turning.between.goes_on) z.2.end in record {
         log = w.log;
         size = w.size ∙ sym done.read;
         sent = subst (Sent r.wrote) (sym w.prints) (z.2.sent lines so_far.sent);
-        begins = λ e. absurd (omega (arith, e, z.0));
+        begins = λ e. absurd (false≢true (ap is_ended (sym e ∙ z.0)));
       }
 
   module _ {a : Areas} {w : Turn} {wrote : Wrote} {out : List ℕ} (turned : Turned (drill_areas v.device v.exchange c o k t oc rc p f) a v input' w out)
       (writes : Writes total (take w.put out) wrote) where
     -- the next turn
-    pub sending_on : w.why < 2 → wrote.whole ≡ true → Sending s a w input' wrote.total
+    pub sending_on : goes_on w.why ≡ true → wrote.whole ≡ true → Sending s a w input' wrote.total
     unfolding Writes
     sending_on h whole = record {
       turning = record { lines = lines ++ take w.put out; between = between_on so_far.turning.between fed turned h };
@@ -129,8 +178,8 @@ module _ {s : State} {c o k t oc rc p f : List ℕ} {u v : Turn} {input input' :
     -- number 13
     pub written_stop : {r : Ran} → Halts w wrote r → SentAll s r
     unfolding Writes SentAll
-    written_stop {r} halts low high =
-        let z = halts.refused high in
+    written_stop {r} halts told =
+        let z = halts.refused (done_unbroken r.why told) in
         let here : Streamed s (drill_areas v.device v.exchange c o k t oc rc p f) (left v input') (read_of v) lines =
         streamed_more fed.more fed.device fed.exchange fed.rest fed.counted so_far.turning.between.streamed in
         let all : (more : List ℕ) → printed s (here.log ++ more) ≡ lines ++ take w.put out =
@@ -143,6 +192,6 @@ module _ {s : State} {c o k t oc rc p f : List ℕ} {u v : Turn} {input input' :
         }
 
 -- the turns are used up
-pub written_none : (s : State) (u : Turn) {r : Ran} (total : ℕ) → u.why < 2 → r ≡ ran_of u total u.why → SentAll s r
+pub written_none : (s : State) (u : Turn) {r : Ran} (total : ℕ) → goes_on u.why ≡ true → r ≡ ran_of u total (Some u.why) → SentAll s r
 unfolding SentAll
-written_none s u {r} total h is low high = absurd (omega (arith, h, low, ap (λ (x : Ran). x.why) is))
+written_none s u {r} total h is told = absurd (false≢true (sym (going_not_done u.why h) ∙ ap (λ (x : Ran). is_done x.why) (sym is) ∙ told))

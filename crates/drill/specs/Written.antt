@@ -1,11 +1,13 @@
 -- What the program writes: bytes that write took, in order. No contract says what the system does with the bytes of a write, so that these
 -- definitions count them. Assumes nothing.
-use Rattle.std.specs.Prelude.{ℕ, ◌+◌, ◌%◌, ◌^◌, ◌≤◌, ◌<◌, ◌≡◌, true, List, [], ◌∷◌, ◌++◌, length, take}
+use Rattle.std.specs.Prelude.{ℕ, ◌+◌, ◌%◌, ◌^◌, ◌≤◌, ◌<◌, ◌≡◌, Bool, true, false, Option, Some, None, List, [], ◌∷◌, ◌++◌, length, take}
 use Rattle.model.specs.State.{State}
 use Rattle.model.specs.Areas.{Areas}
 use Rattle.drill_run.specs.Drill.{printed}
 use Rattle.drill_reason.specs.Reason.{reason_of}
 use Rattle.drill_reason.specs.Message.{message_of}
+use Rattle.drill_log.specs.declared.Why.{Why}
+use Rattle.drill_log.specs.declared.Why.TheVariants as cause
 use Rattle.drill_turn.specs.declared.Turn.{Turn}
 use Rattle.drill_turn.specs.Stream.{left, read_of, AtEnd, Turning}
 use Rattle.drill.specs.declared.Wrote.{Wrote}
@@ -49,15 +51,32 @@ usage =
 
 -- ---- the end of a run
 
+-- Did the run come to a record of number 13 or to the end of the input? Was it cut off neither by a read nor by a write that failed?
+abbrev pub is_done : Option Why → Bool
+is_done None = false
+is_done (Some cause.More) = false
+is_done (Some cause.Full) = false
+is_done (Some cause.Refused) = true
+is_done (Some cause.Ended) = true
+is_done (Some cause.Failed) = false
+
+abbrev pub is_unbroken : Option Why → Bool
+is_unbroken None = false
+is_unbroken (Some cause.More) = true
+is_unbroken (Some cause.Full) = true
+is_unbroken (Some cause.Refused) = true
+is_unbroken (Some cause.Ended) = true
+is_unbroken (Some cause.Failed) = false
+
 -- what a run answers of its last turn
-abbrev pub ran_of : Turn → (wrote why : ℕ) → Ran
+abbrev pub ran_of : Turn → (wrote : ℕ) → Option Why → Ran
 ran_of t wrote why = record { why = why; read = read_of t; wrote = wrote }
 
 -- After number 13: it is told only where all of the turn's lines were sent.
 pub record Halts (t : Turn) (w : Wrote) (r : Ran) : Type 0 where
   pub read : r.read ≡ read_of t
   pub wrote : r.wrote ≡ w.total
-  pub refused : r.why < 4 → (r.why ≡ 2) × (t.why ≡ 2) × (w.whole ≡ true)
+  pub refused : is_unbroken r.why ≡ true → (r.why ≡ Some cause.Refused) × (t.why ≡ cause.Refused) × (w.whole ≡ true)
 
 -- the line at the end of the input, if there is one, sent behind all that was
 pub record LastSent (t : Turn) (total total' : ℕ) : Type 0 where
@@ -69,7 +88,7 @@ pub record LastSent (t : Turn) (total total' : ℕ) : Type 0 where
 -- After the end of the input: it is told only where its last line was sent.
 pub record Finishes (t : Turn) (total : ℕ) (r : Ran) : Type 0 where
   pub read : r.read ≡ read_of t
-  pub ended : r.why < 4 → (r.why ≡ 3) × (t.why ≡ 3) × LastSent t total r.wrote
+  pub ended : is_unbroken r.why ≡ true → (r.why ≡ Some cause.Ended) × (t.why ≡ cause.Ended) × LastSent t total r.wrote
 
 -- between two turns: all lines of the turns so far were sent
 pub record Sending (s : State) (a : Areas) (t : Turn) (input : List ℕ) (total : ℕ) : Type 0 where
@@ -81,8 +100,8 @@ pub record Whole (s : State) (r : Ran) : Type 0 where
   pub log : List ℕ
   pub size : length log % 2 ^ 64 ≡ r.read
   pub sent : Sent r.wrote (printed s log)
-  pub begins : r.why ≡ 2 → (more : List ℕ) → printed s (log ++ more) ≡ printed s log
+  pub begins : r.why ≡ Some cause.Refused → (more : List ℕ) → printed s (log ++ more) ≡ printed s log
 
 -- where a run says that it ended at number 13 or at the end of the input
 unfoldable pub SentAll : State → Ran → Type 0
-SentAll s r = 1 < r.why → r.why < 4 → Whole s r
+SentAll s r = is_done r.why ≡ true → Whole s r

@@ -4,9 +4,11 @@
 ghost use Rattle.std.specs.Prelude.{◌≡◌, ◌≤◌, ◌<◌, length, take, replicate};
 ghost use Rattle.drill_run.specs.Drill.{drill_start};
 ghost use Rattle.drill_turn.specs.Stream.{Inside, Waits, Stops};
-ghost use Rattle.drill.specs.Reads.{Reads, Filled};
+ghost use Rattle.drill.specs.Reads.{count_of, Reads, Filled};
 ghost use Rattle.drill.specs.Written.{Takes, Writes, told_of, usage, ran_of, Halts, Finishes, SentAll};
 
+use drill_calls::Tables;
+use drill_log::Why;
 use drill_turn::Turn;
 use std::env::{Env, FillError};
 use std::fmt::InlineText;
@@ -32,24 +34,12 @@ fn fail(stderr: Stderr, what: &str, error: io::Error) {
 
 // ---- reading
 
-#[derive(Drop)]
-struct Got {
-    n: usize,
-    error: Option<io::Error>,
-}
-
 // Reads once behind the first bytes. A read of no bytes is the end of the input, so that there must be room.
-fn read_behind(mut stdin: Stdin, input: &mut [u8], at: usize) -> Got
+fn read_behind(mut stdin: Stdin, input: &mut [u8], at: usize) -> io::Result<usize>
     requires { at < length input.old }
-    ensures { Reads input.old at result.n input.new }
+    ensures { Reads input.old at (count_of result) input.new }
 {
-    match stdin.read(&mut input[at..]) {
-        Ok(n) => Got { n, error: None },
-        Err(e) => Got {
-            n: 0,
-            error: Some(e),
-        },
-    }
+    stdin.read(&mut input[at..])
 }
 
 // Reads once, if more input is wanted, and says where it cannot. There is room: what is kept is less than a record and its head, 8,196 bytes.
@@ -57,16 +47,17 @@ fn fill(stdin: Stdin, stderr: Stderr, turn: Turn, input: &mut [u8; 65536]) -> Tu
     requires { Waits turn input.old }
     ensures { Filled turn input.old result input.new }
 {
-    if turn.why > drill_turn::MORE {
+    if turn.why != Why::More {
         return turn;
     }
     let kept = drill_turn::keep(turn, input);
-    let got = read_behind(stdin, input, kept.have);
-    let failed = got.error.is_some();
-    if let Some(e) = got.error {
-        fail(stderr, "standard input", e);
+    match read_behind(stdin, input, kept.have) {
+        Ok(n) => drill_turn::grow(kept, n, false),
+        Err(e) => {
+            fail(stderr, "standard input", e);
+            drill_turn::grow(kept, 0, true)
+        }
     }
-    drill_turn::grow(kept, got.n, failed)
 }
 
 // ---- writing
@@ -168,17 +159,15 @@ fn tell(stderr: Stderr, turn: Turn, input: &[u8; 65536]) -> Took
 
 // ---- the run
 
-const UNWRITTEN: u8 = 5; // the output could not be written
-
-// Why a run ended, as `drill_turn` numbers it; how many bytes of the log it read, and how many bytes of lines write took, both modulo 2^64.
+// Why a run ended, or none where the output could not be written; how many bytes of the log it read, and how many bytes of lines write took, both modulo 2^64.
 #[derive(Drop)]
 struct Ran {
-    why: u8,
+    why: Option<Why>,
     read: u64,
     wrote: u64,
 }
 
-fn ended(turn: Turn, wrote: u64, why: u8) -> Ran
+fn ended(turn: Turn, wrote: u64, why: Option<Why>) -> Ran
     ensures { result ≡ ran_of turn wrote why }
 {
     Ran {
@@ -194,12 +183,12 @@ fn stop(stderr: Stderr, turn: Turn, input: &[u8; 65536], wrote: Wrote) -> Ran
     ensures { Halts turn wrote result }
 {
     if wrote.whole {
-        if turn.why == drill_turn::REFUSED {
+        if turn.why == Why::Refused {
             tell(stderr, turn, input);
-            return ended(turn, wrote.total, drill_turn::REFUSED);
+            return ended(turn, wrote.total, Some(Why::Refused));
         }
     }
-    ended(turn, wrote.total, UNWRITTEN)
+    ended(turn, wrote.total, None)
 }
 
 // The end of the input, or a read that failed.
@@ -214,8 +203,8 @@ fn finish(
     requires { Stops turn input.now }
     ensures { Finishes turn total result }
 {
-    if turn.why != drill_turn::ENDED {
-        return ended(turn, total, drill_turn::FAILED);
+    if turn.why != Why::Ended {
+        return ended(turn, total, Some(Why::Failed));
     }
     let n = drill_turn::at_end(turn, out);
     let wrote = emit(stdout, stderr, out, n, total);
@@ -223,64 +212,54 @@ fn finish(
         if n > 0 {
             tell(stderr, turn, input);
         }
-        return ended(turn, wrote.total, drill_turn::ENDED);
+        return ended(turn, wrote.total, Some(Why::Ended));
     }
-    ended(turn, wrote.total, UNWRITTEN)
+    ended(turn, wrote.total, None)
 }
 
-// Nothing says that the input ends, so the turns are counted down, from a number that no run uses up.
+// Areas of zeros: a fresh device has no row of them.
+fn no_tables() -> Tables
+    ensures zeros { (result.own_cells ≡ replicate 33024 0) × (result.cells ≡ replicate 33024 0) }
+    ensures sizes { (length result.prefixes ≡ 4096) × (length result.offers ≡ 8704) }
+{
+    Tables {
+        contacts: [0u8; 2304],
+        own: [0u8; 13824],
+        carried: [0u8; 14592],
+        tombstones: [0u8; 45056],
+        own_cells: [0u8; 33024],
+        cells: [0u8; 33024],
+        prefixes: [0u8; 4096],
+        offers: [0u8; 8704],
+        replies: [0u8; 61440],
+        actions: [0u8; 19968],
+    }
+}
+
+// Nothing says that the input ends, so the turns are counted, to a number that no run reaches.
 fn run(stdin: Stdin, stdout: Stdout, stderr: Stderr) -> Ran
     ensures { SentAll (drill_start (replicate 33024 0) (replicate 33024 0)) result }
 {
     let mut input = [0u8; 65536];
     let mut out = [0u8; 655360];
-    let mut contacts = [0u8; 2304];
-    let mut own = [0u8; 13824];
-    let mut carried = [0u8; 14592];
-    let mut tombstones = [0u8; 45056];
-    let own_cells = [0u8; 33024];
-    let mut cells = [0u8; 33024];
-    let mut prefixes = [0u8; 4096];
-    let mut offers = [0u8; 8704];
-    let mut replies = [0u8; 61440];
-    let mut actions = [0u8; 19968];
-    let mut blob = [0u8; 2110];
+    let mut tables = no_tables();
     let mut turn = drill_turn::start();
     let mut total = 0;
-    let mut turns = u64::MAX;
-    while turns > 0 {
-        turns -= 1;
+    for _ in 0..u64::MAX {
         let filled = fill(stdin, stderr, turn, &mut input);
-        if filled.why > drill_turn::REFUSED {
+        if matches!(filled.why, Why::Ended | Why::Failed) {
             return finish(stdout, stderr, filled, &input, &mut out, total);
         }
-        let next = drill_turn::advance(
-            filled,
-            &input,
-            &mut contacts,
-            &mut own,
-            &mut carried,
-            &mut tombstones,
-            &own_cells,
-            &mut cells,
-            &mut prefixes,
-            &mut offers,
-            &mut replies,
-            &mut actions,
-            &mut blob,
-            &mut out,
-        );
+        let next = drill_turn::advance(filled, &input, &mut tables, &mut out);
         let wrote = emit(stdout, stderr, &out, next.put, total);
-        if next.why < drill_turn::REFUSED {
-            if wrote.whole {
-                turn = next;
-                total = wrote.total;
-                continue;
-            }
+        if next.why.goes_on() && wrote.whole {
+            turn = next;
+            total = wrote.total;
+            continue;
         }
         return stop(stderr, next, &input, wrote);
     }
-    ended(turn, total, turn.why)
+    ended(turn, total, Some(turn.why))
 }
 
 // ---- how it is used

@@ -1,12 +1,9 @@
 -- What each call's answer tells is what the model's step of it tells: so many actions and replies, and the last line.
 -- Assumes nothing.
-use Rattle.std.proofs.Common.{◌≡◌, ℕ, Bool, true, false, cond, not, eqb, List, [], ◌∷◌, length, get_or, refl}
-use mathlib.Core.Option.{Option, none, some}
+use Rattle.std.proofs.Common.{◌≡◌, ℕ, Bool, true, false, cond, not, eqb, List, [], ◌∷◌, length, get_or, refl, Option, Some, None}
 use Rattle.courier_core.specs.declared.ContactId.{ContactId}
 use Rattle.courier_core.specs.declared.Verification.{Verification}
 use Rattle.courier_core.specs.declared.Refusal.{Refusal}
-use Rattle.table.specs.declared.Found.{Found}
-use Rattle.table.specs.declared.Found.TheVariants.{At, Nothing}
 use Rattle.table.specs.Lists.{position}
 use Rattle.courier.specs.declared.Header.{Header}
 use Rattle.courier.specs.declared.Custody.{Custody}
@@ -22,7 +19,7 @@ use Rattle.model.specs.Tombs as met
 use Rattle.model.specs.Tombs.{Met, meets, tomb_tests, turn, end_own, receive_tomb}
 use Rattle.model.specs.Maintenance.{maintenance_tests, maintain_couriers}
 use Rattle.model.specs.Step.{step, tests, perform}
-use Rattle.contacts.specs.Answers.{said_of, opened_of}
+use Rattle.contacts.specs.Answers.{said_of}
 use Rattle.envelope.specs.Answers.{envelope_says}
 use Rattle.inventory.specs.Inventory.{received_says}
 use Rattle.fetch.specs.Fetch.{fetch_says}
@@ -30,7 +27,8 @@ use Rattle.handover.specs.Handing.{says}
 use Rattle.tombs.specs.Tombs.{says as tomb_says}
 use Rattle.maintenance.specs.Expiry.{maintained_of}
 use Rattle.drill_run.specs.Drill.{tells}
-use Rattle.drill_calls.specs.Asking.{Summary, set_told, opened_told, envelope_told, inventory_told, fetch_told, custody_told, tomb_told, maintained_told}
+use Rattle.drill_calls.specs.declared.Told.{Told}
+use Rattle.drill_calls.specs.Asking.{told_by, done_told, acted_told, envelope_told, inventory_told, fetch_told, tomb_told}
 
 -- ---- what holds of every refusal, and of what a call performs, holds of its step
 
@@ -44,26 +42,26 @@ by_step P [] p r h = h
 by_step P (t ∷ ts) p r h = choose P t.0 (r t.1) (by_step P ts p r h)
 
 -- what an answer tells is what the result tells
-abbrev Same : {A : Type 0} → (A → Summary) → (Result → A) → Result → Type 0
-Same told says o = told (says o) ≡ tells o
+abbrev pub Same : {A : Type 0} → (A → Told) → (Result → A) → Result → Type 0
+Same told says o = told_by (told (says o)) ≡ tells o
 
 module _ (s : State) where
-  pub clock_told : (seconds : ℕ) → Same set_told said_of (step s (calls.clock seconds))
+  pub clock_told : (seconds : ℕ) → Same done_told said_of (step s (calls.clock seconds))
   unfolding step tests perform tells set_clock
-  clock_told seconds = by_step (Same set_told said_of) [] (set_clock seconds) (λ why. refl) refl
+  clock_told seconds = by_step (Same done_told said_of) [] (set_clock seconds) (λ why. refl) refl
 
-  pub contact_told : (id : ContactId) (v : Verification) → Same set_told said_of (step s (calls.contact id v))
+  pub contact_told : (id : ContactId) (v : Verification) → Same done_told said_of (step s (calls.contact id v))
   unfolding step tests perform tells set_contact
-  contact_told id v = by_step (Same set_told said_of) (contact_tests s id) (set_contact s id v) (λ why. refl) refl
+  contact_told id v = by_step (Same done_told said_of) (contact_tests s id) (set_contact s id v) (λ why. refl) refl
 
-  pub setting_told : (enabled : Bool) (copies lifetime : ℕ) → Same set_told said_of (step s (calls.setting enabled copies lifetime))
+  pub setting_told : (enabled : Bool) (copies lifetime : ℕ) → Same done_told said_of (step s (calls.setting enabled copies lifetime))
   unfolding step tests perform tells set_config
   setting_told enabled copies lifetime =
-      by_step (Same set_told said_of) (setting_tests copies lifetime) (set_config enabled copies lifetime) (λ why. refl) refl
+      by_step (Same done_told said_of) (setting_tests copies lifetime) (set_config enabled copies lifetime) (λ why. refl) refl
 
-  pub session_told : (peer : ContactId) → Same opened_told opened_of (step s (calls.open_exchange peer))
+  pub session_told : (peer : ContactId) → Same done_told said_of (step s (calls.open_exchange peer))
   unfolding step tests perform tells open_exchanged
-  session_told peer = by_step (Same opened_told opened_of) (open_exchange_tests s peer) (open_exchanged peer) (λ why. refl) refl
+  session_told peer = by_step (Same done_told said_of) (open_exchange_tests s peer) (open_exchanged peer) (λ why. refl) refl
 
   pub envelope_told_lem : (replies actions : ℕ) (window : List ℕ) (peer : ContactId) (head : Header) (ct : List ℕ)
       → Same envelope_told envelope_says (step s (calls.envelope replies actions window peer head ct))
@@ -75,10 +73,10 @@ module _ (s : State) where
       Q : Result → Type 0
       Q = Same envelope_told envelope_says
 
-      go : (f : Found) → Same envelope_told envelope_says (match_found f (λ i. ours_at (get_or (window_rows window) i no_reachable))
+      go : (f : Option ℕ) → Same envelope_told envelope_says (match_found f (λ i. ours_at (get_or (window_rows window) i no_reachable))
           (answer_custody s peer head ct (custody_of s peer head (length ct))))
-      go (At i) = refl
-      go Nothing = refl
+      go (Some i) = refl
+      go None = refl
 
   pub inventory_told_lem : (replies : ℕ) (window : List ℕ) (peer : ContactId) (listed : List ℕ)
       → Same inventory_told received_says (step s (calls.inventory_received replies window peer listed))
@@ -91,15 +89,15 @@ module _ (s : State) where
       Q = Same inventory_told received_says
 
   pub custody_told_lem : (actions : ℕ) (peer : ContactId) (tag : List ℕ) (code : Custody)
-      → Same custody_told says (step s (calls.custody_answer actions peer tag code))
+      → Same acted_told says (step s (calls.custody_answer actions peer tag code))
   unfolding step tests perform tells receive_custody settle
   custody_told_lem actions peer tag code =
-      by_step (Same custody_told says) (custody_tests s actions peer) (receive_custody s tag code) (λ why. refl)
+      by_step (Same acted_told says) (custody_tests s actions peer) (receive_custody s tag code) (λ why. refl)
       (go (position (offer_of_tag tag) s.session.exchange.offered))
     where
-      go : (f : Found) → Same custody_told says (match_found f (settle s tag code) (only done))
-      go (At i) = refl
-      go Nothing = refl
+      go : (f : Option ℕ) → Same acted_told says (match_found f (settle s tag code) (only done))
+      go (Some i) = refl
+      go None = refl
 
   pub tomb_told_lem : (actions : ℕ) (peer : ContactId) (tag secret : List ℕ) → Same tomb_told tomb_says (step s (calls.tomb actions peer tag secret))
   unfolding step tests perform tells receive_tomb turn end_own
@@ -113,21 +111,21 @@ module _ (s : State) where
       go met.wrong = refl
       go met.unknown = refl
 
-  pub maintenance_told : (actions : ℕ) → Same maintained_told maintained_of (step s (calls.maintenance actions))
+  pub maintenance_told : (actions : ℕ) → Same acted_told maintained_of (step s (calls.maintenance actions))
   unfolding step tests perform tells maintain_couriers
-  maintenance_told actions = by_step (Same maintained_told maintained_of) (maintenance_tests s actions) (maintain_couriers s) (λ why. refl) refl
+  maintenance_told actions = by_step (Same acted_told maintained_of) (maintenance_tests s actions) (maintain_couriers s) (λ why. refl) refl
 
   -- fetch has two refusals, and its number tells them apart
   pub fetch_told_lem : (own carried : List ℕ) (replies : ℕ) (peer : ContactId) (tag : List ℕ)
-      → fetch_told (fetch_says own carried (step s (calls.fetch replies peer tag))).number ≡ tells (step s (calls.fetch replies peer tag))
+      → Same fetch_told (fetch_says own carried) (step s (calls.fetch replies peer tag))
   unfolding step tests perform tells step_of fetch_tests receive_fetch fetched
   fetch_told_lem own carried replies peer tag =
       choose Q (short_replies replies) refl (choose Q (not (known s.contacts peer)) refl
       (go (find (envelope_of_tag tag) (envelopes s.own s.carried peer))))
     where
       Q : Result → Type 0
-      Q o = fetch_told (fetch_says own carried o).number ≡ tells o
+      Q = Same fetch_told (fetch_says own carried)
 
-      go : (f : Option Envelope) → fetch_told (fetch_says own carried (match_some f (fetched s) (only missing))).number ≡ tells (match_some f (fetched s) (only missing))
-      go (some e) = refl
-      go none = refl
+      go : (f : Option Envelope) → Same fetch_told (fetch_says own carried) (match_some f (fetched s) (only missing))
+      go (Some e) = refl
+      go None = refl

@@ -1,85 +1,126 @@
 // The call of each record of a log.
 #![tactic(auto)]
 
-ghost use Rattle.std.specs.Prelude.{◌≡◌, ◌≤◌, length, drop};
-ghost use Rattle.std.proofs.Math.Option.{some};
+ghost use Rattle.std.specs.Prelude.{◌≡◌, ◌≤◌, length, drop, Some};
 ghost use Rattle.octets.specs.Bytes.{part};
 ghost use Rattle.courier.specs.Courier.{header_of};
 ghost use Rattle.wire.specs.Log as log;
-ghost use Rattle.model.specs.Lent.{no_answers, replies_lent, actions_lent, answers_lent};
-ghost use Rattle.handover.specs.Handing.{code_lent};
-ghost use Rattle.drill_run.specs.Drill.{drill_in};
-ghost use Rattle.drill_calls.specs.Asking.{told_with, line_told, rows_told, set_told, Asks, session_lent, envelope_lent, inventory_lent, fetch_lent, tomb_in, maintenance_lent};
+ghost use Rattle.fetch.specs.Fetch.{fetched_said};
+ghost use Rattle.drill_calls.specs.Asking.{line_told, rows_told, done_told, acted_told, envelope_told, inventory_told, fetch_told, tomb_told, Asks, tables_in, answers_of};
 
-use contacts::{Answered, Opened};
 use courier::Custody;
 use courier_core::{ContactId, Refusal};
 use drill_lines::Last;
 use rows::{Device, Exchange};
 use wire::{Body, Mark};
 
-// What a call says: the device and the exchange after it, how many actions and replies it lists, and the last line.
+// The areas that the drill lends with its calls: the tables, cells, the exchange's prefixes and offers, and those for answers. There is none
+// for bad tags.
 #[derive(Drop)]
+pub struct Tables {
+    pub contacts: [u8; 2304],
+    pub own: [u8; 13824],
+    pub carried: [u8; 14592],
+    pub tombstones: [u8; 45056],
+    pub own_cells: [u8; 33024],
+    pub cells: [u8; 33024],
+    pub prefixes: [u8; 4096],
+    pub offers: [u8; 8704],
+    pub replies: [u8; 61440],
+    pub actions: [u8; 19968],
+}
+
+// What a call says: how many actions and replies it lists, and the last line.
+#[derive(Clone, Copy)]
 pub struct Told {
-    pub device: Device,
-    pub exchange: Exchange,
     pub acted: usize,
     pub replied: usize,
     pub last: Last,
 }
 
-fn plain(device: Device, exchange: Exchange, last: Last) -> Told
-    ensures { result ≡ told_with device exchange (line_told last) }
+// ---- what the calls answer
+
+fn line(last: Last) -> Told
+    ensures { result ≡ line_told last }
 {
     Told {
-        device,
-        exchange,
         acted: 0,
         replied: 0,
         last,
     }
 }
 
-fn listed(device: Device, exchange: Exchange, acted: usize, replied: usize) -> Told
-    ensures { result ≡ told_with device exchange (rows_told acted replied) }
+fn listed(acted: usize, replied: usize) -> Told
+    ensures { result ≡ rows_told acted replied }
 {
     Told {
-        device,
-        exchange,
         acted,
         replied,
         last: Last::Ok,
     }
 }
 
-// What contact, setting and clock say.
-fn set(answered: Answered, exchange: Exchange) -> Told
-    ensures { result ≡ told_with answered.device exchange (set_told answered.said) }
+// Contact, setting, clock, session.
+fn done(said: Result<(), Refusal>) -> Told
+    ensures { result ≡ done_told said }
 {
-    let device = answered.device;
-    let said = answered.said;
     match said {
-        contacts::Said::Done => plain(device, exchange, Last::Ok),
-        contacts::Said::Refused(why) => plain(device, exchange, Last::Refused(why)),
+        Ok(()) => line(Last::Ok),
+        Err(why) => line(Last::Refused(why)),
     }
 }
 
-fn session(
-    device: Device,
-    exchange: Exchange,
-    peer: ContactId,
-    contacts: &[u8; 2304],
-    prefixes: &[u8],
-    offers: &[u8],
-) -> Told
-    ensures { Asks (some (log.session peer)) result (session_lent device exchange contacts.now prefixes.now offers.now)
-        (session_lent result.device result.exchange contacts.now prefixes.now offers.now) no_answers no_answers }
+// Custody code, maintenance.
+fn acted(said: Result<usize, Refusal>) -> Told
+    ensures { result ≡ acted_told said }
 {
-    match contacts::fresh_exchange(device, peer, contacts, prefixes, offers) {
-        Opened::As(fresh) => plain(device, fresh, Last::Ok),
-        Opened::Refused(why) => plain(device, exchange, Last::Refused(why)),
+    match said {
+        Ok(acted) => listed(acted, 0),
+        Err(why) => line(Last::Refused(why)),
     }
 }
+
+fn enveloped(said: Result<envelope::Answer, Refusal>) -> Told
+    ensures { result ≡ envelope_told said }
+{
+    match said {
+        Ok(envelope::Answer::Done(replied, acted)) => listed(acted, replied),
+        Ok(envelope::Answer::Ours(_, _, _)) => line(Last::Ok),
+        Err(why) => line(Last::Refused(why)),
+    }
+}
+
+fn received(said: Result<inventory::Said, Refusal>) -> Told
+    ensures { result ≡ inventory_told said }
+{
+    match said {
+        Ok(inventory::Said::Done(replied, _)) => listed(0, replied),
+        Ok(inventory::Said::Malformed) => line(Last::Malformed),
+        Err(why) => line(Last::Refused(why)),
+    }
+}
+
+fn fetched(said: Result<Option<&[u8]>, Refusal>) -> Told
+    ensures { result ≡ fetch_told (fetched_said said.entry) }
+{
+    match said {
+        Ok(Some(_)) => listed(0, 1),
+        Ok(None) => line(Last::Ok),
+        Err(why) => line(Last::Refused(why)),
+    }
+}
+
+fn met(said: Result<tombs::Said, Refusal>) -> Told
+    ensures { result ≡ tomb_told said }
+{
+    match said {
+        Ok(tombs::Said::Done(acted)) => listed(acted, 0),
+        Ok(tombs::Said::Malformed) => line(Last::Malformed),
+        Err(why) => line(Last::Refused(why)),
+    }
+}
+
+// ---- records whose bodies have runs of bytes
 
 // What follows the first at bytes.
 fn behind(body: &[u8], at: usize) -> &[u8]
@@ -91,273 +132,214 @@ fn behind(body: &[u8], at: usize) -> &[u8]
     &body[at..]
 }
 
-fn envelope_in(
-    device: Device,
-    exchange: Exchange,
-    peer: ContactId,
-    body: &[u8],
-    contacts: &[u8; 2304],
-    own: &[u8; 13824],
-    carried: &mut [u8; 14592],
-    tombstones: &[u8],
-    cells: &mut [u8],
-    replies: &mut [u8; 61440],
-    actions: &mut [u8; 19968],
-) -> Told
-    requires { 45 ≤ length body.now }
-    ensures { Asks (some (log.envelope peer (header_of (part body.now 8 37)) (drop 45 body.now))) result
-        (envelope_lent device exchange contacts.now own.now carried.old tombstones.now cells.old)
-        (envelope_lent result.device result.exchange contacts.now own.now carried.new tombstones.now cells.new)
-        (answers_lent replies.old actions.old) (answers_lent replies.new actions.new) }
-{
-    let read = courier::decode(body, 8);
-    let header = read.header;
-    let done = envelope::envelope(
-        device,
-        peer,
-        header,
-        behind(body, 45),
-        b"",
-        contacts,
-        own,
-        carried,
-        tombstones,
-        cells,
-        replies,
-        actions,
-    );
-    let device = done.device;
-    let answer = done.answer;
-    match answer {
-        envelope::Answer::Refused(why) => plain(device, exchange, Last::Refused(why)),
-        envelope::Answer::Ours(_, _, _) => plain(device, exchange, Last::Ok),
-        envelope::Answer::Done(replied, acted) => listed(device, exchange, acted, replied),
-    }
-}
-
-fn inventory_in(
-    device: Device,
-    exchange: Exchange,
-    peer: ContactId,
-    body: &[u8],
-    contacts: &[u8; 2304],
-    own: &[u8; 13824],
-    carried: &[u8; 14592],
-    tombstones: &[u8],
-    prefixes: &mut [u8],
-    offers: &mut [u8],
-    replies: &mut [u8; 61440],
-) -> Told
-    ensures { Asks (some (log.inventory peer (drop 8 body.now))) result
-        (inventory_lent device exchange contacts.now own.now carried.now tombstones.now prefixes.old offers.old)
-        (inventory_lent result.device result.exchange contacts.now own.now carried.now tombstones.now prefixes.new offers.new)
-        (replies_lent replies.old) (replies_lent replies.new) }
-{
-    let done = inventory::receive_inventory(
-        device,
-        exchange,
-        peer,
-        contacts,
-        own,
-        carried,
-        tombstones,
-        b"",
-        b"",
-        behind(body, 8),
-        prefixes,
-        offers,
-        replies,
-    );
-    let exchange = done.exchange;
-    let said = done.said;
-    match said {
-        inventory::Said::Refused(why) => plain(device, exchange, Last::Refused(why)),
-        inventory::Said::Malformed => plain(device, exchange, Last::Malformed),
-        inventory::Said::Done(replied, _) => listed(device, exchange, 0, replied),
-    }
-}
-
 // The tag of a body that has one.
 fn tag_in(body: &[u8]) -> [u8; 16]
     requires { 24 ≤ length body.now }
     ensures { result ≡ part body.now 8 16 }
 {
-    octets::get_16(body, 8)
+    octets::get_array(body, 8)
 }
 
-fn fetch_in<'c>(
-    device: Device,
+fn receive_envelope(
+    device: &mut Device,
     exchange: Exchange,
+    tables: &mut Tables,
     peer: ContactId,
     body: &[u8],
-    contacts: &[u8; 2304],
-    own: &[u8; 13824],
-    carried: &[u8; 14592],
-    own_cells: &'c [u8],
-    cells: &'c [u8],
-    replies: &mut [u8; 61440],
 ) -> Told
-    requires { 24 ≤ length body.now }
-    ensures { Asks (some (log.fetch peer (part body.now 8 16))) result
-        (fetch_lent device exchange contacts.now own.now carried.now own_cells.now cells.now)
-        (fetch_lent result.device result.exchange contacts.now own.now carried.now own_cells.now cells.now)
-        (replies_lent replies.old) (replies_lent replies.new) }
+    requires { 45 ≤ length body.now }
+    ensures { Asks (Some (log.envelope peer (header_of (part body.now 8 37)) (drop 45 body.now))) result
+        (tables_in device.old exchange tables.old) (tables_in device.new exchange tables.new) (answers_of tables.old) (answers_of tables.new) }
 {
-    let tag = tag_in(body);
-    let mut said = 0u8;
-    fetch::fetch(
-        device, peer, tag, contacts, own, carried, own_cells, cells, replies, &mut said,
-    );
-    match said {
-        0 => listed(device, exchange, 0, 1),
-        1 => plain(device, exchange, Last::Refused(Refusal::ShortArea)),
-        2 => plain(device, exchange, Last::Refused(Refusal::UnknownContact)),
-        _ => plain(device, exchange, Last::Ok),
-    }
+    let header = courier::decode(body, 8).unwrap();
+    enveloped(envelope::envelope(
+        device,
+        peer,
+        header,
+        behind(body, 45),
+        b"",
+        &tables.contacts,
+        &tables.own,
+        &mut tables.carried,
+        &tables.tombstones,
+        &mut tables.cells,
+        &mut tables.replies,
+        &mut tables.actions,
+    ))
 }
 
-fn custody_in(
+fn receive_inventory(
+    device: Device,
+    exchange: &mut Exchange,
+    tables: &mut Tables,
+    peer: ContactId,
+    body: &[u8],
+) -> Told
+    ensures { Asks (Some (log.inventory peer (drop 8 body.now))) result
+        (tables_in device exchange.old tables.old) (tables_in device exchange.new tables.new) (answers_of tables.old) (answers_of tables.new) }
+{
+    received(exchange::receive_inventory(
+        exchange,
+        device,
+        peer,
+        &tables.contacts,
+        &tables.own,
+        &tables.carried,
+        &tables.tombstones,
+        b"",
+        b"",
+        behind(body, 8),
+        &mut tables.prefixes,
+        &mut tables.offers,
+        &mut tables.replies,
+    ))
+}
+
+fn fetch_tagged(
     device: Device,
     exchange: Exchange,
+    tables: &mut Tables,
+    peer: ContactId,
+    body: &[u8],
+) -> Told
+    requires { 24 ≤ length body.now }
+    ensures { Asks (Some (log.fetch peer (part body.now 8 16))) result
+        (tables_in device exchange tables.old) (tables_in device exchange tables.new) (answers_of tables.old) (answers_of tables.new) }
+{
+    fetched(fetch::fetch(
+        device,
+        peer,
+        tag_in(body),
+        &tables.contacts,
+        &tables.own,
+        &tables.carried,
+        &tables.own_cells,
+        &tables.cells,
+        &mut tables.replies,
+    ))
+}
+
+fn receive_custody(
+    device: &mut Device,
+    exchange: &mut Exchange,
+    tables: &mut Tables,
     peer: ContactId,
     body: &[u8],
     code: Custody,
-    contacts: &[u8; 2304],
-    own: &mut [u8; 13824],
-    carried: &mut [u8; 14592],
-    tombstones: &[u8],
-    prefixes: &[u8],
-    offers: &mut [u8],
-    actions: &mut [u8; 19968],
 ) -> Told
     requires { 24 ≤ length body.now }
-    ensures { Asks (some (log.custody peer (part body.now 8 16) code)) result
-        (code_lent device exchange contacts.now own.old carried.old tombstones.now prefixes.now offers.old)
-        (code_lent result.device result.exchange contacts.now own.new carried.new tombstones.now prefixes.now offers.new)
-        (actions_lent actions.old) (actions_lent actions.new) }
+    ensures { Asks (Some (log.custody peer (part body.now 8 16) code)) result
+        (tables_in device.old exchange.old tables.old) (tables_in device.new exchange.new tables.new) (answers_of tables.old) (answers_of tables.new) }
 {
-    let tag = tag_in(body);
-    let done = handover::handed_over(
-        device, exchange, peer, tag, code, contacts, own, carried, tombstones, prefixes, offers,
-        actions,
-    );
-    let device = done.device;
-    let exchange = done.exchange;
-    let said = done.said;
-    match said {
-        handover::Said::Refused(why) => plain(device, exchange, Last::Refused(why)),
-        handover::Said::Done(acted) => listed(device, exchange, acted, 0),
-    }
+    acted(exchange::handed_over(
+        exchange,
+        device,
+        peer,
+        tag_in(body),
+        code,
+        &tables.contacts,
+        &mut tables.own,
+        &mut tables.carried,
+        &tables.tombstones,
+        &tables.prefixes,
+        &mut tables.offers,
+        &mut tables.actions,
+    ))
 }
 
-fn tomb_in(
-    device: Device,
+fn receive_tomb(
+    device: &mut Device,
     exchange: Exchange,
+    tables: &mut Tables,
     peer: ContactId,
     body: &[u8],
-    contacts: &[u8; 2304],
-    own: &mut [u8; 13824],
-    carried: &mut [u8; 14592],
-    tombstones: &mut [u8],
-    actions: &mut [u8; 19968],
 ) -> Told
     requires { 40 ≤ length body.now }
-    ensures { Asks (some (log.tomb peer (part body.now 8 16) (part body.now 24 16))) result
-        (tomb_in device exchange contacts.now own.old carried.old tombstones.old)
-        (tomb_in result.device result.exchange contacts.now own.new carried.new tombstones.new)
-        (actions_lent actions.old) (actions_lent actions.new) }
+    ensures { Asks (Some (log.tomb peer (part body.now 8 16) (part body.now 24 16))) result
+        (tables_in device.old exchange tables.old) (tables_in device.new exchange tables.new) (answers_of tables.old) (answers_of tables.new) }
 {
-    let tag = tag_in(body);
-    let s = octets::get_16(body, 24);
-    let done = tombs::receive_tomb(
-        device, peer, tag, s, contacts, own, carried, tombstones, actions,
-    );
-    let device = done.device;
-    let said = done.said;
-    match said {
-        tombs::Said::Refused(why) => plain(device, exchange, Last::Refused(why)),
-        tombs::Said::Malformed => plain(device, exchange, Last::Malformed),
-        tombs::Said::Done(acted) => listed(device, exchange, acted, 0),
-    }
+    let s = octets::get_array(body, 24);
+    met(tombs::receive_tomb(
+        device,
+        peer,
+        tag_in(body),
+        s,
+        &tables.contacts,
+        &mut tables.own,
+        &mut tables.carried,
+        &mut tables.tombstones,
+        &mut tables.actions,
+    ))
 }
 
-fn maintain(
-    device: Device,
-    exchange: Exchange,
-    own: &mut [u8; 13824],
-    carried: &mut [u8; 14592],
-    tombstones: &mut [u8],
-    actions: &mut [u8; 19968],
-) -> Told
-    ensures { Asks (some log.maintenance) result (maintenance_lent device exchange own.old carried.old tombstones.old)
-        (maintenance_lent result.device result.exchange own.new carried.new tombstones.new)
-        (actions_lent actions.old) (actions_lent actions.new) }
+// ---- the other records
+
+fn open_session(device: Device, exchange: &mut Exchange, tables: &Tables, peer: ContactId) -> Told
+    ensures { Asks (Some (log.session peer)) result
+        (tables_in device exchange.old tables.now) (tables_in device exchange.new tables.now) (answers_of tables.now) (answers_of tables.now) }
 {
-    let done = maintenance::maintain_couriers(device, own, carried, tombstones, actions);
-    let device = done.device;
-    let answer = done.answer;
-    match answer {
-        maintenance::Maintained::Refused(why) => plain(device, exchange, Last::Refused(why)),
-        maintenance::Maintained::Done(acted) => listed(device, exchange, acted, 0),
-    }
+    done(exchange::fresh_exchange(
+        exchange,
+        device,
+        peer,
+        &tables.contacts,
+        &tables.prefixes,
+        &tables.offers,
+    ))
 }
 
-// The call of a record.
+fn maintain(device: &mut Device, exchange: Exchange, tables: &mut Tables) -> Told
+    ensures { Asks (Some log.maintenance) result
+        (tables_in device.old exchange tables.old) (tables_in device.new exchange tables.new) (answers_of tables.old) (answers_of tables.new) }
+{
+    acted(maintenance::maintain_couriers(
+        device,
+        &mut tables.own,
+        &mut tables.carried,
+        &mut tables.tombstones,
+        &mut tables.actions,
+    ))
+}
+
+// ---- the call of a record
+
 pub fn ask(
     mark: Mark,
     body: &[u8],
-    device: Device,
-    exchange: Exchange,
-    contacts: &mut [u8; 2304],
-    own: &mut [u8; 13824],
-    carried: &mut [u8; 14592],
-    tombstones: &mut [u8; 45056],
-    own_cells: &[u8; 33024],
-    cells: &mut [u8; 33024],
-    prefixes: &mut [u8; 4096],
-    offers: &mut [u8; 8704],
-    replies: &mut [u8; 61440],
-    actions: &mut [u8; 19968],
+    device: &mut Device,
+    exchange: &mut Exchange,
+    tables: &mut Tables,
 ) -> Told
     ensures { Asks (log.body_of mark body.now) result
-        (drill_in device exchange contacts.old own.old carried.old tombstones.old own_cells.now cells.old prefixes.old offers.old)
-        (drill_in result.device result.exchange contacts.new own.new carried.new tombstones.new own_cells.now cells.new prefixes.new offers.new)
-        (answers_lent replies.old actions.old) (answers_lent replies.new actions.new) }
+        (tables_in device.old exchange.old tables.old) (tables_in device.new exchange.new tables.new) (answers_of tables.old) (answers_of tables.new) }
 {
-    match wire::read_body(mark, body) {
-        Body::Wrong => plain(device, exchange, Last::Refused(Refusal::LogRecord)),
-        Body::Clock { seconds } => set(contacts::clock(device, seconds), exchange),
-        Body::Contact { id, verification } => set(
-            contacts::contact(device, id, verification, contacts),
-            exchange,
-        ),
-        Body::Session { peer } => session(device, exchange, peer, contacts, prefixes, offers),
-        Body::Envelope { peer } => envelope_in(
-            device, exchange, peer, body, contacts, own, carried, tombstones, cells, replies,
-            actions,
-        ),
-        Body::Inventory { peer } => inventory_in(
-            device, exchange, peer, body, contacts, own, carried, tombstones, prefixes, offers,
-            replies,
-        ),
-        Body::Fetch { peer } => fetch_in(
-            device, exchange, peer, body, contacts, own, carried, own_cells, cells, replies,
-        ),
-        Body::Custody { peer, code } => custody_in(
-            device, exchange, peer, body, code, contacts, own, carried, tombstones, prefixes,
-            offers, actions,
-        ),
-        Body::Tomb { peer } => tomb_in(
-            device, exchange, peer, body, contacts, own, carried, tombstones, actions,
-        ),
-        Body::Maintenance => maintain(device, exchange, own, carried, tombstones, actions),
+    let Some(read) = wire::read_body(mark, body) else {
+        return line(Last::Refused(Refusal::LogRecord));
+    };
+    match read {
+        Body::Clock { seconds } => {
+            contacts::clock(device, seconds);
+            line(Last::Ok)
+        }
+        Body::Contact { id, verification } => done(contacts::contact(
+            device,
+            id,
+            verification,
+            &mut tables.contacts,
+        )),
+        Body::Session { peer } => open_session(*device, exchange, tables, peer),
+        Body::Envelope { peer } => receive_envelope(device, *exchange, tables, peer, body),
+        Body::Inventory { peer } => receive_inventory(*device, exchange, tables, peer, body),
+        Body::Fetch { peer } => fetch_tagged(*device, *exchange, tables, peer, body),
+        Body::Custody { peer, code } => {
+            receive_custody(device, exchange, tables, peer, body, code)
+        }
+        Body::Tomb { peer } => receive_tomb(device, *exchange, tables, peer, body),
+        Body::Maintenance => maintain(device, *exchange, tables),
         Body::Setting {
             enabled,
             copies,
             lifetime,
-        } => set(
-            contacts::setting(device, enabled, copies, lifetime),
-            exchange,
-        ),
+        } => done(contacts::setting(device, enabled, copies, lifetime)),
     }
 }

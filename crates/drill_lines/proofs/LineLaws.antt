@@ -1,6 +1,8 @@
 -- Laws of lines. Assumes nothing.
 use Rattle.std.proofs.Common.{◌≡◌, ℕ, ◌+◌, ◌*◌, ◌<◌, ◌≤◌, List, [], ◌∷◌, ◌++◌, length, get_or, take, sym, refl, ap, ◌∙◌, subst, append-nil, add-one, arith, take_all, take-suc, ne_eqb}
 use mathlib.Core.List.{flat_map}
+use Rattle.std.specs.Prelude.{Result, Option}
+use Rattle.courier_core.specs.declared.Refusal.{Refusal}
 use Rattle.octets.specs.Bytes.{part, num}
 use Rattle.table.specs.Codec.{Codec, table_of}
 use Rattle.table.specs.Rows.{held}
@@ -17,9 +19,7 @@ use Rattle.model.specs.Step.{step}
 use Rattle.model.specs.Areas.{Areas, no_session_areas}
 use Rattle.rows.specs.Device.{fresh_device}
 use Rattle.saved.specs.Blobs.{blob_of, blob_says}
-use Rattle.saved.specs.declared.BlobAnswer.{BlobAnswer}
-use Rattle.saved.specs.declared.BlobAnswer.TheVariants as blob_answer
-use Rattle.drill_lines.specs.Lines.{put_line, del_line, envelope_line, custody_line, tomb_line, reply_line, action_line, blob_length, wrote_of}
+use Rattle.drill_lines.specs.Lines.{put_line, del_line, envelope_line, custody_line, tomb_line, reply_line, action_line, blob_length, wrote_of, count_of}
 
 -- a line of two, three and four texts
 module _ {l m : ℕ} {o x y : List ℕ} {at p q : ℕ} {a b : List ℕ} (room : at + 96 ≤ length o) (f : Puts l o at a p x) (g : Puts m x p b q y) where
@@ -107,26 +107,21 @@ module _ (blob : ℕ → ℕ) (a : Action) where
 
 -- ---- what the row blob call answers, as a length
 
-abbrev pub count_blob : BlobAnswer → ℕ
-count_blob (blob_answer.Wrote n) = n
-count_blob blob_answer.Missing = 0
-count_blob (blob_answer.Refused why) = 0
+count_blob : (x : Answer) → count_of (blob_of x) ≡ wrote_of x
+count_blob (calls.refused why) = refl
+count_blob calls.malformed = refl
+count_blob calls.done = refl
+count_blob (calls.ours contact generation idx) = refl
+count_blob (calls.found cells position len) = refl
+count_blob calls.missing = refl
+count_blob (calls.own_row row) = refl
+count_blob calls.no_envelope = refl
+count_blob (calls.wrote count) = refl
 
-count_blob_lem : (x : Answer) → count_blob (blob_of x) ≡ wrote_of x
-count_blob_lem (calls.refused why) = refl
-count_blob_lem calls.malformed = refl
-count_blob_lem calls.done = refl
-count_blob_lem (calls.ours contact generation idx) = refl
-count_blob_lem (calls.found cells position len) = refl
-count_blob_lem calls.missing = refl
-count_blob_lem (calls.own_row row) = refl
-count_blob_lem calls.no_envelope = refl
-count_blob_lem (calls.wrote count) = refl
-
-pub length_told : (s : State) (len slot r : ℕ) (n : BlobAnswer) → len ≡ 2110 → r ≡ count_blob n → n ≡ blob_says (step s (calls.row_blob len slot)) → r ≡ blob_length s slot
+pub length_told : (s : State) (len slot r : ℕ) (n : Result (Option ℕ) Refusal) → len ≡ 2110 → r ≡ count_of n → n ≡ blob_says (step s (calls.row_blob len slot)) → r ≡ blob_length s slot
 unfolding blob_length
 length_told s len slot r n el er en =
-    er ∙ ap count_blob en ∙ count_blob_lem (step s (calls.row_blob len slot)).answer ∙ ap (λ (k : ℕ). wrote_of (step s (calls.row_blob k slot)).answer) el
+    er ∙ ap count_of en ∙ count_blob (step s (calls.row_blob len slot)).answer ∙ ap (λ (k : ℕ). wrote_of (step s (calls.row_blob k slot)).answer) el
 
 -- areas that are nothing, where any will do
 abbrev pub anything : Areas

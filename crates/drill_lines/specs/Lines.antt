@@ -1,9 +1,10 @@
 -- The lines of a record (document 01, "Drill program"): those of its actions, those of its replies, and a last one.
 -- Assumes nothing.
-use Rattle.std.specs.Prelude.{ℕ, Bool, false, cond, List, [], ◌∷◌, ◌++◌, ◌==◌}
+use Rattle.std.specs.Prelude.{ℕ, Bool, false, cond, List, [], ◌∷◌, ◌++◌, ◌==◌, Result, Ok, Err, Option, Some, None}
 use mathlib.Core.List.{flat_map}
 use Rattle.octets.specs.Bytes.{part, num}
 use Rattle.courier_core.specs.Core.{refusal_number}
+use Rattle.courier_core.specs.declared.Refusal.{Refusal}
 use Rattle.rows.specs.declared.Reply.{Reply}
 use Rattle.rows.specs.declared.Action.{Action}
 use Rattle.model.specs.State.{State}
@@ -45,6 +46,12 @@ reply_line r =
 -- a row's blob has the length that the row blob call answers; an own put has no line
 unfoldable pub action_line : (ℕ → ℕ) → Action → List ℕ
 action_line blob a = cond (a.kind == 0) (put_line a.number (blob a.number)) (cond (a.kind == 1) (del_line a.number) [])
+
+-- what the row blob call answers, as a length; and of the model's answer
+abbrev pub count_of : Result (Option ℕ) Refusal → ℕ
+count_of (Ok (Some n)) = n
+count_of (Ok None) = 0
+count_of (Err why) = 0
 
 abbrev pub wrote_of : Answer → ℕ
 wrote_of (calls.refused why) = 0

@@ -9,11 +9,10 @@ ghost use Rattle.rows.specs.Rows.{reply_width, reply_codec, action_width, action
 ghost use Rattle.text.specs.Text.{Puts};
 ghost use Rattle.model.specs.Areas.{Areas, view};
 ghost use Rattle.saved.specs.Blobs.{held_in};
-ghost use Rattle.drill_lines.specs.Lines.{put_line, del_line, envelope_line, custody_line, tomb_line, reply_line, action_line, blob_length, last_line, record_lines};
+ghost use Rattle.drill_lines.specs.Lines.{put_line, del_line, envelope_line, custody_line, tomb_line, reply_line, action_line, blob_length, last_line, record_lines, count_of};
 
 use courier_core::Refusal;
 use rows::{Action, Device, Reply};
-use saved::BlobAnswer;
 
 // ---- a line
 
@@ -76,9 +75,8 @@ fn reply_line(row: Reply, out: &mut [u8], at: usize) -> usize
     ensures { Puts 96 out.old at (reply_line row) result out.new }
 {
     let body = row.body;
-    let tag = octets::get_16(&body, 0);
-    let kind = row.kind;
-    match kind {
+    let tag = octets::get_array(&body, 0);
+    match row.kind {
         1 => envelope_line(
             tag,
             octets::get_u32(&body, 32),
@@ -99,16 +97,24 @@ fn reply_lines(replies: &[u8], count: usize, out: &mut [u8], at: usize) -> usize
 {
     let n = table::fit(replies.len(), rows::REPLY_WIDTH, count);
     let mut p = at;
-    let mut i = 0;
-    while i < n {
-        let row = rows::reply_at(replies, i * rows::REPLY_WIDTH);
-        p = reply_line(row, out, p);
-        i += 1;
+    for i in 0..n {
+        p = reply_line(rows::reply_at(replies, i * rows::REPLY_WIDTH), out, p);
     }
     p
 }
 
 // ---- the lines of actions
+
+// What the row blob call answers, as a length.
+fn counted(answer: Result<Option<usize>, Refusal>) -> usize
+    ensures { result ≡ count_of answer }
+{
+    match answer {
+        Ok(Some(n)) => n,
+        Ok(None) => 0,
+        Err(_) => 0,
+    }
+}
 
 // The length of the blob of the row in a slot, as the row blob call answers it; 0 where no row has the slot.
 fn blob_length(
@@ -117,15 +123,11 @@ fn blob_length(
     carried: &[u8; 14592],
     tombstones: &[u8],
     cells: &[u8],
-    blob: &mut [u8; 2110],
 ) -> usize
     ensures { (a : Areas) → result ≡ blob_length (view (held_in device carried.now tombstones.now cells.now a)) slot }
 {
-    match saved::row_blob(device, slot, carried, tombstones, cells, blob) {
-        BlobAnswer::Wrote(n) => n,
-        BlobAnswer::Missing => 0,
-        BlobAnswer::Refused(_) => 0,
-    }
+    let mut blob = [0u8; state::BLOB];
+    counted(saved::row_blob(device, slot, carried, tombstones, cells, &mut blob))
 }
 
 // An own put has no line: there are no own rows here.
@@ -135,7 +137,6 @@ fn action_line(
     carried: &[u8; 14592],
     tombstones: &[u8],
     cells: &[u8],
-    blob: &mut [u8; 2110],
     out: &mut [u8],
     at: usize,
 ) -> usize
@@ -144,10 +145,9 @@ fn action_line(
         (action_line (blob_length (view (held_in device carried.now tombstones.now cells.now a))) row) result out.new }
 {
     let slot = row.number;
-    let kind = row.kind;
-    match kind {
+    match row.kind {
         0 => {
-            let n = blob_length(device, slot, carried, tombstones, cells, blob);
+            let n = blob_length(device, slot, carried, tombstones, cells);
             put_line(slot, n, out, at)
         }
         1 => del_line(slot, out, at),
@@ -162,7 +162,6 @@ fn action_lines(
     carried: &[u8; 14592],
     tombstones: &[u8],
     cells: &[u8],
-    blob: &mut [u8; 2110],
     out: &mut [u8],
     at: usize,
 ) -> usize
@@ -172,11 +171,9 @@ fn action_lines(
 {
     let n = table::fit(actions.len(), rows::ACTION_WIDTH, count);
     let mut p = at;
-    let mut i = 0;
-    while i < n {
+    for i in 0..n {
         let row = rows::action_at(actions, i * rows::ACTION_WIDTH);
-        p = action_line(row, device, carried, tombstones, cells, blob, out, p);
-        i += 1;
+        p = action_line(row, device, carried, tombstones, cells, out, p);
     }
     p
 }
@@ -199,7 +196,7 @@ pub fn last_line(last: Last, out: &mut [u8], at: usize) -> usize
         Last::Malformed => text::put_run(out, at, b"malformed\n"),
         Last::Refused(why) => {
             let p = text::put_run(out, at, b"refused");
-            let p = text::put_spaced(out, p, courier_core::refusal_number(why) as u64);
+            let p = text::put_spaced(out, p, why.number() as u64);
             text::put_run(out, p, b"\n")
         }
     }
@@ -218,7 +215,6 @@ pub fn record_lines(
     carried: &[u8; 14592],
     tombstones: &[u8],
     cells: &[u8],
-    blob: &mut [u8; 2110],
     out: &mut [u8],
     at: usize,
 ) -> usize
@@ -227,9 +223,7 @@ pub fn record_lines(
         (record_lines (view (held_in device carried.now tombstones.now cells.now a))
         (table_of action_codec acted actions.now) (table_of reply_codec replied replies.now) last) result out.new }
 {
-    let p = action_lines(
-        actions, acted, device, carried, tombstones, cells, blob, out, at,
-    );
+    let p = action_lines(actions, acted, device, carried, tombstones, cells, out, at);
     let p = reply_lines(replies, replied, out, p);
     last_line(last, out, p)
 }

@@ -1,6 +1,5 @@
 -- A record performed: what its call answers and stores, as lines and as the model's step. Assumes nothing.
-use Rattle.std.proofs.Common.{◌≡◌, ℕ, ◌+◌, ◌*◌, ◌≤◌, Bool, List, length, sym, refl, ap, ◌∙◌, subst}
-use mathlib.Core.Option.{Option}
+use Rattle.std.proofs.Common.{◌≡◌, ℕ, ◌+◌, ◌*◌, ◌≤◌, Bool, List, length, sym, refl, ap, ◌∙◌, subst, Option}
 use Rattle.text.specs.Text.{Puts}
 use Rattle.text.proofs.TextLaws.{puts_within}
 use Rattle.table.specs.Rows.{held}
@@ -89,16 +88,16 @@ module _ (r : Option Record) (proper : ProperRecord r) (a a' : Areas) (ready : R
 
 -- ---- on the drill's
 
-module _ {d d' : Device} {x x' : Exchange} {c c' o o' k k' t t' oc rc rc' p p' f f' : List ℕ} (r : Option Record) (proper : ProperRecord r)
+module _ {d d' : Device} {x x' : Exchange} {c c' o o' k k' t t' oc oc' rc rc' p p' f f' : List ℕ} (r : Option Record) (proper : ProperRecord r)
     {acted replied : ℕ} {end : Last} {replies actions replies' actions' out out' : List ℕ} {at put : ℕ} {stop : Bool}
     (lr : length replies' ≡ 61440) (la : length actions' ≡ 19968) where
   pub performs : ((a : Areas) → Written tells (record_step (view (drill_in d x c o k t oc rc p f a)) r) (acted, (replied, end)) (drill_in d x c o k t oc rc p f a)
-      (drill_in d' x' c' o' k' t' oc rc' p' f' a) (answers_lent replies actions) (answers_lent replies' actions'))
+      (drill_in d' x' c' o' k' t' oc' rc' p' f' a) (answers_lent replies actions) (answers_lent replies' actions'))
       → ((a : Areas) → Puts (held (length actions') 13 acted * 96 + held (length replies') 40 replied * 96 + 96) out at
       (record_lines (view (held_in d' k' t' rc' a)) (table_of action_codec acted actions') (table_of reply_codec replied replies') end) put out')
       → at + 295008 ≤ length out → stop ≡ stops_at end → Ready (drill_areas d x c o k t oc rc p f)
-      → Performs r (drill_areas d x c o k t oc rc p f) (drill_areas d' x' c' o' k' t' oc rc' p' f') out at put out' stop
+      → Performs r (drill_areas d x c o k t oc rc p f) (drill_areas d' x' c' o' k' t' oc' rc' p' f') out at put out' stop
   performs w lines h e ready =
       let a : Areas = drill_areas d x c o k t oc rc p f in
-      let a' : Areas = drill_areas d' x' c' o' k' t' oc rc' p' f' in
+      let a' : Areas = drill_areas d' x' c' o' k' t' oc' rc' p' f' in
       performed r proper a a' ready lr la (w a) (puts_within (lines_most (length actions') (length replies') acted replied la lr) (lines a')) h e

@@ -1,6 +1,6 @@
 -- Laws of the run over a buffer. Assumes nothing.
-use Rattle.std.proofs.Common.{◌≡◌, ℕ, ◌+◌, ◌-◌, ◌*◌, ◌<◌, ◌≤◌, Bool, true, false, List, [], ◌++◌, length, take, drop, sym, refl, ap, ◌∙◌, append_assoc, append-nil, arith, drop_at}
-use mathlib.Core.Option.{Option}
+use Rattle.std.proofs.Common.{◌≡◌, ℕ, ◌+◌, ◌-◌, ◌*◌, ◌<◌, ◌≤◌, Bool, true, false, List, [], ◌++◌, length, take, drop, sym, refl, ap, ◌∙◌, append_assoc, append-nil, arith, drop_at, Option}
+use mathlib.Core.Bool.{false≢true}
 use Rattle.octets.specs.Bytes.{part}
 use Rattle.octets.proofs.Parts.{length_part, part_part, part_add, take_written}
 use Rattle.courier_core.specs.declared.Refusal.TheVariants as refusal
@@ -19,7 +19,17 @@ use Rattle.drill_lines.specs.Lines.{last_line}
 use Rattle.drill_run.specs.Drill.{state_after, lines_of, last_record, records_of, printed, performed, made_of, after_all}
 use Rattle.drill_run.proofs.LogLaws.{printed_on, printed_stop, printed_wrong, performed_on, performed_stop, performed_wrong}
 use Rattle.drill_run.proofs.RunLaws.{after_one}
+use Rattle.drill_log.specs.declared.Why.{Why}
+use Rattle.drill_log.specs.declared.Why.TheVariants as cause
 use Rattle.drill_log.specs.Run.{Within, Ready, Performs, Running, Ran}
+
+-- each has a number of its own, so that no two are the same
+abbrev pub rank : Why → ℕ
+rank cause.More = 0
+rank cause.Full = 1
+rank cause.Refused = 2
+rank cause.Ended = 3
+rank cause.Failed = 4
 
 -- the answer areas hold 1,536 actions and 1,536 replies
 pub lines_most : (la lr acted replied : ℕ) → la ≡ 19968 → lr ≡ 61440 → held la 13 acted * 96 + held lr 40 replied * 96 + 96 ≤ 295008
@@ -115,42 +125,42 @@ module _ (s : List ℕ) (at end : ℕ) (order : at ≤ end) (inside : end ≤ le
       held = here_held;
     }
 
-    pub record_stop : {rest : List ℕ} → stop ≡ true → Ran s₀ b a' rest (take put' out') 2
+    pub record_stop : {rest : List ℕ} → stop ≡ true → Ran s₀ b a' rest (take put' out') cause.Refused
     record_stop f = record {
       ready = p.ready;
-      on = λ h. absurd (omega arith);
+      on = λ h. absurd (false≢true h);
       stop = λ h t.
           so_far.on t ∙ ap (λ (l : List ℕ). take put out ++ l) (printed_stop (view a) here t (sym e ∙ w) (sym ends ∙ f)) ∙ sym lines;
-      wants = λ h. absurd (omega arith);
+      wants = λ h. absurd (omega (arith, ap rank h));
       calls = so_far.calls ++ made_of (body_of m (part here 4 n));
-      made = λ h. absurd (omega arith);
+      made = λ h. absurd (false≢true h);
       all = λ h t. so_far.made t ∙ ap (λ (l : List Record). so_far.calls ++ l) (performed_stop (view a) here t (sym e ∙ w) (sym ends ∙ f));
       held = here_held;
     }
 
   pub record_wrong : {s₀ : State} {a : Areas} {b : List ℕ} {out out' : List ℕ} {put put' : ℕ} → r ≡ head.Wrong → put + 295008 ≤ length out
       → Puts 96 out put (last_line (last.Refused refusal.LogRecord)) put' out' → Running s₀ b a (part s at (end - at)) (take put out)
-      → Ran s₀ b a (part s at (end - at)) (take put' out') 2
+      → Ran s₀ b a (part s at (end - at)) (take put' out') cause.Refused
   record_wrong {s₀} {a} {b} {out} {out'} {put} {put'} w room p so_far = record {
     ready = so_far.ready;
-    on = λ h. absurd (omega arith);
+    on = λ h. absurd (false≢true h);
     stop = λ h t. so_far.on t ∙ ap (λ (l : List ℕ). take put out ++ l) (printed_wrong (view a) here t (sym e ∙ w)) ∙ sym (more_lines (omega arith) p);
-    wants = λ h. absurd (omega arith);
+    wants = λ h. absurd (omega (arith, ap rank h));
     calls = so_far.calls;
-    made = λ h. absurd (omega arith);
+    made = λ h. absurd (false≢true h);
     all = λ h t. so_far.made t ∙ ap (λ (l : List Record). so_far.calls ++ l) (performed_wrong (view a) here t (sym e ∙ w)) ∙ append-nil so_far.calls;
     held = so_far.held;
   }
 
-  pub record_more : {s₀ : State} {a : Areas} {b lines : List ℕ} → r ≡ head.More → Running s₀ b a (part s at (end - at)) lines → Ran s₀ b a (part s at (end - at)) lines 0
+  pub record_more : {s₀ : State} {a : Areas} {b lines : List ℕ} → r ≡ head.More → Running s₀ b a (part s at (end - at)) lines → Ran s₀ b a (part s at (end - at)) lines cause.More
   record_more w so_far = record {
     ready = so_far.ready;
     on = λ h. so_far.on;
-    stop = λ h. absurd (omega arith);
+    stop = λ h. absurd (omega (arith, ap rank h));
     wants = λ h. sym e ∙ w;
     calls = so_far.calls;
     made = λ h. so_far.made;
-    all = λ h. absurd (omega arith);
+    all = λ h. absurd (omega (arith, ap rank h));
     held = so_far.held;
   }
 
@@ -159,15 +169,15 @@ pub run_start : (a : Areas) (b : List ℕ) → Ready a → Running (view a) b a 
 unfolding after_all
 run_start a b g = record { ready = g; on = λ t. refl; calls = []; made = λ t. refl; held = refl }
 
-pub run_full : {s₀ : State} {a : Areas} {b rest lines : List ℕ} → Running s₀ b a rest lines → Ran s₀ b a rest lines 1
+pub run_full : {s₀ : State} {a : Areas} {b rest lines : List ℕ} → Running s₀ b a rest lines → Ran s₀ b a rest lines cause.Full
 run_full k = record {
   ready = k.ready;
   on = λ h. k.on;
-  stop = λ h. absurd (omega arith);
-  wants = λ h. absurd (omega arith);
+  stop = λ h. absurd (omega (arith, ap rank h));
+  wants = λ h. absurd (omega (arith, ap rank h));
   calls = k.calls;
   made = λ h. k.made;
-  all = λ h. absurd (omega arith);
+  all = λ h. absurd (omega (arith, ap rank h));
   held = k.held;
 }
 

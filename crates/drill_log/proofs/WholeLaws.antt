@@ -1,6 +1,7 @@
 -- A whole log, read in pieces: what the runs over the pieces print and make is what the log does, and what the areas hold is what the
 -- model's run of its calls leaves. Assumes nothing.
 use Rattle.std.proofs.Common.{◌≡◌, ℕ, ◌<◌, List, [], ◌++◌, map, length, sym, refl, ap, ◌∙◌, subst, append_assoc, append-nil, arith}
+use mathlib.Core.Bool.{true, false≢true}
 use mathlib.Core.List.{map-append}
 use lib.Seq.{take-append_seam}
 use Rattle.octets.specs.Bytes.{Bytes}
@@ -21,7 +22,10 @@ use Rattle.drill_run.specs.Drill.{drill_areas, drill_start, records_of, printed,
 use Rattle.drill_run.proofs.LogLaws.{printed_end, printed_cut}
 use Rattle.drill_run.proofs.RunLaws.{start_view, start_good, run_records, after_append, records_history}
 use Rattle.drill_run.proofs.RecordLaws.{ProperLent, records_proper, performed_proper}
-use Rattle.drill_log.specs.Run.{Ready, Running, Ran}
+use Rattle.drill_log.specs.declared.Why.{Why}
+use Rattle.drill_log.specs.declared.Why.TheVariants as cause
+use Rattle.drill_log.specs.Run.{Ready, Running, Ran, goes_on}
+use Rattle.drill_log.proofs.RunLaws.{rank}
 
 -- ---- one run after another, with bytes that were read between them
 
@@ -42,17 +46,17 @@ runs_join {s₀} {a₁} {a₂} {b} {rest} {rest'} {l} {l'} more j k = record {
 }
 
 -- the last of them ends at number 13
-pub runs_stop : {s₀ : State} {a₁ a₂ : Areas} {b rest rest' l l' : List ℕ} (more : List ℕ) → Running s₀ b a₁ rest l → Ran (view a₁) (rest ++ more) a₂ rest' l' 2
-    → Ran s₀ (b ++ more) a₂ rest' (l ++ l') 2
+pub runs_stop : {s₀ : State} {a₁ a₂ : Areas} {b rest rest' l l' : List ℕ} (more : List ℕ) → Running s₀ b a₁ rest l → Ran (view a₁) (rest ++ more) a₂ rest' l' cause.Refused
+    → Ran s₀ (b ++ more) a₂ rest' (l ++ l') cause.Refused
 runs_stop {s₀} {a₁} {a₂} {b} {rest} {rest'} {l} {l'} more j k = record {
   ready = k.ready;
-  on = λ h. absurd (omega arith);
+  on = λ h. absurd (false≢true h);
   stop = λ h t.
       ap (printed s₀) (append_assoc b more t) ∙ j.on (more ++ t)
       ∙ ap (λ (x : List ℕ). l ++ x) (ap (printed (view a₁)) (sym (append_assoc rest more t)) ∙ k.stop refl t);
-  wants = λ h. absurd (omega arith);
+  wants = λ h. absurd (omega (arith, ap rank h));
   calls = j.calls ++ k.calls;
-  made = λ h. absurd (omega arith);
+  made = λ h. absurd (false≢true h);
   all = λ h t.
       ap (λ (x : List ℕ). performed s₀ (records_of x)) (append_assoc b more t) ∙ j.made (more ++ t)
       ∙ ap (λ (x : List Record). j.calls ++ x) (ap (λ (x : List ℕ). performed (view a₁) (records_of x)) (sym (append_assoc rest more t)) ∙ k.all refl t);
@@ -60,7 +64,7 @@ runs_stop {s₀} {a₁} {a₂} {b} {rest} {rest'} {l} {l'} more j k = record {
 }
 
 -- a run that did not end at number 13
-pub ran_on : {s₀ : State} {a : Areas} {b rest l : List ℕ} {why : ℕ} → why < 2 → Ran s₀ b a rest l why → Running s₀ b a rest l
+pub ran_on : {s₀ : State} {a : Areas} {b rest l : List ℕ} {why : Why} → goes_on why ≡ true → Ran s₀ b a rest l why → Running s₀ b a rest l
 ran_on h k = record { ready = k.ready; on = k.on h; calls = k.calls; made = k.made h; held = k.held }
 
 -- at the end of the input: nothing is left, or a record that is not all there
@@ -105,7 +109,7 @@ log_held own_cells cells {b} {rest} {lines} {a} bytes k =
     (k.held ∙ sym (ap (λ (p : Post). p.state) (run_records s k.calls)), records_history own_cells cells k.calls proper)
 
 -- the same of a log that ended at number 13: all of its calls were made, and all of its lines are there
-pub log_stopped : (own_cells cells : List ℕ) {b rest lines : List ℕ} {a : Areas} → (k : Ran (drill_start own_cells cells) b a rest lines 2)
+pub log_stopped : (own_cells cells : List ℕ) {b rest lines : List ℕ} {a : Areas} → (k : Ran (drill_start own_cells cells) b a rest lines cause.Refused)
     → (view a ≡ (run (post_of (drill_start own_cells cells)) (map lent_of (performed (drill_start own_cells cells) (records_of b)))).state)
     × (printed (drill_start own_cells cells) b ≡ lines)
 log_stopped own_cells cells {b} k =

@@ -1,7 +1,6 @@
 -- What performing a record and the run over a buffer keep to.
 -- Assumes nothing.
-use Rattle.std.specs.Prelude.{◌≡◌, ℕ, ◌+◌, ◌-◌, ◌<◌, ◌≤◌, Bool, List, ◌++◌, length, take}
-use Rattle.std.proofs.Math.Option.{Option}
+use Rattle.std.specs.Prelude.{◌≡◌, ℕ, ◌+◌, ◌-◌, ◌<◌, ◌≤◌, Bool, true, false, List, ◌++◌, length, take, Option}
 use Rattle.octets.specs.Bytes.{part}
 use Rattle.text.specs.Text.{Puts}
 use Rattle.wire.specs.declared.Head.TheVariants as head
@@ -9,6 +8,8 @@ use Rattle.wire.specs.Log.{Record, head_of}
 use Rattle.model.specs.State.{State}
 use Rattle.model.specs.Areas.{Areas, view, store}
 use Rattle.model.specs.Good.{Good, Sized}
+use Rattle.drill_log.specs.declared.Why.{Why}
+use Rattle.drill_log.specs.declared.Why.TheVariants as cause
 use Rattle.drill_run.specs.Drill.{record_step, state_after, lines_of, last_record, records_of, printed, performed, after_all}
 
 -- the lines of a record end within 295,008 bytes: 96 a line, 1,536 actions, as many replies, and one
@@ -37,12 +38,20 @@ pub record Performing (r : Option Record) (before after : Areas) (out : List ℕ
   pub within : Within at put
   pub done : Ready before → Performs r before after out at put out' stop
 
+-- does the drill go on, after more input or with room for lines again?
+abbrev pub goes_on : Why → Bool
+goes_on cause.More = true
+goes_on cause.Full = true
+goes_on cause.Refused = false
+goes_on cause.Ended = false
+goes_on cause.Failed = false
+
 -- more input is wanted only where less than the longest record is left
-pub record Ended (from end used put why : ℕ) : Type 0 where
+pub record Ended (from end used put : ℕ) (why : Why) : Type 0 where
   pub low : from ≤ used
   pub high : used ≤ end
   pub room : put ≤ 655360
-  pub short : why ≡ 0 → end < used + 8196
+  pub short : why ≡ cause.More → end < used + 8196
 
 -- From a state on, over the bytes b, up to what areas hold then and what is left of b: the lines so far, and then those of the rest, are
 -- what the whole prints, whatever bytes follow; the calls so far, and then those of the rest, are those that the whole makes; and the areas
@@ -55,17 +64,17 @@ pub record Running (s : State) (b : List ℕ) (after : Areas) (rest lines : List
   pub held : view after ≡ after_all s calls
 
 -- The same of a run that ended: at number 13 the lines are all that the log prints, and the calls all that it makes, whatever bytes follow.
-pub record Ran (s : State) (b : List ℕ) (after : Areas) (rest lines : List ℕ) (why : ℕ) : Type 0 where
+pub record Ran (s : State) (b : List ℕ) (after : Areas) (rest lines : List ℕ) (why : Why) : Type 0 where
   pub ready : Ready after
-  pub on : why < 2 → (t : List ℕ) → printed s (b ++ t) ≡ lines ++ printed (view after) (rest ++ t)
-  pub stop : why ≡ 2 → (t : List ℕ) → printed s (b ++ t) ≡ lines
-  pub wants : why ≡ 0 → head_of rest ≡ head.More
+  pub on : goes_on why ≡ true → (t : List ℕ) → printed s (b ++ t) ≡ lines ++ printed (view after) (rest ++ t)
+  pub stop : why ≡ cause.Refused → (t : List ℕ) → printed s (b ++ t) ≡ lines
+  pub wants : why ≡ cause.More → head_of rest ≡ head.More
   pub calls : List Record
-  pub made : why < 2 → (t : List ℕ) → performed s (records_of (b ++ t)) ≡ calls ++ performed (view after) (records_of (rest ++ t))
-  pub all : why ≡ 2 → (t : List ℕ) → performed s (records_of (b ++ t)) ≡ calls
+  pub made : goes_on why ≡ true → (t : List ℕ) → performed s (records_of (b ++ t)) ≡ calls ++ performed (view after) (records_of (rest ++ t))
+  pub all : why ≡ cause.Refused → (t : List ℕ) → performed s (records_of (b ++ t)) ≡ calls
   pub held : view after ≡ after_all s calls
 
 -- what is said of the run over input[from..end]: where it ends whatever the areas hold, and what it prints from areas that are ready
-pub record Runs (before after : Areas) (input : List ℕ) (from end used : ℕ) (out : List ℕ) (put why : ℕ) : Type 0 where
+pub record Runs (before after : Areas) (input : List ℕ) (from end used : ℕ) (out : List ℕ) (put : ℕ) (why : Why) : Type 0 where
   pub ended : Ended from end used put why
   pub ran : Ready before → Ran (view before) (part input from (end - from)) after (part input used (end - used)) (take put out) why

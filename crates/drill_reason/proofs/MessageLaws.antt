@@ -1,5 +1,5 @@
 -- Laws of the message of number 13. Assumes nothing.
-use mathlib.Core.Path.{◌≡◌, sym, subst}
+use mathlib.Core.Path.{◌≡◌, subst}
 use mathlib.Core.List.{List, ◌++◌}
 use Prim.Native.Nat.{ℕ, ◌+◌, ◌≤◌}
 use native.Mathlib.Omega.{arith}
@@ -7,11 +7,22 @@ use lib.ListN.{length}
 use Rattle.text.specs.Text.{Puts}
 use Rattle.text.proofs.TextLaws.{puts_then, puts_within}
 use Rattle.drill_reason.specs.declared.Reason.{Reason}
+use Rattle.drill_reason.specs.declared.Reason.TheVariants as reason
 use Rattle.drill_reason.specs.Message.{words_of, longest_words}
 
 -- the words of the reason that was told
-pub words_put : {o x : List ℕ} {at r n : ℕ} {why : Reason} (told : Reason) → why ≡ told → n ≤ longest_words → Puts n o at (words_of told) r x → Puts longest_words o at (words_of why) r x
-words_put {o} {x} {at} {r} told e h p = subst (λ (w : Reason). Puts longest_words o at (words_of w) r x) (sym e) (puts_within h p)
+words_near : (why : Reason) → length (words_of why) ≤ longest_words
+words_near reason.Mark = omega arith
+words_near reason.Length = omega arith
+words_near reason.Shape = omega arith
+words_near reason.Code = omega arith
+words_near reason.Verification = omega arith
+words_near reason.Enabled = omega arith
+words_near reason.Contacts = omega arith
+words_near reason.End = omega arith
+
+pub words_put : {o x w : List ℕ} {at r : ℕ} (why : Reason) → w ≡ words_of why → Puts (length w) o at w r x → Puts longest_words o at (words_of why) r x
+words_put {o} {x} {w} {at} {r} why e p = puts_within (words_near why) (subst (λ (l : List ℕ). Puts (length l) o at l r x) e p)
 
 -- three texts and four, one behind the other, at the front of an area
 module _ {l m n : ℕ} {o x y z : List ℕ} {p q r : ℕ} {a b c : List ℕ} (f : Puts l o 0 a p x) (g : Puts m x p b q y) (h : Puts n y q c r z) where

@@ -1,7 +1,6 @@
 -- Which of its reasons number 13 has (document 01, "Refused calls"), by the bytes at whose front the refused record stands.
 -- Assumes nothing.
-use Rattle.std.specs.Prelude.{ℕ, Bool, true, false, cond, List, ltb, leb, length}
-use Rattle.std.proofs.Math.Option.{Option, none, some}
+use Rattle.std.specs.Prelude.{ℕ, Bool, true, false, cond, List, ltb, leb, length, Option, Some, None}
 use Rattle.octets.specs.Bytes.{part}
 use Rattle.wire.specs.declared.Mark.{Mark}
 use Rattle.wire.specs.declared.Mark.TheVariants as mark
@@ -44,8 +43,8 @@ field_of mark.Unknown = reason.Mark
 
 -- of a body: a record that the grammar takes is refused by its call alone, a 257th contact
 unfoldable pub body_reason : Mark → Option Record → Reason
-body_reason m none = field_of m
-body_reason m (some r) = reason.Contacts
+body_reason m None = field_of m
+body_reason m (Some r) = reason.Contacts
 
 abbrev pub reason_by : Head → List ℕ → Reason
 reason_by (head.Whole m n) s = body_reason m (body_of m (part s 4 n))

@@ -5,13 +5,13 @@ ghost use Rattle.std.specs.Prelude.{◌≡◌, ◌+◌, ◌-◌, ◌≤◌, leng
 ghost use Rattle.octets.specs.Bytes.{part};
 ghost use Rattle.text.specs.Text.{Puts};
 ghost use Rattle.wire.specs.Log.{mark_at, size_at, body_of};
-ghost use Rattle.drill_reason.specs.Reason.{known, field_of, head_reason, body_reason, reason_of};
-ghost use Rattle.drill_reason.specs.Message.{words_of, place_of, message_of, longest_words, longest_place, longest_message};
+ghost use Rattle.drill_reason.specs.Reason.{field_of, head_reason, body_reason, reason_of};
+ghost use Rattle.drill_reason.specs.Message.{words_of, place_of, message_of, longest_place, longest_message};
 
-use wire::{Body, Head, Mark};
+use wire::{Head, Mark};
 
 // The reasons of number 13, in document 01's order.
-#[derive(Drop)]
+#[derive(Clone, Copy, PartialEq, Eq)]
 pub enum Reason {
     Mark,
     Length,
@@ -23,36 +23,19 @@ pub enum Reason {
     End,
 }
 
-fn is_known(mark: Mark) -> bool
-    ensures { result ≡ known mark }
-{
-    match mark {
-        Mark::Clock => true,
-        Mark::Contact => true,
-        Mark::Session => true,
-        Mark::Envelope => true,
-        Mark::Inventory => true,
-        Mark::Fetch => true,
-        Mark::Custody => true,
-        Mark::Tomb => true,
-        Mark::Maintenance => true,
-        Mark::Setting => true,
-        Mark::Unknown => false,
-    }
-}
-
 // A head that is wrong.
+#[tactic(auto, unfolding(crate::specs::Reason::head_reason))]
 fn head_reason(s: &[u8]) -> Reason
     requires { 4 ≤ length s.now }
     ensures { result ≡ head_reason (mark_at s.now) (size_at s.now) }
 {
-    if is_known(wire::mark_of(octets::get_u16(s, 0))) {
-        if octets::get_u16(s, 2) as usize <= wire::BODY_MAX {
-            return Reason::Shape;
-        }
-        return Reason::Length;
+    if wire::mark_of(octets::get_u16(s, 0)) == Mark::Unknown {
+        return Reason::Mark;
     }
-    Reason::Mark
+    if octets::get_u16(s, 2) as usize <= wire::BODY_MAX {
+        return Reason::Shape;
+    }
+    Reason::Length
 }
 
 // The field that may be wrong in a body of its mark's shape.
@@ -60,17 +43,11 @@ fn field_of(mark: Mark) -> Reason
     ensures { result ≡ field_of mark }
 {
     match mark {
-        Mark::Clock => Reason::Shape,
         Mark::Contact => Reason::Verification,
-        Mark::Session => Reason::Shape,
-        Mark::Envelope => Reason::Shape,
-        Mark::Inventory => Reason::Shape,
-        Mark::Fetch => Reason::Shape,
         Mark::Custody => Reason::Code,
-        Mark::Tomb => Reason::Shape,
-        Mark::Maintenance => Reason::Shape,
         Mark::Setting => Reason::Enabled,
         Mark::Unknown => Reason::Mark,
+        _ => Reason::Shape,
     }
 }
 
@@ -79,11 +56,12 @@ fn body_reason(mark: Mark, body: &[u8]) -> Reason
     ensures { result ≡ body_reason mark (body_of mark body.now) }
 {
     match wire::read_body(mark, body) {
-        Body::Wrong => field_of(mark),
-        _ => Reason::Contacts,
+        Some(_) => Reason::Contacts,
+        None => field_of(mark),
     }
 }
 
+#[tactic(auto, unfolding(crate::specs::Reason::reason_of, octets::specs::Bytes::part))]
 fn reason_of(s: &[u8]) -> Reason
     ensures { result ≡ reason_of s.now }
 {
@@ -91,13 +69,14 @@ fn reason_of(s: &[u8]) -> Reason
         return Reason::End;
     }
     match wire::read_head(s) {
-        Head::Whole { mark, len } => body_reason(mark, &s[4..4 + len]),
+        Head::Whole { mark, len } => body_reason(mark, &s[wire::HEAD..wire::HEAD + len]),
         Head::More => Reason::End,
         Head::Wrong => head_reason(s),
     }
 }
 
 // Of the record at input[from], where the bytes that were read end before `end`.
+#[tactic(auto, unfolding(octets::specs::Bytes::part))]
 fn reason_at(input: &[u8], from: usize, end: usize) -> Reason
     requires { (from ≤ end) × (end ≤ length input.now) }
     ensures { result ≡ reason_of (part input.now from (end - from)) }
@@ -109,19 +88,20 @@ fn reason_at(input: &[u8], from: usize, end: usize) -> Reason
 
 pub const LONGEST_MESSAGE: usize = 93;
 
-fn put_words(out: &mut [u8], at: usize, reason: Reason) -> usize
-    requires { at + longest_words ≤ length out.old }
-    ensures { Puts longest_words out.old at (words_of reason) result out.new }
-{
-    match reason {
-        Reason::Mark => text::put_run(out, at, b"unknown mark\n"),
-        Reason::Length => text::put_run(out, at, b"body over 8192 bytes\n"),
-        Reason::Shape => text::put_run(out, at, b"body of wrong shape\n"),
-        Reason::Code => text::put_run(out, at, b"code above 4\n"),
-        Reason::Verification => text::put_run(out, at, b"verification above 2\n"),
-        Reason::Enabled => text::put_run(out, at, b"enabled above 1\n"),
-        Reason::Contacts => text::put_run(out, at, b"a 257th contact\n"),
-        Reason::End => text::put_run(out, at, b"end of input inside it\n"),
+impl Reason {
+    fn words(self) -> &'static [u8]
+        ensures { result.now ≡ words_of self }
+    {
+        match self {
+            Reason::Mark => b"unknown mark\n",
+            Reason::Length => b"body over 8192 bytes\n",
+            Reason::Shape => b"body of wrong shape\n",
+            Reason::Code => b"code above 4\n",
+            Reason::Verification => b"verification above 2\n",
+            Reason::Enabled => b"enabled above 1\n",
+            Reason::Contacts => b"a 257th contact\n",
+            Reason::End => b"end of input inside it\n",
+        }
     }
 }
 
@@ -152,5 +132,5 @@ pub fn message_at(
     let reason = reason_at(input, from, end);
     let p = put_place(out, number, byte);
     let p = text::put_run(out, p, b": refused 13: ");
-    put_words(out, p, reason)
+    text::put_run(out, p, reason.words())
 }

@@ -1,9 +1,7 @@
 -- The rows that a record's call lists are proper, and they fit the answer areas: so what is read off these is what the model lists.
 -- Assumes nothing.
-use Rattle.std.proofs.Common.{◌≡◌, ℕ, zero, suc, ◌+◌, ◌*◌, ◌^◌, ◌<◌, ◌≤◌, Bool, true, false, cond, eqb, ltb, leb, List, [], ◌∷◌, ◌++◌, map, length, get_or, take, replicate, sym, refl, ap, ◌∙◌, subst, arith, length-append, length-take, ltb-true}
+use Rattle.std.proofs.Common.{◌≡◌, ℕ, zero, suc, ◌+◌, ◌*◌, ◌^◌, ◌<◌, ◌≤◌, Bool, true, false, cond, eqb, ltb, leb, List, [], ◌∷◌, ◌++◌, map, length, get_or, take, replicate, sym, refl, ap, ◌∙◌, subst, arith, length-append, length-take, ltb-true, Option, Some, None}
 use mathlib.Core.List.{flat_map}
-use mathlib.Core.Option as option
-use mathlib.Core.Option.{Option}
 use lib.ListN.{length-map}
 use Rattle.octets.specs.Bytes.{Bytes, be}
 use Rattle.octets.proofs.Numbers.{bytes_append, bytes_be, be_1, bytes_take}
@@ -17,8 +15,6 @@ use Rattle.courier.specs.declared.Custody.TheVariants as custody
 use Rattle.courier.specs.Courier.{custody_code, header_bytes}
 use Rattle.courier.specs.Tags.{commitment_of}
 use Rattle.courier.proofs.HeaderLaws.{length_header}
-use Rattle.table.specs.declared.Found.{Found}
-use Rattle.table.specs.declared.Found.TheVariants.{At, Nothing}
 use Rattle.table.specs.Lists.{All, none, more, filter, position, position_from}
 use Rattle.table.specs.Rows.{rows, held}
 use Rattle.table.specs.Codec.{Codec, CodecLaws, table_of, with_table}
@@ -65,8 +61,8 @@ pub record Answers (s : State) (o : Result) : Type 0 where
 
 -- what a search finds, if anything, has the property
 abbrev Of : {A : Type 0} → (A → Type 0) → Option A → Type 0
-Of P option.none = Unit {0}
-Of P (option.some a) = P a
+Of P None = Unit {0}
+Of P (Some a) = P a
 
 module _ {A : Type 0} {P : A → Type 0} where
   got : (xs : List A) (i : ℕ) (d : A) → All P xs → P d → P (get_or xs i d)
@@ -79,7 +75,7 @@ module _ {A : Type 0} {P : A → Type 0} where
   all_find q [] p = tt
   all_find q (x ∷ xs) (more h p) = go (q x) (all_find q xs p)
     where
-      go : (b : Bool) → Of P (find q xs) → Of P (cond b (option.some x) (find q xs))
+      go : (b : Bool) → Of P (find q xs) → Of P (cond b (Some x) (find q xs))
       go true k = h
       go false k = k
 
@@ -222,9 +218,9 @@ module _ (s : State) (g : Good s) where
       code custody.Off = replying s done (custody_reply head.tag custody.Off) _ (custody_proper head.tag custody.Off p)
       code custody.Invalid = replying s done (custody_reply head.tag custody.Invalid) _ (custody_proper head.tag custody.Invalid p)
 
-      go : (f : Found) (c : Custody) → Answers s (match_found f (λ i. ours_at (get_or (window_rows []) i no_reachable)) (answer_custody s peer head ct c))
-      go (At i) c = silent s _ _
-      go Nothing c = code c
+      go : (f : Option ℕ) (c : Custody) → Answers s (match_found f (λ i. ours_at (get_or (window_rows []) i no_reachable)) (answer_custody s peer head ct c))
+      go (Some i) c = silent s _ _
+      go None c = code c
 
   -- ---- fetch and inventory
 
@@ -248,8 +244,8 @@ module _ (s : State) (g : Good s) where
   fetch_answers peer tag = go (find (envelope_of_tag tag) (envelopes s.own s.carried peer)) (all_find (envelope_of_tag tag) (envelopes s.own s.carried peer) (envelopes_proper peer))
     where
       go : (o : Option Envelope) → Of ProperEnvelope o → Answers s (match_some o (fetched s) (only missing))
-      go option.none p = silent s missing _
-      go (option.some e) p = replying s _ (reply_for e) _ (envelope_proper e p)
+      go None p = silent s missing _
+      go (Some e) p = replying s _ (reply_for e) _ (envelope_proper e p)
 
   -- the window is empty: nothing is fetched
   no_fetch : (peer : ContactId) (ps : List (List ℕ)) → flat_map (fetch_for s.bad_tags s.tombstones (window_rows []) peer) ps ≡ []
@@ -263,8 +259,8 @@ module _ (s : State) (g : Good s) where
     where
       go : (o : Option Tombstone) → Of ProperTombstone o
           → All ProperReply (match_some o (λ t. tomb_reply t.tag t.s ∷ []) []) × (length (match_some o (λ (t : Tombstone). tomb_reply t.tag t.s ∷ []) []) ≤ 1)
-      go option.none p = (none, omega arith)
-      go (option.some t) p = (more (tomb_proper t.tag t.s p.tag p.s) none, omega arith)
+      go None p = (none, omega arith)
+      go (Some t) p = (more (tomb_proper t.tag t.s p.tag p.s) none, omega arith)
 
   half_proper : (e : Envelope) → ProperEnvelope e → ProperEnvelope (halved e)
   unfolding halved
@@ -333,27 +329,27 @@ module _ (s : State) (g : Good s) where
   unfolding handed_actions
   handed_few tag = go (position (carried_of_tag tag) s.carried) (position (own_of_tag tag) s.own)
     where
-      listed : Found → Found → List Action
+      listed : Option ℕ → Option ℕ → List Action
       listed c o =
           match_found c (λ i. put_courier (get_or s.carried i no_carried).slot ∷ [])
           (match_found o (λ i. put_queued (get_or s.own i no_own).contact (get_or s.own i no_own).msgno ∷ []) [])
 
-      go : (c o : Found) → All ProperAction (listed c o) × (length (listed c o) ≤ 3)
-      go (At i) o = (more (put_proper (get_or s.carried i no_carried).slot (slot_at i)) none, omega arith)
-      go Nothing (At i) = (more (own_put_at i) none, omega arith)
-      go Nothing Nothing = (none, omega arith)
+      go : (c o : Option ℕ) → All ProperAction (listed c o) × (length (listed c o) ≤ 3)
+      go (Some i) o = (more (put_proper (get_or s.carried i no_carried).slot (slot_at i)) none, omega arith)
+      go None (Some i) = (more (own_put_at i) none, omega arith)
+      go None None = (none, omega arith)
 
   custody_answers : (tag : List ℕ) (code : Custody) → Answers s (receive_custody s tag code)
   unfolding receive_custody settle
   custody_answers tag code = go (position (offer_of_tag tag) s.session.exchange.offered) code
     where
-      go : (f : Found) (c : Custody) → Answers s (match_found f (settle s tag c) (only done))
-      go (At i) custody.Accepted = acting s done (handed_actions s.own s.carried tag) _ (handed_few tag).0 (handed_few tag).1
-      go (At i) custody.Full = silent s done _
-      go (At i) custody.Duplicate = silent s done _
-      go (At i) custody.Off = silent s done _
-      go (At i) custody.Invalid = silent s done _
-      go Nothing c = silent s done _
+      go : (f : Option ℕ) (c : Custody) → Answers s (match_found f (settle s tag c) (only done))
+      go (Some i) custody.Accepted = acting s done (handed_actions s.own s.carried tag) _ (handed_few tag).0 (handed_few tag).1
+      go (Some i) custody.Full = silent s done _
+      go (Some i) custody.Duplicate = silent s done _
+      go (Some i) custody.Off = silent s done _
+      go (Some i) custody.Invalid = silent s done _
+      go None c = silent s done _
 
   -- ---- tomb
 
@@ -463,14 +459,14 @@ module _ (s : State) (g : Good s) where
 
   pub record_answers : (r : Option Record) → ProperRecord r → Answers s (record_step s r)
   unfolding record_step
-  record_answers option.none h = silent s (refused refusal.LogRecord) _
-  record_answers (option.some r) h = call_answers r h
+  record_answers None h = silent s (refused refusal.LogRecord) _
+  record_answers (Some r) h = call_answers r h
 
 -- a record leaves a state that is good
 pub record_keeps : (s : State) → Good s → (r : Option Record) → ProperRecord r → Good (state_after s r)
 unfolding state_after record_step apply
-record_keeps s g option.none h = g
-record_keeps s g (option.some r) h = keeps s (call_of r) g h
+record_keeps s g None h = g
+record_keeps s g (Some r) h = keeps s (call_of r) g h
 
 -- ---- read off the answer areas
 

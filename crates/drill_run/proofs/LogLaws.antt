@@ -1,8 +1,7 @@
 -- Laws of a log: what stands whole at the front stays so whatever follows it, the records behind it, and what is printed.
 -- Assumes nothing.
-use Rattle.std.proofs.Common.{◌≡◌, ℕ, zero, suc, ◌+◌, ◌-◌, ◌<◌, ◌≤◌, Bool, true, false, cond, ltb, leb, List, [], ◌∷◌, ◌++◌, length, drop, sym, refl, ap, ◌∙◌, subst, ap₂, true≢false, append-nil, arith, length-append, length-drop, ltb-false, leb-true}
+use Rattle.std.proofs.Common.{◌≡◌, ℕ, zero, suc, ◌+◌, ◌-◌, ◌<◌, ◌≤◌, Bool, true, false, cond, ltb, leb, List, [], ◌∷◌, ◌++◌, length, drop, sym, refl, ap, ◌∙◌, subst, ap₂, true≢false, append-nil, arith, length-append, length-drop, ltb-false, leb-true, Option, Some, None}
 use mathlib.Core.List.{flat_map}
-use mathlib.Core.Option.{Option, none, some}
 use lib.Seq.{drop-append-le}
 use Rattle.octets.specs.Bytes.{part, num}
 use Rattle.octets.proofs.Parts.{part_left}
@@ -100,19 +99,19 @@ pub records_whole : {m : Mark} {n : ℕ} (b : List ℕ) → head_of b ≡ head.W
 unfolding records_by
 records_whole {m} {n} b e = records_at_lem b (head.Whole m n) (omega (arith, of_whole b refl e)) e
 
-pub records_wrong : (b : List ℕ) → 0 < length b → head_of b ≡ head.Wrong → records_of b ≡ none ∷ []
+pub records_wrong : (b : List ℕ) → 0 < length b → head_of b ≡ head.Wrong → records_of b ≡ None ∷ []
 unfolding records_by
 records_wrong b least e = records_at_lem b head.Wrong least e
 
 -- input that ends inside a record
-pub records_cut : (b : List ℕ) → 0 < length b → head_of b ≡ head.More → records_of b ≡ none ∷ []
+pub records_cut : (b : List ℕ) → 0 < length b → head_of b ≡ head.More → records_of b ≡ None ∷ []
 unfolding records_by
 records_cut b least e = records_at_lem b head.More least e
 
 -- ---- what is printed, by what stands at the front, whatever follows
 
 -- of a record that the grammar refuses, whatever the state
-pub lines_wrong : (s : State) → lines_from s (none ∷ []) ≡ last_line (last.Refused refusal.LogRecord)
+pub lines_wrong : (s : State) → lines_from s (None ∷ []) ≡ last_line (last.Refused refusal.LogRecord)
 unfolding lines_from lines_of last_record record_step record_lines flat_map
 lines_wrong s = append-nil _
 
@@ -133,13 +132,13 @@ wrong_some (x ∷ b) e = omega arith
 -- the calls that are made of a record and those behind it
 made_on : (s : State) (q : Option Record) (rs : List (Option Record)) → last_record s q ≡ false → performed s (q ∷ rs) ≡ made_of q ++ performed (state_after s q) rs
 unfolding performed last_record record_step
-made_on s none rs f = absurd (true≢false f)
-made_on s (some r) rs f = ap (λ (c : Bool). r ∷ cond c [] (performed (state_after s (some r)) rs)) f
+made_on s None rs f = absurd (true≢false f)
+made_on s (Some r) rs f = ap (λ (c : Bool). r ∷ cond c [] (performed (state_after s (Some r)) rs)) f
 
 made_stop : (s : State) (q : Option Record) (rs : List (Option Record)) → last_record s q ≡ true → performed s (q ∷ rs) ≡ made_of q
 unfolding performed
-made_stop s none rs f = refl
-made_stop s (some r) rs f = ap (λ (c : Bool). r ∷ cond c [] (performed (state_after s (some r)) rs)) f
+made_stop s None rs f = refl
+made_stop s (Some r) rs f = ap (λ (c : Bool). r ∷ cond c [] (performed (state_after s (Some r)) rs)) f
 
 module _ (s : State) (b t : List ℕ) where
   pub performed_wrong : head_of b ≡ head.Wrong → performed s (records_of (b ++ t)) ≡ []

@@ -1,7 +1,5 @@
 -- The records of a log of bytes are proper: numbers fit their types, and runs have their length. Assumes nothing.
-use Rattle.std.proofs.Common.{◌≡◌, ℕ, zero, suc, ◌+◌, ◌≤◌, Bool, true, false, cond, List, [], ◌∷◌, map, length, drop, refl, arith}
-use mathlib.Core.Option as option
-use mathlib.Core.Option.{Option}
+use Rattle.std.proofs.Common.{◌≡◌, ℕ, zero, suc, ◌+◌, ◌≤◌, Bool, true, false, cond, List, [], ◌∷◌, map, length, drop, refl, arith, Option, Some, None}
 use Rattle.octets.specs.Bytes.{Bytes, part, num}
 use Rattle.octets.proofs.Parts.{length_part}
 use Rattle.octets.proofs.Numbers.{bytes_part, bytes_drop, num_part_lt}
@@ -15,7 +13,7 @@ use Rattle.wire.specs.declared.Mark.TheVariants as mark
 use Rattle.wire.specs.declared.Head.{Head}
 use Rattle.wire.specs.declared.Head.TheVariants as head
 use Rattle.wire.specs.Log as log
-use Rattle.wire.specs.Log.{Record, fits, head_of, mapped, verification_of, enabled_of, code_read, peer_in, values_of, body_of}
+use Rattle.wire.specs.Log.{Record, fits, head_of, mapped, verification_of, enabled_of, peer_in, values_of, body_of}
 use Rattle.wire.proofs.HeadLaws.{least_size, fit_size}
 use Rattle.model.specs.State.{State}
 use Rattle.model.specs.Step.{Lent}
@@ -23,8 +21,8 @@ use Rattle.model.specs.Good.{ProperHeader, ProperCall}
 use Rattle.drill_run.specs.Drill.{call_of, state_after, last_record, records_by, records_from, records_of, performed, lent_of}
 
 abbrev pub ProperRecord : Option Record → Type 0
-ProperRecord option.none = Unit {0}
-ProperRecord (option.some r) = ProperCall (call_of r)
+ProperRecord None = Unit {0}
+ProperRecord (Some r) = ProperCall (call_of r)
 
 -- ---- a body
 
@@ -43,16 +41,16 @@ module _ (b : List ℕ) (bytes : Bytes b) where
 
 module _ (b : List ℕ) (bytes : Bytes b) where
   contact_proper : 9 ≤ length b → (v : Option Verification) → ProperRecord (mapped (log.contact (peer_in b)) v)
-  contact_proper h option.none = tt
-  contact_proper h (option.some v) = num_part_lt b 0 8 (omega arith) bytes
+  contact_proper h None = tt
+  contact_proper h (Some v) = num_part_lt b 0 8 (omega arith) bytes
 
   custody_proper : (c : Option Custody) → ProperRecord (mapped (log.custody (peer_in b) (part b 8 16)) c)
-  custody_proper option.none = tt
-  custody_proper (option.some c) = tt
+  custody_proper None = tt
+  custody_proper (Some c) = tt
 
   setting_proper : 4 ≤ length b → (e : Option Bool) → ProperRecord (mapped (λ enabled. log.setting enabled (num (part b 1 1)) (num (part b 2 2))) e)
-  setting_proper h option.none = tt
-  setting_proper h (option.some e) = num_part_lt b 1 1 (omega arith) bytes
+  setting_proper h None = tt
+  setting_proper h (Some e) = num_part_lt b 1 1 (omega arith) bytes
 
   values_proper : (m : Mark) → least_size m ≤ length b → ProperRecord (values_of m b)
   unfolding values_of
@@ -62,7 +60,7 @@ module _ (b : List ℕ) (bytes : Bytes b) where
   values_proper mark.Envelope h = (num_part_lt b 0 8 (omega arith) bytes, header (part b 8 37) (bytes_part b 8 37 bytes) (length_part b 8 37 (omega arith)))
   values_proper mark.Inventory h = bytes_drop 8 b bytes
   values_proper mark.Fetch h = tt
-  values_proper mark.Custody h = custody_proper (code_read (from_code (num (part b 24 1))))
+  values_proper mark.Custody h = custody_proper (from_code (num (part b 24 1)))
   values_proper mark.Tomb h = (run b bytes 8 16 (omega arith), run b bytes 24 16 (omega arith))
   values_proper mark.Maintenance h = tt
   values_proper mark.Setting h = setting_proper h (enabled_of (num (part b 0 1)))
@@ -72,7 +70,7 @@ module _ (b : List ℕ) (bytes : Bytes b) where
   unfolding body_of
   body_proper m = go (fits m (length b)) refl
     where
-      go : (f : Bool) → fits m (length b) ≡ f → ProperRecord (cond f (values_of m b) option.none)
+      go : (f : Bool) → fits m (length b) ≡ f → ProperRecord (cond f (values_of m b) None)
       go true e = values_proper m (fit_size m (length b) e)
       go false e = tt
 
@@ -106,6 +104,6 @@ unless false rs p = p
 pub performed_proper : (s : State) (rs : List (Option Record)) → All ProperRecord rs → All ProperLent (map lent_of (performed s rs))
 unfolding performed
 performed_proper s [] p = none
-performed_proper s (option.none ∷ rs) p = none
-performed_proper s (option.some r ∷ rs) (more h p) =
-    more h (unless (last_record s (option.some r)) (performed (state_after s (option.some r)) rs) (performed_proper (state_after s (option.some r)) rs p))
+performed_proper s (None ∷ rs) p = none
+performed_proper s (Some r ∷ rs) (more h p) =
+    more h (unless (last_record s (Some r)) (performed (state_after s (Some r)) rs) (performed_proper (state_after s (Some r)) rs p))

@@ -1,8 +1,6 @@
 -- The records of a log, performed one by one, are the model's run of their calls: so demand 3 holds of every log. Assumes nothing.
-use Rattle.std.proofs.Common.{◌≡◌, ℕ, ◌/◌, Bool, true, false, cond, List, [], ◌∷◌, ◌++◌, map, length, sym, refl, ap, ◌∙◌, append_assoc, append-nil, arith}
+use Rattle.std.proofs.Common.{◌≡◌, ℕ, ◌/◌, Bool, true, false, cond, List, [], ◌∷◌, ◌++◌, map, length, sym, refl, ap, ◌∙◌, append_assoc, append-nil, arith, Option, Some, None}
 use mathlib.Core.List.{flat_map}
-use mathlib.Core.Option as option
-use mathlib.Core.Option.{Option}
 use Rattle.octets.specs.Bytes.{Bytes}
 use Rattle.courier_core.specs.declared.Refusal.TheVariants as refusal
 use Rattle.table.specs.Lists.{All, none, more}
@@ -26,11 +24,11 @@ use Rattle.drill_run.proofs.RecordLaws.{ProperLent, records_proper, performed_pr
 -- ---- one record
 
 -- the one exchange stays the one that is lent
-after_record : (s : State) (r : Record) → after (post_of s) (lent_of r) ≡ post_of (state_after s (option.some r))
+after_record : (s : State) (r : Record) → after (post_of s) (lent_of r) ≡ post_of (state_after s (Some r))
 unfolding after answer_to state_for state_after record_step
 after_record s r = refl
 
-answer_record : (s : State) (r : Record) → answer_to (post_of s) (lent_of r) ≡ record_step s (option.some r)
+answer_record : (s : State) (r : Record) → answer_to (post_of s) (lent_of r) ≡ record_step s (Some r)
 unfolding answer_to state_for record_step
 answer_record s r = refl
 
@@ -40,18 +38,18 @@ answer_record s r = refl
 pub run_records : (s : State) (rs : List Record) → run (post_of s) (map lent_of rs) ≡ post_of (after_all s rs)
 unfolding run after_all
 run_records s [] = refl
-run_records s (r ∷ rs) = ap (λ (p : Post). run p (map lent_of rs)) (after_record s r) ∙ run_records (state_after s (option.some r)) rs
+run_records s (r ∷ rs) = ap (λ (p : Post). run p (map lent_of rs)) (after_record s r) ∙ run_records (state_after s (Some r)) rs
 
 -- what is left after some records and then others; and after the call of one more
 pub after_append : (s : State) (rs qs : List Record) → after_all s (rs ++ qs) ≡ after_all (after_all s rs) qs
 unfolding after_all
 after_append s [] qs = refl
-after_append s (r ∷ rs) qs = after_append (state_after s (option.some r)) rs qs
+after_append s (r ∷ rs) qs = after_append (state_after s (Some r)) rs qs
 
 after_made : (s : State) (q : Option Record) → after_all s (made_of q) ≡ state_after s q
 unfolding after_all state_after record_step apply
-after_made s option.none = refl
-after_made s (option.some r) = refl
+after_made s None = refl
+after_made s (Some r) = refl
 
 pub after_one : (s : State) (rs : List Record) (q : Option Record) → after_all s (rs ++ made_of q) ≡ state_after (after_all s rs) q
 after_one s rs q = after_append s rs (made_of q) ∙ after_made (after_all s rs) q
@@ -61,8 +59,8 @@ unfolding results answers_of
 results_records s [] = refl
 results_records s (r ∷ rs) =
     ap (λ (p : Post). answer_to (post_of s) (lent_of r) ∷ results p (map lent_of rs)) (after_record s r)
-    ∙ ap (λ (o : Result). o ∷ results (post_of (state_after s (option.some r))) (map lent_of rs)) (answer_record s r)
-    ∙ ap (λ (os : List Result). record_step s (option.some r) ∷ os) (results_records (state_after s (option.some r)) rs)
+    ∙ ap (λ (o : Result). o ∷ results (post_of (state_after s (Some r))) (map lent_of rs)) (answer_record s r)
+    ∙ ap (λ (os : List Result). record_step s (Some r) ∷ os) (results_records (state_after s (Some r)) rs)
 
 -- ---- what is printed
 
@@ -70,7 +68,7 @@ abbrev wrong_line : List ℕ
 wrong_line = last_line (last.Refused refusal.LogRecord)
 
 -- the lines of a record are those of its call in the model's run
-run_line : (s : State) (r : Record) (ls : List Lent) → run_lines (post_of s) (lent_of r ∷ ls) ≡ lines_of s (option.some r) ++ run_lines (post_of (state_after s (option.some r))) ls
+run_line : (s : State) (r : Record) (ls : List Lent) → run_lines (post_of s) (lent_of r ∷ ls) ≡ lines_of s (Some r) ++ run_lines (post_of (state_after s (Some r))) ls
 unfolding run_lines lines_of after answer_to state_for state_after record_step
 run_line s r ls = refl
 
@@ -78,14 +76,14 @@ run_line s r ls = refl
 pub lines_run : (s : State) (rs : List (Option Record)) → lines_from s rs ≡ run_lines (post_of s) (map lent_of (performed s rs)) ++ cond (ends_wrong s rs) wrong_line []
 unfolding lines_from performed ends_wrong run_lines lines_of last_record record_step record_lines flat_map
 lines_run s [] = refl
-lines_run s (option.none ∷ rs) = append-nil _
-lines_run s (option.some r ∷ rs) = go (last_record s (option.some r)) (lines_run (state_after s (option.some r)) rs)
+lines_run s (None ∷ rs) = append-nil _
+lines_run s (Some r ∷ rs) = go (last_record s (Some r)) (lines_run (state_after s (Some r)) rs)
   where
     next : State
-    next = state_after s (option.some r)
+    next = state_after s (Some r)
 
     here : List ℕ
-    here = lines_of s (option.some r)
+    here = lines_of s (Some r)
 
     go : (c : Bool) → lines_from next rs ≡ run_lines (post_of next) (map lent_of (performed next rs)) ++ cond (ends_wrong next rs) wrong_line []
         → here ++ cond c [] (lines_from next rs)

@@ -1,7 +1,6 @@
 -- The drill (document 01, "Drill program"): the records of a log, the call that each makes, and the lines of a whole log.
 -- Assumes nothing.
-use Rattle.std.specs.Prelude.{ℕ, zero, suc, ◌+◌, Bool, true, false, cond, List, [], ◌∷◌, ◌++◌, length, drop}
-use Rattle.std.proofs.Math.Option.{Option, none, some}
+use Rattle.std.specs.Prelude.{ℕ, zero, suc, ◌+◌, Bool, true, false, cond, List, [], ◌∷◌, ◌++◌, length, drop, Option, Some, None}
 use Rattle.octets.specs.Bytes.{part}
 use Rattle.courier_core.specs.declared.Refusal.TheVariants as refusal
 use Rattle.wire.specs.declared.Head.{Head}
@@ -37,8 +36,8 @@ call_of (log.setting enabled copies lifetime) = calls.setting enabled copies lif
 
 -- none is a record that the grammar refuses: number 13
 unfoldable pub record_step : State → Option Record → Result
-record_step s none = only (refused refusal.LogRecord)
-record_step s (some r) = step s (call_of r)
+record_step s None = only (refused refusal.LogRecord)
+record_step s (Some r) = step s (call_of r)
 
 -- how many actions and replies a call lists, and the last line
 unfoldable pub tells : Result → ℕ × (ℕ × Last)
@@ -79,8 +78,8 @@ last_record s r = stops_at (last_of (record_step s r).answer)
 -- A record at the front of b, by its head, and those behind it. A wrong head, and input that ends inside a record, are the last.
 unfoldable pub records_by : Head → List ℕ → (List ℕ → List (Option Record)) → List (Option Record)
 records_by (head.Whole m len) b behind = body_of m (part b 4 len) ∷ behind (drop (4 + len) b)
-records_by head.More b behind = none ∷ []
-records_by head.Wrong b behind = none ∷ []
+records_by head.More b behind = None ∷ []
+records_by head.Wrong b behind = None ∷ []
 
 -- the records of b, n at most
 unfoldable pub records_from : ℕ → List ℕ → List (Option Record)
@@ -106,19 +105,19 @@ printed s b = lines_from s (records_of b)
 -- the records whose calls are made: up to one that the grammar refuses, or to the first that the call refuses with number 13
 unfoldable pub performed : State → List (Option Record) → List Record
 performed s [] = []
-performed s (none ∷ rs) = []
-performed s (some r ∷ rs) = r ∷ cond (last_record s (some r)) [] (performed (state_after s (some r)) rs)
+performed s (None ∷ rs) = []
+performed s (Some r ∷ rs) = r ∷ cond (last_record s (Some r)) [] (performed (state_after s (Some r)) rs)
 
 -- the call that is made of a record: none of one that the grammar refuses
 abbrev pub made_of : Option Record → List Record
-made_of none = []
-made_of (some r) = r ∷ []
+made_of None = []
+made_of (Some r) = r ∷ []
 
 -- does the log end at a record that the grammar refuses
 unfoldable pub ends_wrong : State → List (Option Record) → Bool
 ends_wrong s [] = false
-ends_wrong s (none ∷ rs) = true
-ends_wrong s (some r ∷ rs) = cond (last_record s (some r)) false (ends_wrong (state_after s (some r)) rs)
+ends_wrong s (None ∷ rs) = true
+ends_wrong s (Some r ∷ rs) = cond (last_record s (Some r)) false (ends_wrong (state_after s (Some r)) rs)
 
 -- each call is lent the one exchange that is open
 abbrev pub lent_of : Record → Lent
@@ -131,11 +130,11 @@ post_of s = record { state = s; sessions = s.session ∷ [] }
 -- what the records leave, and what their calls answer
 unfoldable pub after_all : State → List Record → State
 after_all s [] = s
-after_all s (r ∷ rs) = after_all (state_after s (some r)) rs
+after_all s (r ∷ rs) = after_all (state_after s (Some r)) rs
 
 unfoldable pub answers_of : State → List Record → List Result
 answers_of s [] = []
-answers_of s (r ∷ rs) = record_step s (some r) ∷ answers_of (state_after s (some r)) rs
+answers_of s (r ∷ rs) = record_step s (Some r) ∷ answers_of (state_after s (Some r)) rs
 
 -- the lines of a list of calls from a post on, each of what the model's run answers and leaves there
 unfoldable pub run_lines : Post → List Lent → List ℕ

@@ -1,5 +1,6 @@
 -- Laws of a log that is read in pieces: what holds between two turns holds at the start, after a read and after a run. Assumes nothing.
 use Rattle.std.proofs.Common.{◌≡◌, ℕ, ◌+◌, ◌-◌, ◌%◌, ◌^◌, ◌<◌, ◌≤◌, Bool, true, false, cond, eqb, List, [], ◌++◌, length, take, sym, refl, ap, ◌∙◌, subst, append-nil, zero-add, arith, length-append, eqb-true}
+use mathlib.Core.Bool.{false≢true}
 use Rattle.octets.specs.Bytes.{part, splice}
 use Rattle.octets.proofs.Parts.{part_nil, part_add, length_part, read_same, take_written}
 use Rattle.courier_core.specs.declared.Refusal.TheVariants as refusal
@@ -16,11 +17,13 @@ use Rattle.drill_lines.specs.declared.Last.TheVariants as last
 use Rattle.drill_lines.specs.Lines.{last_line}
 use Rattle.drill_run.specs.Drill.{drill_areas, drill_start}
 use Rattle.drill_run.proofs.RunLaws.{start_view}
-use Rattle.drill_log.specs.Run.{Running, Runs}
-use Rattle.drill_log.proofs.RunLaws.{run_start}
+use Rattle.drill_log.specs.declared.Why.{Why}
+use Rattle.drill_log.specs.declared.Why.TheVariants as cause
+use Rattle.drill_log.specs.Run.{Running, Runs, goes_on}
+use Rattle.drill_log.proofs.RunLaws.{rank, run_start}
 use Rattle.drill_log.proofs.WholeLaws.{runs_join, ran_on, log_whole, log_cut, start_ready}
 use Rattle.drill_turn.specs.declared.Turn.{Turn}
-use Rattle.drill_turn.specs.Stream.{left, read_of, Inside, Waits, Keeps, Fed, Turned, read_turn, Ends, AtEnd, Stops, Streamed, Between, Printed, first_turn}
+use Rattle.drill_turn.specs.Stream.{left, read_of, Inside, Waits, Keeps, Fed, Turned, after_read, read_turn, Ends, AtEnd, Stops, Streamed, Between, Printed, first_turn}
 
 -- ---- the input
 
@@ -40,7 +43,7 @@ fed_none t input inside = record {
   more = [];
   rest = sym (append-nil (left t input));
   counted = omega arith;
-  ended = λ e h. absurd (omega arith);
+  ended = λ e h. absurd (false≢true (ap goes_on (sym e) ∙ h));
 }
 
 -- n bytes are read behind those that are kept
@@ -54,17 +57,17 @@ module _ (t : Turn) (input moved input' : List ℕ) (n : ℕ) (failed : Bool) (i
       let k : kept + n - 0 ≡ kept + n = omega arith in
       ap (part input' 0) k ∙ part_add input' 0 kept n ∙ (λ i. (f ∙ e) i ++ part input' (zero-add kept i) n)
 
-  -- 3 is for a read of nothing
-  read_ended : ◌≡◌ {A = ℕ} (cond failed 4 (cond (eqb n 0) 3 0)) 3 → n ≡ 0
+  -- the end is told of a read of nothing
+  read_ended : after_read n failed ≡ cause.Ended → n ≡ 0
   read_ended e = go failed (eqb n 0) refl e
     where
-      go : (b z : Bool) → eqb n 0 ≡ z → ◌≡◌ {A = ℕ} (cond b 4 (cond z 3 0)) 3 → n ≡ 0
-      go true z q r = absurd (omega arith)
+      go : (b z : Bool) → eqb n 0 ≡ z → cond b cause.Failed (cond z cause.Ended cause.More) ≡ cause.Ended → n ≡ 0
+      go true z q r = absurd (omega (arith, ap rank r))
       go false true q r = eqb-true n 0 q
-      go false false q r = absurd (omega arith)
+      go false false q r = absurd (omega (arith, ap rank r))
 
   pub fed_read : {k t' : Turn} → Keeps t input k moved → take k.have input' ≡ take k.have moved → k.have + n ≤ 65536 → length input' ≡ 65536
-      → t.why ≡ 0 → t' ≡ read_turn k n failed → Fed t input t' input'
+      → t.why ≡ cause.More → t' ≡ read_turn k n failed → Fed t input t' input'
   fed_read {k} {t'} keeps front room size more e =
       let h : k.have ≡ kept = ap (λ (x : Turn). x.have) keeps.turn in
       let f : take kept input' ≡ take kept moved = subst (λ (j : ℕ). take j input' ≡ take j moved) h front in
@@ -79,7 +82,7 @@ module _ (t : Turn) (input moved input' : List ℕ) (n : ℕ) (failed : Bool) (i
       })
 
 -- there is room to read where more input is wanted
-pub room_to_read : (t k : Turn) (input moved : List ℕ) → Waits t input → Keeps t input k moved → length moved ≡ 65536 → t.why ≡ 0 → k.have < length moved
+pub room_to_read : (t k : Turn) (input moved : List ℕ) → Waits t input → Keeps t input k moved → length moved ≡ 65536 → t.why ≡ cause.More → k.have < length moved
 room_to_read t k input moved w keeps size h =
     let room : t.have - t.from ≤ 65536 = omega (arith, w.inside.room) in
     omega (arith, of_more (left t input) refl (w.wants h), ap length keeps.bytes, length_part moved 0 (t.have - t.from) (omega arith), ap (λ (x : Turn). x.have) keeps.turn)
@@ -103,10 +106,10 @@ streamed_more {s} {d} {d'} {x} {x'} {c} {o} {k} {t} {oc} {rc} {p} {f} {rest} {re
       size = counted_more so_far.log more n n' so_far.size en;
     }
 
-pub streamed_ran : {s : State} {a a' : Areas} {input out lines : List ℕ} {from have used put why n : ℕ} → why < 2
+pub streamed_ran : {s : State} {a a' : Areas} {input out lines : List ℕ} {from have used put n : ℕ} {why : Why} → goes_on why ≡ true
     → Runs a a' input from have used out put why → Streamed s a (part input from (have - from)) n lines
     → Streamed s a' (part input used (have - used)) n (lines ++ take put out)
-streamed_ran {s} {a} {a'} {input} {out} {lines} {from} {have} {used} {put} {why} {n} h runs so_far = record {
+streamed_ran {s} {a} {a'} {input} {out} {lines} {from} {have} {used} {put} {n} {why} h runs so_far = record {
   log = so_far.log ++ [];
   run = runs_join [] so_far.run
       (subst (λ (b : List ℕ). Running (view a) b a' (part input used (have - used)) (take put out)) (sym (append-nil (part input from (have - from))))
@@ -124,7 +127,7 @@ module _ {s : State} {c o k t oc rc p f : List ℕ} {u v : Turn} {input input' l
   streamed_on = streamed_more fed.more fed.device fed.exchange fed.rest fed.counted so_far.streamed
 
   -- a run that did not end at number 13: its lines stand behind those of the turns before
-  pub between_on : {a : Areas} {w : Turn} {out : List ℕ} → Turned here a v input' w out → w.why < 2 → Between s a w input' (lines ++ take w.put out)
+  pub between_on : {a : Areas} {w : Turn} {out : List ℕ} → Turned here a v input' w out → goes_on w.why ≡ true → Between s a w input' (lines ++ take w.put out)
   between_on {a} {w} {out} turned h =
       let e : part input' w.from (v.have - w.from) ≡ left w input' = ap (λ (n : ℕ). part input' w.from (n - w.from)) (sym turned.have) in record {
         waits = record {
@@ -146,7 +149,7 @@ module _ {s : State} {c o k t oc rc p f : List ℕ} {u v : Turn} {input input' l
   }
 
   -- and the lines of all turns, with the last, are what a log of as many bytes prints
-  pub between_end : {put : ℕ} {out : List ℕ} → v.why ≡ 3 → v.have ≤ length input' → AtEnd v put out → Printed s (read_of v) (lines ++ take put out)
+  pub between_end : {put : ℕ} {out : List ℕ} → v.why ≡ cause.Ended → v.have ≤ length input' → AtEnd v put out → Printed s (read_of v) (lines ++ take put out)
   unfolding Ends
   between_end e room end = record {
     log = streamed_on.log;
@@ -172,7 +175,7 @@ between_start contacts own carried tombstones own_cells cells prefixes offers in
     let e : left first_turn input ≡ [] = part_nil input 0 in
     subst (λ (t : Turn). Between (drill_start own_cells cells) (drill_areas t.device t.exchange contacts own carried tombstones own_cells cells prefixes offers) t input []) (sym start) (record {
       waits = record { inside = record { order = omega arith; room = omega arith }; wants = λ w. ap head_of e ∙ none_wants };
-      goes_on = omega arith;
+      goes_on = refl;
       streamed = record {
         log = [];
         run = subst (λ (b : List ℕ). Running (drill_start own_cells cells) [] a b []) (sym e)

@@ -1,5 +1,5 @@
 -- The drill's log, read in pieces (document 01, "Drill program"): what one turn hands on to the next. Assumes nothing.
-use Rattle.std.specs.Prelude.{◌≡◌, ℕ, ◌+◌, ◌-◌, ◌%◌, ◌^◌, ◌<◌, ◌≤◌, Bool, cond, List, [], ◌++◌, length, take, ◌==◌}
+use Rattle.std.specs.Prelude.{◌≡◌, ℕ, ◌+◌, ◌-◌, ◌%◌, ◌^◌, ◌≤◌, Bool, true, cond, List, [], ◌++◌, length, take, ◌==◌}
 use Rattle.octets.specs.Bytes.{part}
 use Rattle.wire.specs.declared.Head.TheVariants as head
 use Rattle.wire.specs.Log.{head_of}
@@ -9,7 +9,9 @@ use Rattle.rows.specs.Device.{fresh_device, closed_exchange}
 use Rattle.model.specs.State.{State}
 use Rattle.model.specs.Areas.{Areas}
 use Rattle.drill_run.specs.Drill.{printed}
-use Rattle.drill_log.specs.Run.{Running, Runs}
+use Rattle.drill_log.specs.declared.Why.{Why}
+use Rattle.drill_log.specs.declared.Why.TheVariants as cause
+use Rattle.drill_log.specs.Run.{Running, Runs, goes_on}
 use Rattle.drill_turn.specs.declared.Turn.{Turn}
 
 -- ---- a turn
@@ -28,7 +30,7 @@ pub record Inside (from have : ℕ) : Type 0 where
   pub room : have ≤ 65536
 
 -- what is handed on where no record is performed
-abbrev pub turn_of : Device → Exchange → (from have why records bytes : ℕ) → Turn
+abbrev pub turn_of : Device → Exchange → (from have : ℕ) (why : Why) (records bytes : ℕ) → Turn
 turn_of d x from have why records bytes = record {
   device = d;
   exchange = x;
@@ -42,24 +44,28 @@ turn_of d x from have why records bytes = record {
 
 -- at the start: the fresh device, no exchange open, nothing read
 abbrev pub first_turn : Turn
-first_turn = turn_of fresh_device closed_exchange 0 0 0 0 0
+first_turn = turn_of fresh_device closed_exchange 0 0 cause.More 0 0
 
 -- the same device and exchange, with other bytes in the buffer
-abbrev pub with_input : Turn → (from have why bytes : ℕ) → Turn
+abbrev pub with_input : Turn → (from have : ℕ) (why : Why) (bytes : ℕ) → Turn
 with_input t from have why bytes = turn_of t.device t.exchange from have why t.records bytes
 
 -- what is not done stands at the front of the buffer
 abbrev pub kept_turn : Turn → Turn
-kept_turn t = with_input t 0 (t.have - t.from) 0 ((t.bytes + t.from) % 2 ^ 64)
+kept_turn t = with_input t 0 (t.have - t.from) cause.More ((t.bytes + t.from) % 2 ^ 64)
 
--- n bytes more stand in the buffer: none at the end of the input, which is 3, and where the read failed, which is 4
+-- why a turn goes on or ends after a read of n bytes: none are read at the end of the input, and where the read failed
+abbrev pub after_read : ℕ → Bool → Why
+after_read n failed = cond failed cause.Failed (cond (n == 0) cause.Ended cause.More)
+
+-- n bytes more stand in the buffer
 abbrev pub read_turn : Turn → ℕ → Bool → Turn
-read_turn t n failed = with_input t t.from (t.have + n) (cond failed 4 (cond (n == 0) 3 0)) t.bytes
+read_turn t n failed = with_input t t.from (t.have + n) (after_read n failed) t.bytes
 
 -- more input is wanted only where no whole record is left
 pub record Waits (t : Turn) (input : List ℕ) : Type 0 where
   pub inside : Inside t.from t.have
-  pub wants : t.why ≡ 0 → head_of (left t input) ≡ head.More
+  pub wants : t.why ≡ cause.More → head_of (left t input) ≡ head.More
 
 -- what is not done is moved to the front of the buffer
 pub record Keeps (t : Turn) (input : List ℕ) (t' : Turn) (input' : List ℕ) : Type 0 where
@@ -75,7 +81,7 @@ pub record Fed (t : Turn) (input : List ℕ) (t' : Turn) (input' : List ℕ) : T
   pub more : List ℕ
   pub rest : left t' input' ≡ left t input ++ more
   pub counted : read_of t' ≡ (read_of t + length more) % 2 ^ 64
-  pub ended : t'.why ≡ 3 → t.why < 2 → (t.why ≡ 0) × (more ≡ [])
+  pub ended : t'.why ≡ cause.Ended → goes_on t.why ≡ true → (t.why ≡ cause.More) × (more ≡ [])
 
 -- the records of what is not done are performed; the bytes stay where they are
 pub record Turned (before after : Areas) (t : Turn) (input : List ℕ) (t' : Turn) (out : List ℕ) : Type 0 where
@@ -97,7 +103,7 @@ pub record AtEnd (t : Turn) (put : ℕ) (out : List ℕ) : Type 0 where
 -- where the input has ended no whole record is left
 pub record Stops (t : Turn) (input : List ℕ) : Type 0 where
   pub inside : Inside t.from t.have
-  pub wants : t.why ≡ 3 → head_of (left t input) ≡ head.More
+  pub wants : t.why ≡ cause.Ended → head_of (left t input) ≡ head.More
 
 -- ---- from turn to turn
 
@@ -111,7 +117,7 @@ pub record Streamed (s : State) (a : Areas) (rest : List ℕ) (bytes : ℕ) (lin
 -- what holds between two turns, of the lines that the turns put
 pub record Between (s : State) (a : Areas) (t : Turn) (input lines : List ℕ) : Type 0 where
   pub waits : Waits t input
-  pub goes_on : t.why < 2
+  pub goes_on : goes_on t.why ≡ true
   pub streamed : Streamed s a (left t input) (read_of t) lines
 
 -- what the program's loop keeps to: no contract can name the lines that were written

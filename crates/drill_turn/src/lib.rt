@@ -1,25 +1,16 @@
 // The drill's log, read in pieces: what a turn keeps of its input, what it hands on, and the line at the end of the input.
 #![tactic(auto)]
 
-ghost use Rattle.std.specs.Prelude.{◌≡◌, ◌+◌, ◌%◌, ◌^◌, ◌≤◌, length, if◌then◌else◌, nat_eq};
+ghost use Rattle.std.specs.Prelude.{◌≡◌, ◌+◌, ◌%◌, ◌^◌, ◌≤◌, length};
 ghost use Rattle.octets.specs.Bytes.{part};
-ghost use Rattle.drill_run.specs.Drill.{drill_areas};
-ghost use Rattle.drill_turn.specs.Stream.{Inside, first_turn, with_input, read_turn, Keeps, Turned, AtEnd};
+ghost use Rattle.drill_calls.specs.Asking.{tables_areas};
+ghost use Rattle.drill_turn.specs.Stream.{Inside, first_turn, with_input, after_read, read_turn, Keeps, Turned, AtEnd};
 
 use courier_core::Refusal;
+use drill_calls::Tables;
 use drill_lines::Last;
+use drill_log::Why;
 use rows::{Device, Exchange};
-
-// Why a turn ended. The first three are those of `drill_log::run_some`.
-pub const MORE: u8 = 0; // more input is wanted
-
-pub const FULL: u8 = 1; // the lines of one more record have no room
-
-pub const REFUSED: u8 = 2; // number 13
-
-pub const ENDED: u8 = 3; // the input has ended
-
-pub const FAILED: u8 = 4; // the input could not be read
 
 // What one turn hands on to the next: input[from..have] is not done, and out[..put] are its lines. So many bytes of the log stand before
 // input[0], and so many records before input[from], both modulo 2^64. The count of records is told on standard error; no contract says that `advance` counts the records performed.
@@ -30,7 +21,7 @@ pub struct Turn {
     pub from: usize,
     pub have: usize,
     pub put: usize,
-    pub why: u8,
+    pub why: Why,
     pub records: u64,
     pub bytes: u64,
 }
@@ -38,22 +29,20 @@ pub struct Turn {
 pub fn further(total: u64, more: usize) -> u64
     ensures { result ≡ (total + more) % 2 ^ 64 }
 {
-    std::num::wrapping_add_u64(total, more as u64)
+    total.wrapping_add(more as u64)
 }
 
 // Before anything is read.
 pub fn start() -> Turn
     ensures { result ≡ first_turn }
 {
-    let device = Device::fresh();
-    let exchange = Exchange::closed();
     Turn {
-        device,
-        exchange,
+        device: Device::fresh(),
+        exchange: Exchange::closed(),
         from: 0,
         have: 0,
         put: 0,
-        why: MORE,
+        why: Why::More,
         records: 0,
         bytes: 0,
     }
@@ -72,20 +61,16 @@ fn to_front(input: &mut [u8], from: usize, n: usize)
 }
 
 // The same device and exchange, with other bytes in the buffer.
-fn with_input(turn: Turn, from: usize, have: usize, why: u8, bytes: u64) -> Turn
+fn with_input(turn: Turn, from: usize, have: usize, why: Why, bytes: u64) -> Turn
     ensures { result ≡ with_input turn from have why bytes }
 {
-    let device = turn.device;
-    let exchange = turn.exchange;
     Turn {
-        device,
-        exchange,
         from,
         have,
         put: 0,
         why,
-        records: turn.records,
         bytes,
+        ..turn
     }
 }
 
@@ -97,17 +82,17 @@ pub fn keep(turn: Turn, input: &mut [u8; 65536]) -> Turn
     let kept = turn.have - turn.from;
     to_front(input, turn.from, kept);
     let bytes = further(turn.bytes, turn.from);
-    with_input(turn, 0, kept, MORE, bytes)
+    with_input(turn, 0, kept, Why::More, bytes)
 }
 
 // Why a turn goes on or ends after a read of so many bytes.
-fn after_read(got: usize, failed: bool) -> u8
-    ensures { result ≡ (if failed then 4 else (if nat_eq got 0 then 3 else 0)) }
+fn after_read(got: usize, failed: bool) -> Why
+    ensures { result ≡ after_read got failed }
 {
     if failed {
-        return FAILED;
+        return Why::Failed;
     }
-    if got == 0 { ENDED } else { MORE }
+    if got == 0 { Why::Ended } else { Why::More }
 }
 
 // After a read of got bytes behind those that are kept.
@@ -122,45 +107,32 @@ pub fn grow(turn: Turn, got: usize, failed: bool) -> Turn
 // ---- the records
 
 // Performs the records that are there, on the turn's own device and exchange, and hands on those that come back.
-pub fn advance(
-    turn: Turn,
-    input: &[u8; 65536],
-    contacts: &mut [u8; 2304],
-    own: &mut [u8; 13824],
-    carried: &mut [u8; 14592],
-    tombstones: &mut [u8; 45056],
-    own_cells: &[u8; 33024],
-    cells: &mut [u8; 33024],
-    prefixes: &mut [u8; 4096],
-    offers: &mut [u8; 8704],
-    replies: &mut [u8; 61440],
-    actions: &mut [u8; 19968],
-    blob: &mut [u8; 2110],
-    out: &mut [u8; 655360],
-) -> Turn
+pub fn advance(turn: Turn, input: &[u8; 65536], tables: &mut Tables, out: &mut [u8; 655360]) -> Turn
     requires { Inside turn.from turn.have }
     ensures { Turned
-        (drill_areas turn.device turn.exchange contacts.old own.old carried.old tombstones.old own_cells.now cells.old prefixes.old offers.old)
-        (drill_areas result.device result.exchange contacts.new own.new carried.new tombstones.new own_cells.now cells.new prefixes.new offers.new)
+        (tables_areas turn.device turn.exchange tables.old)
+        (tables_areas result.device result.exchange tables.new)
         turn input.now result out.new }
 {
-    let device = turn.device;
-    let exchange = turn.exchange;
+    let mut device = turn.device;
+    let mut exchange = turn.exchange;
     let p = drill_log::run_some(
-        input, turn.from, turn.have, device, exchange, contacts, own, carried, tombstones,
-        own_cells, cells, prefixes, offers, replies, actions, blob, out,
+        input,
+        turn.from,
+        turn.have,
+        &mut device,
+        &mut exchange,
+        tables,
+        out,
     );
-    let device = p.device;
-    let exchange = p.exchange;
     Turn {
         device,
         exchange,
         from: p.used,
-        have: turn.have,
         put: p.put,
         why: p.why,
         records: further(turn.records, p.count),
-        bytes: turn.bytes,
+        ..turn
     }
 }
 

@@ -1,9 +1,10 @@
 -- What becomes of an envelope, what holding it leaves, and what the call answers, by the model's definitions.
 -- Assumes nothing.
-use Rattle.std.specs.Prelude.{◌≡◌, ℕ, ◌+◌, ◌*◌, ◌<◌, ◌≤◌, min, cond, List, [], ◌∷◌, ◌++◌, length, ◌==◌}
+use Rattle.std.specs.Prelude.{◌≡◌, ℕ, ◌+◌, ◌*◌, ◌<◌, ◌≤◌, min, cond, List, [], ◌∷◌, ◌++◌, length, ◌==◌, Result, Ok, Err}
 use Rattle.octets.specs.Bytes.{splice}
 use Rattle.courier_core.specs.Core.{first_of, refusal_number}
 use Rattle.courier_core.specs.declared.ContactId.{ContactId}
+use Rattle.courier_core.specs.declared.Refusal.{Refusal}
 use Rattle.courier_core.specs.declared.Refusal.TheVariants as refusal
 use Rattle.courier.specs.declared.Header.{Header}
 use Rattle.courier.specs.declared.Custody.{Custody}
@@ -16,7 +17,7 @@ use Rattle.rows.specs.Rows.{carried_codec}
 use Rattle.model.specs.Basics.{match_found}
 use Rattle.model.specs.State.{State}
 use Rattle.model.specs.Calls as calls
-use Rattle.model.specs.Calls.{Result}
+use Rattle.model.specs.Calls.{Result as Outcome}
 use Rattle.model.specs.Contacts.{lifetime_end}
 use Rattle.model.specs.Window.{window_rows, lookup}
 use Rattle.model.specs.Cells.{cell_size, cells_used, new_cell}
@@ -31,32 +32,23 @@ use Rattle.envelope.specs.declared.Answer.TheVariants as answer
 -- ---- what becomes of an envelope
 
 -- the model's tests, then the window, then the code: an accepted one gets a cell
-unfoldable pub envelope_choice : State → ℕ → ℕ → List ℕ → ContactId → Header → ℕ → Choice
+unfoldable pub envelope_choice : State → ℕ → ℕ → List ℕ → ContactId → Header → ℕ → Result Choice Refusal
 envelope_choice s replies actions window peer head len =
     let code : Custody = custody_of s peer head len in
-    first_of (envelope_tests s replies actions window peer head len) choice.Refused
-    (match_found (lookup (window_rows window) head.tag) choice.Ours (cond (is_accepted code) (choice.Take (carried_cell s)) (choice.Code code)))
+    first_of (envelope_tests s replies actions window peer head len) Err
+    (match_found (lookup (window_rows window) head.tag) (λ i. Ok (choice.Ours i)) (cond (is_accepted code) (Ok (choice.Take (carried_cell s))) (Ok (choice.Code code))))
 
 -- numbers 4 and 6 of an accepted envelope, in a cell area of so many bytes whose rows name these cells, or the cell that it gets
-unfoldable pub placed : ℕ → List ℕ → ℕ → Choice
+unfoldable pub placed : ℕ → List ℕ → ℕ → Result Choice Refusal
 placed size named next =
-    first_of ((cells_used size named, refusal.NoCell) ∷ ((next == 18446744073709551615), refusal.NoSlot) ∷ []) choice.Refused
-    (choice.Take (new_cell size named))
+    first_of ((cells_used size named, refusal.NoCell) ∷ ((next == 18446744073709551615), refusal.NoSlot) ∷ []) Err
+    (Ok (choice.Take (new_cell size named)))
 
 -- what the code says of an envelope that is not in the window
-unfoldable pub custody_choice : State → ContactId → Header → ℕ → Choice
+unfoldable pub custody_choice : State → ContactId → Header → ℕ → Result Choice Refusal
 custody_choice s peer head len =
     let code : Custody = custody_of s peer head len in
-    cond (is_accepted code) (placed (length s.carried_cells) (carried_named s) s.next_slot) (choice.Code code)
-
--- areas whose parts are those that the call is lent, the cell area having so many bytes
-pub record Lends (a : Areas) (d : Device) (ps os rs ts : List ℕ) (n : ℕ) : Type 0 where
-  pub device : a.device ≡ d
-  pub contacts : a.contacts ≡ ps
-  pub own : a.own ≡ os
-  pub carried : a.carried ≡ rs
-  pub tombstones : a.tombstones ≡ ts
-  pub size : n ≡ length a.carried_cells
+    cond (is_accepted code) (placed (length s.carried_cells) (carried_named s) s.next_slot) (Ok (choice.Code code))
 
 -- ---- what holding it leaves
 
@@ -75,16 +67,7 @@ new_row d depositor head len cell = record {
 
 -- one carried row more: so many are held now, and the next slot is taken
 unfoldable pub device_after : Device → ℕ → Device
-device_after d n = record {
-  courier = d.courier;
-  now_s = d.now_s;
-  contacts = d.contacts;
-  own = d.own;
-  carried = n;
-  tombstones = d.tombstones;
-  bad_tags = d.bad_tags;
-  next_slot = d.next_slot + 1;
-}
+device_after d n = record d { carried = n; next_slot = d.next_slot + 1 }
 
 -- there is a row, a slot and a cell for a ciphertext of len bytes
 pub record Room (d : Device) (len cell carried cells : ℕ) : Type 0 where
@@ -106,24 +89,24 @@ abbrev pub ours_of : Reachable → Answer
 ours_of r = answer.Ours r.contact r.generation r.idx
 
 -- the answer: a refusal, what is ours, or how many replies and actions are listed
-abbrev pub says_of : calls.Answer → ℕ → ℕ → Answer
-says_of (calls.refused why) replies actions = answer.Refused why
-says_of calls.malformed replies actions = answer.Done replies actions
-says_of calls.done replies actions = answer.Done replies actions
-says_of (calls.ours contact generation idx) replies actions = answer.Ours contact generation idx
-says_of (calls.found cells position len) replies actions = answer.Done replies actions
-says_of calls.missing replies actions = answer.Done replies actions
-says_of (calls.own_row row) replies actions = answer.Done replies actions
-says_of calls.no_envelope replies actions = answer.Done replies actions
-says_of (calls.wrote count) replies actions = answer.Done replies actions
+abbrev pub says_of : calls.Answer → ℕ → ℕ → Result Answer Refusal
+says_of (calls.refused why) replies actions = Err why
+says_of calls.malformed replies actions = Ok (answer.Done replies actions)
+says_of calls.done replies actions = Ok (answer.Done replies actions)
+says_of (calls.ours contact generation idx) replies actions = Ok (answer.Ours contact generation idx)
+says_of (calls.found cells position len) replies actions = Ok (answer.Done replies actions)
+says_of calls.missing replies actions = Ok (answer.Done replies actions)
+says_of (calls.own_row row) replies actions = Ok (answer.Done replies actions)
+says_of calls.no_envelope replies actions = Ok (answer.Done replies actions)
+says_of (calls.wrote count) replies actions = Ok (answer.Done replies actions)
 
 -- the number by which a call is refused, or 0
-abbrev pub answer_number : Answer → ℕ
-answer_number (answer.Refused why) = refusal_number why
-answer_number (answer.Ours contact generation idx) = 0
-answer_number (answer.Done replies actions) = 0
+abbrev pub answer_number : Result Answer Refusal → ℕ
+answer_number (Err why) = refusal_number why
+answer_number (Ok (answer.Ours contact generation idx)) = 0
+answer_number (Ok (answer.Done replies actions)) = 0
 
-unfoldable pub envelope_says : Result → Answer
+unfoldable pub envelope_says : Outcome → Result Answer Refusal
 envelope_says o = says_of o.answer (length o.replies) (length o.actions)
 
 -- what the call is lent, set into areas that are anything otherwise

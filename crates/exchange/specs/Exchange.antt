@@ -1,22 +1,20 @@
 -- What stands behind the lent exchange once a call has returned: its flag, its peer and its two counts.
 -- Assumes nothing.
-use Rattle.std.specs.Prelude.{◌≡◌, ℕ, ◌+◌, ◌-◌, Bool, true, false, cond, List, [], length, ◌==◌}
+use Rattle.std.specs.Prelude.{◌≡◌, ℕ, ◌+◌, ◌-◌, Bool, true, false, cond, List, [], length, ◌==◌, Option, Some}
 use Rattle.courier_core.specs.declared.ContactId.{ContactId}
 use Rattle.table.specs.Lists.{position}
 use Rattle.rows.specs.declared.Device.{Device}
 use Rattle.rows.specs.declared.Exchange.{Exchange}
-use Rattle.rows.specs.declared.Peer.{Peer}
-use Rattle.rows.specs.declared.Peer.TheVariants as whom
 use Rattle.model.specs.Basics.{match_found}
 use Rattle.model.specs.State.{State}
-use Rattle.model.specs.Calls.{Call, Answer, Result, refused, malformed, done, ours, found, missing, own_row, no_envelope, wrote}
+use Rattle.model.specs.Calls.{Call, Answer, Result as Outcome, refused, malformed, done, ours, found, missing, own_row, no_envelope, wrote}
 use Rattle.model.specs.Exchange.{offers, insert_offers, offer_of_tag}
 use Rattle.model.specs.Step.{step}
 use Rattle.model.specs.Areas.{Areas, AnswerAreas, view}
 use Rattle.model.specs.Lent.{Does, device_in, contacts_in, exchange_in}
 
 -- an exchange by its parts
-abbrev pub exchange_of : Peer → (complete : Bool) (listed offered : ℕ) → Exchange
+abbrev pub exchange_of : Option ContactId → (complete : Bool) (listed offered : ℕ) → Exchange
 exchange_of peer complete listed offered = record { peer = peer; complete = complete; listed = listed; offered = offered }
 
 -- ---- what each call leaves that is done, where e stood and the model's state was s
@@ -36,7 +34,7 @@ code_leaves tag e s =
 
 -- `fresh_exchange`: opened for the peer, nothing listed or offered in it
 unfoldable pub fresh_leaves : ContactId → State → Exchange
-fresh_leaves peer s = exchange_of (whom.Is peer) false 0 0
+fresh_leaves peer s = exchange_of (Some peer) false 0 0
 
 -- ---- what a call's contract says
 
@@ -54,7 +52,7 @@ if_done left stood (wrote count) = stood
 
 -- The call does what its by-value form does, with the exchange behind the reference among the areas before and after; and x, which stands there after it, is
 -- what a call that is done leaves, or the exchange that stood there.
-pub record Lends {A : Type 0} (says : Result → A) (call : Call) (r : A) (before after : Areas → Areas) (lent back : AnswerAreas) (left : State → Exchange) (stood x : Exchange) : Type 0 where
+pub record Lends {A : Type 0} (says : Outcome → A) (call : Call) (r : A) (before after : Areas → Areas) (lent back : AnswerAreas) (left : State → Exchange) (stood x : Exchange) : Type 0 where
   pub does : Does says call r before after lent back
   pub leaves : (a : Areas) → x ≡ if_done (left (view (before a))) stood (step (view (before a)) call).answer
 

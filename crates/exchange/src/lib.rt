@@ -1,19 +1,19 @@
 // The calls of an exchange that is lent: its flag, its peer and its two counts stand behind a `&mut`, its prefixes and its offers lie in areas beside it.
 // Each call is a thin wrapper: it copies the exchange out, calls the form by value, and stores what that leaves. A call that is refused or malformed stores what stood there.
+// (As the C interface lends them, each area is a parameter.)
 #![tactic(auto)]
 
 ghost use Rattle.std.specs.Prelude.{length};
 ghost use Rattle.model.specs.Calls.{inventory_received, custody_answer, open_exchange};
 ghost use Rattle.model.specs.Window.{prefix_rows};
-ghost use Rattle.model.specs.Lent.{Does, no_answers, actions_lent, replies_lent};
+ghost use Rattle.model.specs.Lent.{no_answers, actions_lent, replies_lent};
 ghost use Rattle.contacts.specs.Answers.{said_of};
 ghost use Rattle.inventory.specs.Inventory.{received_says, received_in};
 ghost use Rattle.handover.specs.Handing.{says, code_lent};
 ghost use Rattle.exchange.specs.Exchange.{inventory_leaves, code_leaves, fresh_leaves, Lends, fresh_in};
 
-use contacts::Opened;
 use courier::Custody;
-use courier_core::ContactId;
+use courier_core::{ContactId, Refusal};
 use rows::{Device, Exchange};
 
 // ---- inventory received
@@ -33,17 +33,16 @@ pub fn receive_inventory(
     prefixes: &mut [u8],
     offers: &mut [u8],
     replies: &mut [u8],
-) -> inventory::Said
+) -> Result<inventory::Said, Refusal>
     ensures { Lends received_says (inventory_received (length replies.old) window.now peer listed.now) result
         (received_in device contacts.now own.now carried.now tombstones.now bad_tags.now exchange.old prefixes.old offers.old)
         (received_in device contacts.now own.now carried.now tombstones.now bad_tags.now exchange.new prefixes.new offers.new)
         (replies_lent replies.old) (replies_lent replies.new)
         (inventory_leaves peer (prefix_rows listed.now) exchange.old) exchange.old exchange.new }
 {
-    let e = *exchange;
     let r = inventory::receive_inventory(
-        device, e, peer, contacts, own, carried, tombstones, bad_tags, window, listed, prefixes,
-        offers, replies,
+        device, *exchange, peer, contacts, own, carried, tombstones, bad_tags, window, listed,
+        prefixes, offers, replies,
     );
     *exchange = r.exchange;
     r.said
@@ -51,61 +50,10 @@ pub fn receive_inventory(
 
 // ---- custody code
 
-// What a custody code answers besides the exchange: the device, and a refusal or how many actions are listed.
-#[derive(Drop)]
-pub struct Handed {
-    pub device: Device,
-    pub said: handover::Said,
-}
-
-// The exchange after a custody code, and what the call answers besides.
-#[derive(Drop)]
-struct Settled {
-    exchange: Exchange,
-    handed: Handed,
-}
-
-// The form by value, with what it answers besides the exchange in one part.
-fn settle_code(
-    device: Device,
-    exchange: Exchange,
-    peer: ContactId,
-    tag: [u8; 16],
-    code: Custody,
-    contacts: &[u8; 2304],
-    own: &mut [u8; 13824],
-    carried: &mut [u8; 14592],
-    tombstones: &[u8],
-    prefixes: &[u8],
-    offers: &mut [u8],
-    actions: &mut [u8],
-) -> Settled
-    ensures { Does says (custody_answer (length actions.old) peer tag code) result.handed.said
-        (code_lent device exchange contacts.now own.old carried.old tombstones.now prefixes.now offers.old)
-        (code_lent result.handed.device result.exchange contacts.now own.new carried.new tombstones.now prefixes.now offers.new)
-        (actions_lent actions.old) (actions_lent actions.new) }
-{
-    let o = handover::handed_over(
-        device, exchange, peer, tag, code, contacts, own, carried, tombstones, prefixes, offers,
-        actions,
-    );
-    let after = o.device;
-    let left = o.exchange;
-    let said = o.said;
-    let handed = Handed {
-        device: after,
-        said,
-    };
-    Settled {
-        exchange: left,
-        handed,
-    }
-}
-
 // A custody code clears the offer with its tag, whatever the code; only Accepted takes the handed copies off.
 pub fn handed_over(
     exchange: &mut Exchange,
-    device: Device,
+    device: &mut Device,
     peer: ContactId,
     tag: [u8; 16],
     code: Custody,
@@ -116,54 +64,22 @@ pub fn handed_over(
     prefixes: &[u8],
     offers: &mut [u8],
     actions: &mut [u8],
-) -> Handed
-    ensures { Lends says (custody_answer (length actions.old) peer tag code) result.said
-        (code_lent device exchange.old contacts.now own.old carried.old tombstones.now prefixes.now offers.old)
-        (code_lent result.device exchange.new contacts.now own.new carried.new tombstones.now prefixes.now offers.new)
+) -> Result<usize, Refusal>
+    ensures { Lends says (custody_answer (length actions.old) peer tag code) result
+        (code_lent device.old exchange.old contacts.now own.old carried.old tombstones.now prefixes.now offers.old)
+        (code_lent device.new exchange.new contacts.now own.new carried.new tombstones.now prefixes.now offers.new)
         (actions_lent actions.old) (actions_lent actions.new)
         (code_leaves tag exchange.old) exchange.old exchange.new }
 {
-    let e = *exchange;
-    let r = settle_code(
-        device, e, peer, tag, code, contacts, own, carried, tombstones, prefixes, offers, actions,
+    let r = handover::handed_over(
+        device, *exchange, peer, tag, code, contacts, own, carried, tombstones, prefixes, offers,
+        actions,
     );
     *exchange = r.exchange;
-    r.handed
+    r.said
 }
 
 // ---- fresh exchange
-
-// The exchange after a fresh one was asked for, and what the call says.
-#[derive(Drop)]
-struct Fresh {
-    exchange: Exchange,
-    said: contacts::Said,
-}
-
-// The form by value: the fresh exchange, or the one that was there.
-fn open_for(
-    device: Device,
-    exchange: Exchange,
-    peer: ContactId,
-    contacts: &[u8; 2304],
-    prefixes: &[u8],
-    offers: &[u8],
-) -> Fresh
-    ensures { Does said_of (open_exchange peer) result.said
-        (fresh_in device contacts.now exchange prefixes.now offers.now)
-        (fresh_in device contacts.now result.exchange prefixes.now offers.now) no_answers no_answers }
-{
-    match contacts::fresh_exchange(device, peer, contacts, prefixes, offers) {
-        Opened::As(fresh) => Fresh {
-            exchange: fresh,
-            said: contacts::Said::Done,
-        },
-        Opened::Refused(why) => Fresh {
-            exchange,
-            said: contacts::Said::Refused(why),
-        },
-    }
-}
 
 // An exchange opened for a contact, nothing listed or offered in it, in the place of the one that was there.
 pub fn fresh_exchange(
@@ -173,14 +89,12 @@ pub fn fresh_exchange(
     contacts: &[u8; 2304],
     prefixes: &[u8],
     offers: &[u8],
-) -> contacts::Said
+) -> Result<(), Refusal>
     ensures { Lends said_of (open_exchange peer) result
         (fresh_in device contacts.now exchange.old prefixes.now offers.now)
         (fresh_in device contacts.now exchange.new prefixes.now offers.now) no_answers no_answers
         (fresh_leaves peer) exchange.old exchange.new }
 {
-    let e = *exchange;
-    let r = open_for(device, e, peer, contacts, prefixes, offers);
-    *exchange = r.exchange;
-    r.said
+    *exchange = contacts::fresh_exchange(device, peer, contacts, prefixes, offers)?;
+    Ok(())
 }

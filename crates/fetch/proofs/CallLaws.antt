@@ -1,11 +1,9 @@
 -- Laws of the call fetch: each way out as the model's step, and what it leaves.
 -- Assumes nothing.
-use Rattle.std.proofs.Common.{◌≡◌, ℕ, ◌+◌, ◌*◌, ◌<◌, ◌≤◌, true, false, not, List, length, get_or, take, sym, refl, ap, ◌∙◌, arith, le-ltb, lt-ltb}
-use mathlib.Core.Option.{Option, some}
+use Rattle.std.proofs.Common.{◌≡◌, ℕ, ◌+◌, ◌*◌, ◌<◌, ◌≤◌, true, false, not, List, [], length, get_or, sym, refl, ap, ◌∙◌, arith, le-ltb, lt-ltb, Option, Some, None}
 use Rattle.octets.specs.Bytes.{part, splice}
 use Rattle.courier_core.specs.declared.ContactId.{ContactId}
 use Rattle.courier_core.specs.declared.Refusal.TheVariants as refusal
-use Rattle.table.specs.declared.Found.TheVariants.{At, Nothing}
 use Rattle.table.specs.Lists.{position}
 use Rattle.table.specs.Rows.{held, join, written}
 use Rattle.table.specs.Codec.{table_of, with_table}
@@ -33,14 +31,14 @@ use Rattle.fetch.proofs.SearchLaws.{own_found, carried_found, none_found}
 -- ---- the row that is found is in the table
 
 module _ (count : ℕ) (a tag : List ℕ) {i : ℕ} where
-  module _ (peer : ContactId) (e : At i ≡ position (for_others peer tag) (table_of own_codec count a)) where
+  module _ (peer : ContactId) (e : Some i ≡ position (for_others peer tag) (table_of own_codec count a)) where
     own_inside : i < held (length a) 54 count
     own_inside = omega (arith, (position_first (for_others peer tag) (table_of own_codec count a) no_own i (sym e)).inside, length_table own_codec count a)
 
     pub own_row : i * 54 + 54 ≤ length a
     own_row = omega (arith, own_inside, held_inside (length a) 54 count)
 
-  module _ (e : At i ≡ position (carried_of_tag tag) (table_of carried_codec count a)) where
+  module _ (e : Some i ≡ position (carried_of_tag tag) (table_of carried_codec count a)) where
     carried_inside : i < held (length a) 57 count
     carried_inside =
         omega (arith, (position_first (carried_of_tag tag) (table_of carried_codec count a) no_carried i (sym e)).inside, length_table carried_codec count a)
@@ -60,12 +58,12 @@ module _ (d : Device) (peer : ContactId) (tag contacts own carried oc cc lent : 
   abbrev Says : ℕ → List ℕ → List ℕ → Type 0
   Says n bytes back = Written (fetch_says oc cc) (step (view B) C) (fetched_as n bytes) B B (replies_lent lent) (replies_lent back)
 
-  pub says_short : length lent < 61440 → Says 1 (take 0 oc) lent
+  pub says_short : length lent < 61440 → Says 1 [] lent
   unfolding step tests perform fetch_tests
   says_short h = refused_call refusal.ShortArea (refused_here _ _ _ (lt-ltb (length lent) 61440 h)) refl refl
 
   module _ (long : 61440 ≤ length lent) where
-    pub says_stranger : known (table_of contact_codec d.contacts contacts) peer ≡ false → Says 2 (take 0 oc) lent
+    pub says_stranger : known (table_of contact_codec d.contacts contacts) peer ≡ false → Says 2 [] lent
     unfolding step tests perform fetch_tests view
     says_stranger k = refused_call refusal.UnknownContact (not_here _ _ _ (le-ltb (length lent) 61440 long) (refused_here _ _ _ (ap not k))) refl refl
 
@@ -84,7 +82,7 @@ module _ (d : Device) (peer : ContactId) (tag contacts own carried oc cc lent : 
       unfolding receive_fetch view
       stepped e = performed ∙ ap (λ (x : Option Envelope). match_some x (fetched (view B)) (only missing)) e
 
-      pub says_nothing : Nothing ≡ position (for_others peer tag) To → Nothing ≡ position (carried_of_tag tag) Tc → Says 255 (take 0 oc) lent
+      pub says_nothing : None ≡ position (for_others peer tag) To → None ≡ position (carried_of_tag tag) Tc → Says 255 [] lent
       unfolding store store_device store_session
       says_nothing p q = quiet_call missing nothing (stepped (none_found To Tc peer tag p q)) refl refl
 
@@ -101,15 +99,15 @@ module _ (d : Device) (peer : ContactId) (tag contacts own carried oc cc lent : 
         answers = ap replies_lent (with_one reply_codec lent back _ (reply_for e) refl G.row);
       })
 
-      pub says_own : (i : ℕ) (r back : List ℕ) → At i ≡ position (for_others peer tag) To → Given (own_envelope_of (own_of (part own (i * 54) 54))) oc lent r back → Says 0 r back
+      pub says_own : (i : ℕ) (r back : List ℕ) → Some i ≡ position (for_others peer tag) To → Given (own_envelope_of (own_of (part own (i * 54) 54))) oc lent r back → Says 0 r back
       unfolding own_envelope_of
       says_own i r back e G =
           let row : get_or To i no_own ≡ own_of (part own (i * 54) 54) = get_d_table own_codec d.own own i no_own (own_inside d.own own tag peer e) in
-          given _ r back (stepped (own_found To Tc peer tag i e ∙ ap (λ (o : Own). some (own_envelope_of o)) row)) G
+          given _ r back (stepped (own_found To Tc peer tag i e ∙ ap (λ (o : Own). Some (own_envelope_of o)) row)) G
 
-      pub says_carried : (i : ℕ) (r back : List ℕ) → Nothing ≡ position (for_others peer tag) To → At i ≡ position (carried_of_tag tag) Tc
+      pub says_carried : (i : ℕ) (r back : List ℕ) → None ≡ position (for_others peer tag) To → Some i ≡ position (carried_of_tag tag) Tc
           → Given (carried_envelope_of (carried_of (part carried (i * 57) 57))) cc lent r back → Says 0 r back
       unfolding carried_envelope_of
       says_carried i r back n e G =
           let row : get_or Tc i no_carried ≡ carried_of (part carried (i * 57) 57) = get_d_table carried_codec d.carried carried i no_carried (carried_inside d.carried carried tag e) in
-          given _ r back (stepped (carried_found To Tc peer tag n i e ∙ ap (λ (o : Carried). some (carried_envelope_of o)) row)) G
+          given _ r back (stepped (carried_found To Tc peer tag n i e ∙ ap (λ (o : Carried). Some (carried_envelope_of o)) row)) G

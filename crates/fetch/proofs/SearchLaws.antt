@@ -1,9 +1,7 @@
 -- The model's search through the envelopes is the search through own rows, then through carried rows.
 -- Assumes nothing.
-use Rattle.std.proofs.Common.{◌≡◌, ℕ, true, List, [], ◌++◌, map, get_or, sym, ap, ◌∙◌, append-nil}
-use mathlib.Core.Option.{none, some}
+use Rattle.std.proofs.Common.{◌≡◌, ℕ, true, List, [], ◌++◌, map, get_or, sym, ap, ◌∙◌, append-nil, Some, None}
 use Rattle.courier_core.specs.declared.ContactId.{ContactId}
-use Rattle.table.specs.declared.Found.TheVariants.{At, Nothing}
 use Rattle.table.specs.Lists.{position, filter}
 use Rattle.rows.specs.declared.Own.{Own}
 use Rattle.rows.specs.declared.Carried.{Carried}
@@ -20,23 +18,23 @@ module _ (own : List Own) (carried : List Carried) (peer : ContactId) (tag : Lis
   whole : map carried_envelope_of (filter (λ (x : Carried). true) carried) ++ [] ≡ tail
   whole = append-nil (map carried_envelope_of (filter (λ (x : Carried). true) carried)) ∙ ap (map carried_envelope_of) (filter_all carried)
 
-  pub own_found : (i : ℕ) → At i ≡ position (for_others peer tag) own
-      → find (envelope_of_tag tag) (envelopes own carried peer) ≡ some (own_envelope_of (get_or own i no_own))
+  pub own_found : (i : ℕ) → Some i ≡ position (for_others peer tag) own
+      → find (envelope_of_tag tag) (envelopes own carried peer) ≡ Some (own_envelope_of (get_or own i no_own))
   unfolding envelopes own_envelope_of
   own_found i e = find_at own_envelope_of (envelope_of_tag tag) (not_for peer) tail no_own own i (sym e)
 
-  module _ (n : Nothing ≡ position (for_others peer tag) own) where
+  module _ (n : None ≡ position (for_others peer tag) own) where
     past : find (envelope_of_tag tag) (envelopes own carried peer) ≡ find (envelope_of_tag tag) tail
     unfolding envelopes own_envelope_of
     past = find_past own_envelope_of (envelope_of_tag tag) (not_for peer) tail own 0 (sym n)
 
-    pub carried_found : (i : ℕ) → At i ≡ position (carried_of_tag tag) carried
-        → find (envelope_of_tag tag) (envelopes own carried peer) ≡ some (carried_envelope_of (get_or carried i no_carried))
+    pub carried_found : (i : ℕ) → Some i ≡ position (carried_of_tag tag) carried
+        → find (envelope_of_tag tag) (envelopes own carried peer) ≡ Some (carried_envelope_of (get_or carried i no_carried))
     unfolding carried_envelope_of
     carried_found i e =
         past ∙ ap (find (envelope_of_tag tag)) (sym whole) ∙ find_at carried_envelope_of (envelope_of_tag tag) (λ (x : Carried). true) [] no_carried carried i (sym e)
 
-    pub none_found : Nothing ≡ position (carried_of_tag tag) carried → find (envelope_of_tag tag) (envelopes own carried peer) ≡ none
+    pub none_found : None ≡ position (carried_of_tag tag) carried → find (envelope_of_tag tag) (envelopes own carried peer) ≡ None
     unfolding carried_envelope_of find
     none_found e =
         past ∙ ap (find (envelope_of_tag tag)) (sym whole) ∙ find_past carried_envelope_of (envelope_of_tag tag) (λ (x : Carried). true) [] carried 0 (sym e)

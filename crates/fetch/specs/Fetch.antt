@@ -1,13 +1,15 @@
 -- What fetch looks for.
 -- Assumes nothing.
-use Rattle.std.specs.Prelude.{◌≡◌, ℕ, Bool, ◌&&◌, List, []}
+use Rattle.std.specs.Prelude.{◌≡◌, ℕ, Bool, ◌&&◌, List, [], Option, Some, None, Result, Ok, Err}
+use Rattle.std.specs.Borrow.{Bor}
 use Rattle.octets.specs.Bytes.{part, splice}
 use Rattle.courier_core.specs.Core.{refusal_number}
 use Rattle.courier_core.specs.declared.ContactId.{ContactId}
+use Rattle.courier_core.specs.declared.Refusal.{Refusal}
 use Rattle.rows.specs.declared.Own.{Own}
 use Rattle.rows.specs.declared.Device.{Device}
 use Rattle.rows.specs.Rows.{reply_bytes}
-use Rattle.model.specs.Calls.{Cells, of_own, of_carried, Answer, Result, refused, malformed, done, ours, found, missing, own_row, no_envelope, wrote}
+use Rattle.model.specs.Calls.{Cells, of_own, of_carried, Answer, Result as Outcome, refused, malformed, done, ours, found, missing, own_row, no_envelope, wrote}
 use Rattle.model.specs.Areas.{Areas}
 use Rattle.model.specs.Cells.{ciphertext}
 use Rattle.model.specs.Custody.{own_of_tag}
@@ -33,6 +35,12 @@ pub record Fetched : Type 0 where
 abbrev pub fetched_as : ℕ → List ℕ → Fetched
 fetched_as n b = record { number = n; bytes = b }
 
+-- the same of an answer: a refusal, or a part of a cell area, or none
+abbrev pub fetched_said : Result (Option (Bor (List ℕ))) Refusal → Fetched
+fetched_said (Err why) = fetched_as (refusal_number why) []
+fetched_said (Ok (Some ct)) = fetched_as 0 ct.now
+fetched_said (Ok None) = fetched_as 255 []
+
 abbrev pub cells_of : List ℕ → List ℕ → Cells → List ℕ
 cells_of own carried of_own = own
 cells_of own carried of_carried = carried
@@ -49,7 +57,7 @@ fetched_of own carried (own_row row) = fetched_as 255 []
 fetched_of own carried no_envelope = fetched_as 255 []
 fetched_of own carried (wrote count) = fetched_as 255 []
 
-abbrev pub fetch_says : List ℕ → List ℕ → Result → Fetched
+abbrev pub fetch_says : List ℕ → List ℕ → Outcome → Fetched
 fetch_says own carried o = fetched_of own carried o.answer
 
 -- what the call is lent, set into areas that are anything otherwise

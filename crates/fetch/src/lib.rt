@@ -1,7 +1,7 @@
 // Fetch: the envelope with a tag, and the part of the cell area that is its ciphertext.
 #![tactic(auto)]
 
-ghost use Rattle.std.specs.Prelude.{◌≡◌, ◌+◌, ◌≤◌, min, not, ◌&&◌, length, ◌==◌};
+ghost use Rattle.std.specs.Prelude.{◌≡◌, ◌+◌, ◌≤◌, not, ◌&&◌, length, ◌==◌};
 ghost use Rattle.octets.specs.Bytes.{part, num, same_bytes};
 ghost use Rattle.table.specs.Lists.{position};
 ghost use Rattle.table.specs.Codec.{table_of};
@@ -11,44 +11,30 @@ ghost use Rattle.model.specs.Cells.{ciphertext};
 ghost use Rattle.model.specs.Custody.{carried_of_tag};
 ghost use Rattle.model.specs.Exchange.{own_envelope_of, carried_envelope_of};
 ghost use Rattle.model.specs.Lent.{Does, replies_lent};
-ghost use Rattle.fetch.specs.Fetch.{for_others, Given, fetched_as, fetch_says, fetch_in};
+ghost use Rattle.fetch.specs.Fetch.{for_others, Given, fetched_said, fetch_says, fetch_in};
 
-use courier_core::ContactId;
-use octets::least;
+use courier_core::{ContactId, Refusal};
 use rows::Device;
-use table::Found;
 
 // ---- the envelope
 
-// Has the own row at a place the tag, and is it for another contact?
-fn is_for_others(own: &[u8], at: usize, id: u64, tag: [u8; 16]) -> bool
-    requires { at + 54 ≤ length own.now }
-    ensures { result ≡ (not (num (part own.now at 8) == id) && same_bytes (part own.now (at + 12) 16) tag) }
-{
-    if octets::get_u64(own, at) == id {
-        return false;
-    }
-    octets::same(own, at + 12, &tag, 0, 16)
-}
+// (A table is fixed memory of the host's, and its count is the device's and may be anything: the two stay beside each other.)
 
 // The first own row with the tag that is not for the peer.
-pub fn own_for_others(own: &[u8], count: usize, peer: ContactId, tag: [u8; 16]) -> Found
+pub fn own_for_others(own: &[u8], count: usize, peer: ContactId, tag: [u8; 16]) -> Option<usize>
     ensures { result ≡ position (for_others peer tag) (table_of own_codec count own.now) }
 {
-    let id = peer.0;
     let n = table::fit(own.len(), rows::OWN_WIDTH, count);
-    let mut i = 0;
-    while i < n {
-        if is_for_others(own, i * rows::OWN_WIDTH, id, tag) {
-            return Found::At(i);
-        }
-        i += 1;
-    }
-    Found::Nothing
+    table::position(
+        own,
+        rows::OWN_WIDTH,
+        n,
+        |row| octets::get_u64(row, 0) != peer.0 && octets::same(row, 12, &tag, 0, 16),
+    )
 }
 
 // The first carried row with the tag.
-pub fn carried_of_tag(carried: &[u8], count: usize, tag: [u8; 16]) -> Found
+pub fn carried_of_tag(carried: &[u8], count: usize, tag: [u8; 16]) -> Option<usize>
     ensures { result ≡ position (carried_of_tag tag) (table_of carried_codec count carried.now) }
 {
     let n = table::fit(carried.len(), rows::CARRIED_WIDTH, count);
@@ -61,12 +47,8 @@ pub fn carried_of_tag(carried: &[u8], count: usize, tag: [u8; 16]) -> Found
 pub fn cell_part(cells: &[u8], cell: u16, len: u16) -> &[u8]
     ensures { result.now ≡ ciphertext cells.now cell len }
 {
-    let at = cell as usize * 2064;
-    let end = least(cells.len(), 256 * 2064);
-    if end < at {
-        return &cells[..0];
-    }
-    let n = least(least(len as usize, 2064), end - at);
+    let at = (cell as usize * state::CELL).min(cells.len());
+    let n = custody::cell_length(cells.len(), cell, len);
     &cells[at..at + n]
 }
 
@@ -87,7 +69,7 @@ fn give_own<'c>(own: &[u8], at: usize, cells: &'c [u8], replies: &mut [u8]) -> &
     cell_part(cells, row.cell, row.len)
 }
 
-// The same, of a carried envelope.
+// The same, of a carried envelope. (Two functions: each is two calls, and a trait over the rows for them would be longer than both.)
 fn give_carried<'c>(carried: &[u8], at: usize, cells: &'c [u8], replies: &mut [u8]) -> &'c [u8]
     requires { (at + 57 ≤ length carried.now) × (40 ≤ length replies.old) }
     ensures { Given (carried_envelope_of (carried_of (part carried.now at 57))) cells.now replies.old result.now replies.new }
@@ -105,7 +87,7 @@ fn give_carried<'c>(carried: &[u8], at: usize, cells: &'c [u8], replies: &mut [u
 // ---- the call
 
 // Answers the part of a cell area that is the ciphertext of the first envelope with the tag: own rows that are not for the peer, then
-// carried rows. Its header goes to the reply area. The number is a refusal's, or 0 for an envelope and 255 for none.
+// carried rows; or that there is none. Its header goes to the reply area.
 pub fn fetch<'c>(
     device: Device,
     peer: ContactId,
@@ -116,36 +98,27 @@ pub fn fetch<'c>(
     own_cells: &'c [u8],
     carried_cells: &'c [u8],
     replies: &mut [u8],
-    answer: &mut u8,
-) -> &'c [u8]
+) -> Result<Option<&'c [u8]>, Refusal>
     ensures { Does (fetch_says own_cells.now carried_cells.now) (fetch_call (length replies.old) peer tag)
-        (fetched_as answer.new result.now)
+        (fetched_said result)
         (fetch_in device contacts.now own.now carried.now own_cells.now carried_cells.now)
         (fetch_in device contacts.now own.now carried.now own_cells.now carried_cells.now)
         (replies_lent replies.old) (replies_lent replies.new) }
 {
     if replies.len() < 61440 {
-        *answer = 1;
-        return &own_cells[..0];
+        return Err(Refusal::ShortArea);
     }
     if !contacts::known(contacts, device.contacts, peer) {
-        *answer = 2;
-        return &own_cells[..0];
+        return Err(Refusal::UnknownContact);
     }
     match own_for_others(own, device.own, peer, tag) {
-        Found::At(i) => {
-            *answer = 0;
-            give_own(own, i * rows::OWN_WIDTH, own_cells, replies)
-        }
-        Found::Nothing => match carried_of_tag(carried, device.carried, tag) {
-            Found::At(i) => {
-                *answer = 0;
-                give_carried(carried, i * rows::CARRIED_WIDTH, carried_cells, replies)
+        Some(i) => Ok(Some(give_own(own, i * rows::OWN_WIDTH, own_cells, replies))),
+        None => match carried_of_tag(carried, device.carried, tag) {
+            Some(i) => {
+                let at = i * rows::CARRIED_WIDTH;
+                Ok(Some(give_carried(carried, at, carried_cells, replies)))
             }
-            Found::Nothing => {
-                *answer = 255;
-                &own_cells[..0]
-            }
+            None => Ok(None),
         },
     }
 }

@@ -1,8 +1,7 @@
 -- The counts that a host gets are lengths: of replies and actions, those of the model's lists.
 -- Assumes nothing.
-use Rattle.std.proofs.Common.{◌≡◌, ℕ, zero, suc, Bool, true, false, cond, eqb, List, length, sym, refl}
+use Rattle.std.proofs.Common.{◌≡◌, ℕ, zero, suc, Bool, true, false, cond, eqb, List, length, sym, refl, Option, Some, None}
 use mathlib.Core.Bool.{false≢true}
-use mathlib.Core.Option.{Option, none, some}
 use lib.Dec.{eqb-suc-zero}
 use Rattle.courier_core.specs.Core.{refusal_number}
 use Rattle.courier_core.specs.declared.ContactId.{ContactId}
@@ -26,7 +25,7 @@ use Rattle.model.specs.Saved.{Slotted, held_rows, row_blob_of, save_held}
 use Rattle.model.specs.Screen.{show_page}
 use Rattle.model.specs.Step.{tests, perform, step}
 use Rattle.model.proofs.RefusalLaws.{of_step, by_test, by_place, by_found}
-use Rattle.contacts.specs.Answers.{said_of, opened_of}
+use Rattle.contacts.specs.Answers.{said_of}
 use Rattle.envelope.specs.Answers.{envelope_says}
 use Rattle.fetch.specs.Fetch.{fetch_says}
 use Rattle.own_envelope.specs.OwnEnvelope.{own_says}
@@ -41,7 +40,7 @@ use Rattle.screen.specs.Page.{page_says}
 use Rattle.load.specs.Load.{load_held_rows, load_step}
 use Rattle.load.proofs.ExactLaws.{of_load}
 use Rattle.load.specs.Laying.{says as load_says}
-use Rattle.host_answers.specs.HostAnswers.{answered, contact_answer, opened_answer, envelope_answer, fetch_answer, fetched_answer, own_answer, listed_answer, inventory_answer, code_answer, stored_answer, tomb_answer, maintained_answer, blob_answer, save_answer, page_answer, load_answer}
+use Rattle.host_answers.specs.HostAnswers.{answered, done_answer, envelope_answer, fetch_answer, fetched_answer, own_answer, wrote_answer, inventory_answer, acted_answer, tomb_answer, blob_answer}
 use Rattle.host_answers.specs.declared.Answer.{Answer}
 use Rattle.goosetable.specs.Hosts.{Counted, Length}
 use Rattle.goosetable.proofs.StayLaws.{is_other, numbered}
@@ -49,10 +48,10 @@ use Rattle.goosetable.proofs.StayLaws.{is_other, numbered}
 -- ---- what a host gets of a result
 
 abbrev host_contact : Result → Answer
-host_contact o = contact_answer (said_of o)
+host_contact o = done_answer (said_of o)
 
 abbrev host_exchange : Result → Answer
-host_exchange o = opened_answer (opened_of o)
+host_exchange o = done_answer (said_of o)
 
 abbrev host_envelope : Result → Answer
 host_envelope o = envelope_answer (envelope_says o)
@@ -61,34 +60,34 @@ abbrev host_inventory : Result → Answer
 host_inventory o = inventory_answer (received_says o)
 
 abbrev host_code : Result → Answer
-host_code o = code_answer (code_says o)
+host_code o = acted_answer (code_says o)
 
 abbrev host_tomb : Result → Answer
 host_tomb o = tomb_answer (length o.replies) (tomb_says o)
 
 abbrev host_stored : Result → Answer
-host_stored o = stored_answer (says_stored o)
+host_stored o = acted_answer (says_stored o)
 
 abbrev host_own : Result → Answer
-host_own o = own_answer (own_says o).0
+host_own o = own_answer (own_says o)
 
 abbrev host_maintained : Result → Answer
-host_maintained o = maintained_answer (maintained_of o)
+host_maintained o = acted_answer (maintained_of o)
 
 abbrev host_listed : Result → Answer
-host_listed o = listed_answer (inventory_says o)
+host_listed o = wrote_answer (inventory_says o)
 
 abbrev host_blob : Result → Answer
 host_blob o = blob_answer (blob_says o)
 
 abbrev host_load : Result → Answer
-host_load o = load_answer (load_says o)
+host_load o = done_answer (load_says o)
 
 abbrev host_save : Result → Answer
-host_save o = save_answer (save_says o)
+host_save o = wrote_answer (save_says o)
 
 abbrev host_page : Result → Answer
-host_page o = page_answer (page_says o)
+host_page o = wrote_answer (page_says o)
 
 -- ---- a call by its refusals and what it performs
 
@@ -242,8 +241,8 @@ module _ (own carried : List ℕ) where
 
   finding : (s : State) (f : Option Envelope) → Fetches (match_some f (fetched s) (only missing))
   unfolding fetched
-  finding s (some e) = refl
-  finding s none = refl
+  finding s (Some e) = refl
+  finding s None = refl
 
   pub fetch_counts : (replies : ℕ) (peer : ContactId) (tag : List ℕ) (s : State) → Fetches (step s (fetch replies peer tag))
   unfolding step perform receive_fetch

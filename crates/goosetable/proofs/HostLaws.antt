@@ -1,14 +1,13 @@
 -- From what a call does by value to what it does on small areas, whatever they are.
 -- Assumes nothing.
-use Rattle.std.proofs.Common.{◌≡◌, ℕ, zero, suc, ◌<◌, ◌≤◌, Bool, true, false, cond, eqb, List, sym, refl, ap, ◌∙◌, subst, ap₂, arith, ne_eqb}
-use mathlib.Core.Option.{none, some}
+use Rattle.std.proofs.Common.{◌≡◌, ℕ, zero, suc, ◌<◌, ◌≤◌, Bool, true, false, cond, eqb, List, sym, refl, ap, ◌∙◌, subst, ap₂, arith, ne_eqb, Some, None}
 use Rattle.wire.specs.Log.{enabled_of}
 use Rattle.model.specs.State.{State}
 use Rattle.model.specs.Calls.{Result}
 use Rattle.model.specs.Areas.{Areas, AnswerAreas, Written, view}
 use Rattle.rows.specs.declared.Device.{Device}
 use Rattle.rows.specs.declared.Exchange.{Exchange}
-use Rattle.boundary.specs.Boundary.{Kept, device_read, device_kept, device_of, exchange_of, HoldsDevice, HoldsExchange, exchange_area, exchange_kept, both_kept}
+use Rattle.boundary.specs.Boundary.{Kept, device_read, device_kept, device_of, exchange_of, HoldsDevice, HoldsExchange, exchange_kept, both_kept}
 use Rattle.host_answers.specs.declared.Answer.{Answer}
 use Rattle.goosetable.specs.Hosts.{Counted, Hosts}
 use Rattle.goosetable.proofs.StayLaws.{Tells, OnlyAnswers, Places, held_by, refused_all}
@@ -62,17 +61,13 @@ module _ {A B : Type 0} {host : B → Answer} (f : A → B) {says : Result → A
         (λ g i. (one.stays (sym one.holds ∙ ap (λ (s : Device × Exchange). s.0) g) i, put.stays (sym put.holds ∙ ap (λ (s : Device × Exchange). s.1) g) i)) r-is (λ i. (dev-is i, ex-is i))
         (λ i. (one.bytes i, put.bytes i)) (λ i. (one.holds i, put.holds i)) w
 
--- an exchange by another name
-pub held_as : {e x : List ℕ} {ex ey : Exchange} → ex ≡ ey → HoldsExchange e ex x → HoldsExchange e ey x
-held_as {e} same put = record { bytes = put.bytes ∙ ap (exchange_area e) same; holds = put.holds ∙ same; stays = λ g. put.stays (same ∙ g) }
-
 -- the byte for enabled
-pub enabled_wrong : (b : ℕ) → 1 < b → enabled_of b ≡ none
+pub enabled_wrong : (b : ℕ) → 1 < b → enabled_of b ≡ None
 unfolding enabled_of
 enabled_wrong b h =
-    ap₂ (λ (z o : Bool). cond z (some false) (cond o (some true) none)) (ne_eqb b 0 (λ e. omega (arith, e, h))) (ne_eqb b 1 (λ e. omega (arith, e, h)))
+    ap₂ (λ (z o : Bool). cond z (Some false) (cond o (Some true) None)) (ne_eqb b 0 (λ e. omega (arith, e, h))) (ne_eqb b 1 (λ e. omega (arith, e, h)))
 
-pub enabled_right : (b : ℕ) → b ≤ 1 → enabled_of b ≡ some (eqb b 1)
+pub enabled_right : (b : ℕ) → b ≤ 1 → enabled_of b ≡ Some (eqb b 1)
 unfolding enabled_of
 enabled_right zero h = refl
 enabled_right (suc zero) h = refl

@@ -9,7 +9,7 @@ use Rattle.courier_core.specs.declared.Refusal.{Refusal}
 use Rattle.rows.specs.declared.Device.{Device}
 use Rattle.rows.specs.declared.Exchange.{Exchange}
 use Rattle.chain.specs.Chain.{window, window_tests, window_says, window_area}
-use Rattle.chain.specs.declared.Windowed.TheVariants as windowed
+use Rattle.std.specs.Prelude.{Ok, Err}
 use Rattle.model.specs.State.{State}
 use Rattle.model.specs.Calls.{Result, tomb, inventory_received, malformed, only}
 use Rattle.model.specs.Window.{window_rows, prefix_rows}
@@ -22,7 +22,7 @@ use Rattle.inventory.specs.Inventory.{received_says}
 use Rattle.tombs.specs.Tombs.{says as tomb_says}
 use Rattle.boundary.specs.Boundary.{device_kept, exchange_kept}
 use Rattle.boundary.proofs.AreaLaws.{device_stays, exchange_stays}
-use Rattle.host_answers.specs.HostAnswers.{tomb_answer, inventory_answer, window_answer}
+use Rattle.host_answers.specs.HostAnswers.{tomb_answer, inventory_answer, wrote_answer}
 use Rattle.host_answers.specs.declared.Answer.{Answer}
 use Rattle.goosetable.specs.Hosts.{LeavesAll, HostsCall}
 use Rattle.goosetable.proofs.StayLaws.{is_other, numbered, Places, held_by, leaves_all}
@@ -83,11 +83,11 @@ inventory_leaves_lem replies area peer listed {r} {d} {e} {x} {before} {after} {
 
 -- ---- the window call
 
-tested : (ts : List (Bool × Refusal)) (n : ℕ) (answer rest : List ℕ) → 1 ≤ (window_answer (first_of ts windowed.Refused (windowed.Listed n))).said → first_of ts (λ why. answer) rest ≡ answer
+tested : (ts : List (Bool × Refusal)) (n : ℕ) (answer rest : List ℕ) → 1 ≤ (wrote_answer (first_of ts Err (Ok n))).said → first_of ts (λ why. answer) rest ≡ answer
 tested [] n answer rest h = absurd (omega (arith, h))
 tested ((true, why) ∷ ts) n answer rest h = refl
 tested ((false, why) ∷ ts) n answer rest h = tested ts n answer rest h
 
-pub window_leaves : (answer skipped chains : List ℕ) → 1 ≤ (window_answer (window_says answer skipped chains)).said → window_area answer skipped chains ≡ answer
+pub window_leaves : (answer skipped chains : List ℕ) → 1 ≤ (wrote_answer (window_says answer skipped chains)).said → window_area answer skipped chains ≡ answer
 unfolding window_says window_area
 window_leaves answer skipped chains h = tested (window_tests answer skipped chains) (length (window skipped chains)) answer _ h

@@ -1,57 +1,46 @@
 -- What each exported call says tells a refusal from everything else, by the number alone.
 -- Assumes nothing.
 use Rattle.std.proofs.Common.{ℕ, List, length, refl}
-use Rattle.model.specs.Areas.{no_session_areas, store_session}
-use Rattle.contacts.specs.Answers.{said_of, opened_of}
-use Rattle.contacts.specs.declared.Said.TheVariants as contact_said
-use Rattle.contacts.specs.declared.Opened.TheVariants as opening
+use Rattle.std.specs.Prelude.{Ok, Err}
+use Rattle.contacts.specs.Answers.{said_of}
 use Rattle.envelope.specs.Answers.{says_of, envelope_says}
 use Rattle.fetch.specs.Fetch.{fetched_of, fetch_says}
 use Rattle.own_envelope.specs.OwnEnvelope.{made_of, own_says}
 use Rattle.inventory.specs.Inventory.{listed_of, inventory_says, said_of as received_of, received_says}
 use Rattle.handover.specs.Handing.{says as code_says}
-use Rattle.handover.specs.declared.Said.TheVariants as code_said
 use Rattle.tombstones.specs.Tombstones.{says_stored}
-use Rattle.tombstones.specs.declared.Stored.TheVariants as storing
 use Rattle.tombs.specs.Tombs.{said_of as tomb_of, says as tomb_says}
 use Rattle.maintenance.specs.Expiry.{maintained_of}
-use Rattle.maintenance.specs.declared.Maintained.TheVariants as maintaining
 use Rattle.saved.specs.Blobs.{blob_of, blob_says}
 use Rattle.saved.specs.Saving.{save_says}
-use Rattle.saved.specs.declared.SaveAnswer.TheVariants as saving
 use Rattle.screen.specs.Page.{page_says}
-use Rattle.screen.specs.declared.PageAnswer.TheVariants as paging
 use Rattle.load.specs.Laying.{says as load_says}
-use Rattle.load.specs.declared.Said.TheVariants as load_said
-use Rattle.host_answers.specs.HostAnswers.{contact_answer, opened_answer, envelope_answer, fetched_answer, own_answer, own_answers, listed_answer, inventory_answer, code_answer, stored_answer, tomb_answer, maintained_answer, blob_answer, save_answer, page_answer, load_answer}
+use Rattle.host_answers.specs.HostAnswers.{done_answer, envelope_answer, fetched_answer, own_answer, own_answers, wrote_answer, inventory_answer, acted_answer, tomb_answer, blob_answer}
 use Rattle.goosetable.specs.Hosts.{alone, beside_row}
 use Rattle.goosetable.proofs.StayLaws.{Tells, by_answers, by_refusal}
 
 -- ---- a refusal, or one thing else
 
-pub contact_tells : Tells alone (λ o. contact_answer (said_of o))
-contact_tells o = by_refusal contact_answer contact_said.Refused contact_said.Done refl o.answer
+pub contact_tells : Tells alone (λ o. done_answer (said_of o))
+contact_tells o = by_refusal done_answer Err (Ok tt) refl o.answer
 
-pub opened_tells : Tells alone (λ o. opened_answer (opened_of o))
-opened_tells o = by_refusal opened_answer opening.Refused (opening.As (store_session no_session_areas o.change).exchange) refl o.answer
+pub code_tells : Tells alone (λ o. acted_answer (code_says o))
+code_tells o = by_refusal acted_answer Err (Ok (length o.actions)) refl o.answer
 
-pub code_tells : Tells alone (λ o. code_answer (code_says o))
-code_tells o = by_refusal code_answer code_said.Refused (code_said.Done (length o.actions)) refl o.answer
+pub stored_tells : Tells alone (λ o. acted_answer (says_stored o))
+stored_tells o = by_refusal acted_answer Err (Ok (length o.actions)) refl o.answer
 
-pub stored_tells : Tells alone (λ o. stored_answer (says_stored o))
-stored_tells o = by_refusal stored_answer storing.Refused (storing.Done (length o.actions)) refl o.answer
+pub maintained_tells : Tells alone (λ o. acted_answer (maintained_of o))
+maintained_tells o = by_refusal acted_answer Err (Ok (length o.actions)) refl o.answer
 
-pub maintained_tells : Tells alone (λ o. maintained_answer (maintained_of o))
-maintained_tells o = by_refusal maintained_answer maintaining.Refused (maintaining.Done (length o.actions)) refl o.answer
+pub save_tells : Tells alone (λ o. wrote_answer (save_says o))
+save_tells o = by_refusal wrote_answer Err (Ok (length o.bytes)) refl o.answer
 
-pub save_tells : Tells alone (λ o. save_answer (save_says o))
-save_tells o = by_refusal save_answer saving.Refused (saving.Wrote (length o.bytes)) refl o.answer
+pub page_tells : Tells alone (λ o. wrote_answer (page_says o))
+page_tells o = by_refusal wrote_answer Err (Ok (length o.bytes)) refl o.answer
 
-pub page_tells : Tells alone (λ o. page_answer (page_says o))
-page_tells o = by_refusal page_answer paging.Refused (paging.Wrote (length o.bytes)) refl o.answer
-
-pub load_tells : Tells alone (λ o. load_answer (load_says o))
-load_tells o = by_refusal load_answer load_said.Refused load_said.Done refl o.answer
+pub load_tells : Tells alone (λ o. done_answer (load_says o))
+load_tells o = by_refusal done_answer Err (Ok tt) refl o.answer
 
 -- ---- by the model's answers
 
@@ -65,10 +54,10 @@ fetch_tells own carried o =
     by_answers (λ a. fetched_answer (length o.replies) (fetched_of own carried a)) refl refl (λ c g i. refl) (λ c p l. refl) refl (λ r. refl) refl (λ n. refl) o.answer
 
 pub own_tells : (area : List ℕ) → Tells beside_row (λ o. own_answers area (own_says o))
-own_tells area o = by_answers (λ a. own_answer (made_of a).0) refl refl (λ c g i. refl) (λ c p l. refl) refl (λ r. refl) refl (λ n. refl) o.answer
+own_tells area o = by_answers (λ a. own_answer (made_of a)) refl refl (λ c g i. refl) (λ c p l. refl) refl (λ r. refl) refl (λ n. refl) o.answer
 
-pub listed_tells : Tells alone (λ o. listed_answer (inventory_says o))
-listed_tells o = by_answers (λ a. listed_answer (listed_of a)) refl refl (λ c g i. refl) (λ c p l. refl) refl (λ r. refl) refl (λ n. refl) o.answer
+pub listed_tells : Tells alone (λ o. wrote_answer (inventory_says o))
+listed_tells o = by_answers (λ a. wrote_answer (listed_of a)) refl refl (λ c g i. refl) (λ c p l. refl) refl (λ r. refl) refl (λ n. refl) o.answer
 
 pub inventory_tells : Tells alone (λ o. inventory_answer (received_says o))
 inventory_tells o = by_answers (λ a. inventory_answer (received_of o a)) refl refl (λ c g i. refl) (λ c p l. refl) refl (λ r. refl) refl (λ n. refl) o.answer

@@ -1,12 +1,8 @@
 -- What the contract of an exported call says.
 -- Assumes nothing.
-use Rattle.std.specs.Prelude.{◌≡◌, ℕ, ◌≤◌, List, length}
-use Rattle.std.proofs.Math.Option.{Option, none, some}
+use Rattle.std.specs.Prelude.{◌≡◌, ℕ, ◌≤◌, List, length, Option, Some, None}
 use Rattle.courier_core.specs.declared.ContactId.{ContactId}
 use Rattle.courier_core.specs.declared.Refusal.{Refusal}
-use Rattle.chain.specs.declared.Dir.{Dir}
-use Rattle.chain.specs.declared.DirRead.{DirRead}
-use Rattle.chain.specs.declared.DirRead.TheVariants as dirs
 use Rattle.courier.specs.declared.Header.{Header}
 use Rattle.model.specs.State.{State}
 use Rattle.model.specs.Calls
@@ -81,12 +77,8 @@ HostsOwn says call r d x before after = Hosts device_kept beside_row says (λ s.
 
 -- a byte that reads as x, and what is said of x; or one that reads as nothing, and what is said then
 pub data OnRead {A : Type 0} (o : Option A) (right : A → Type 0) (wrong : Type 0) : Type 0 where
-  reads : (x : A) → o ≡ some x → right x → OnRead o right wrong
-  unread : o ≡ none → wrong → OnRead o right wrong
-
-abbrev pub dir_read : DirRead → Option Dir
-dir_read (dirs.Is d) = some d
-dir_read dirs.Neither = none
+  reads : (x : A) → o ≡ Some x → right x → OnRead o right wrong
+  unread : o ≡ None → wrong → OnRead o right wrong
 
 -- a wrong byte: the number, and every area that is lent to be written as it was
 pub record Stays (number : ℕ) (r : Answer) (before after : List (List ℕ)) : Type 0 where

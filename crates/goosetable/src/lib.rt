@@ -7,11 +7,12 @@ ghost use Rattle.chain.specs.Chain.{dir_of, window_says, window_area};
 ghost use Rattle.courier.specs.Courier.{from_code};
 ghost use Rattle.courier.specs.Tags.{route_tag, delivered_secret, commitment_of};
 ghost use Rattle.state.specs.Held.{held_decode, held_read};
-ghost use Rattle.wire.specs.Log.{enabled_of, verification_of, code_read};
+ghost use Rattle.courier_core.specs.Core.{verification_from};
+ghost use Rattle.wire.specs.Log.{enabled_of};
 ghost use Rattle.boundary.specs.Boundary.{FreshArea, device_kept, device_read, exchange_kept, both_kept};
 ghost use Rattle.model.specs.Calls.{contact as contact_call, setting as setting_call, clock as clock_call, open_exchange, envelope as envelope_call, fetch as fetch_call, add_own, inventory_of_ours, inventory_received, custody_answer, stored_tombstone, tomb as tomb_call, opened as opened_call, failed as failed_call, maintenance as maintenance_call, row_blob, save as save_call, page as page_call};
 ghost use Rattle.model.specs.Lent.{no_answers, replies_lent, actions_lent, answers_lent, bytes_lent, device_in, contacts_in, exchange_in};
-ghost use Rattle.contacts.specs.Answers.{said_of, opened_of};
+ghost use Rattle.contacts.specs.Answers.{said_of};
 ghost use Rattle.envelope.specs.Answers.{envelope_says, envelope_in};
 ghost use Rattle.fetch.specs.Fetch.{fetch_says, fetch_in};
 ghost use Rattle.own_envelope.specs.OwnEnvelope.{own_says, lent_own};
@@ -26,22 +27,17 @@ ghost use Rattle.saved.specs.Saving.{save_says};
 ghost use Rattle.screen.specs.Page.{page_says, held_in as page_lent};
 ghost use Rattle.load.specs.Load.{load_step};
 ghost use Rattle.load.specs.Laying.{says as load_says, load_lent};
-ghost use Rattle.host_answers.specs.HostAnswers.{contact_answer, opened_answer, envelope_answer, fetched_answer, own_answers, listed_answer, inventory_answer, code_answer, stored_answer, tomb_answer, maintained_answer, blob_answer, save_answer, page_answer, load_answer, window_answer, row_of};
-ghost use Rattle.goosetable.specs.Hosts.{Hosts, HostsCall, HostsOwn, alone, OnRead, dir_read, Stays, Fills, contact_id, header_from};
+ghost use Rattle.host_answers.specs.HostAnswers.{done_answer, acted_answer, wrote_answer, envelope_answer, fetched_answer, own_answers, inventory_answer, tomb_answer, blob_answer, row_of};
+ghost use Rattle.goosetable.specs.Hosts.{Hosts, HostsCall, HostsOwn, alone, OnRead, Stays, Fills, contact_id, header_from};
 ghost use Rattle.goosetable.specs.Version.{version};
 
-use boundary::{
-    VerificationRead, device_of, exchange_of, fresh_device, put_device, put_exchange,
-    verification_of,
-};
-use chain::{Dir, DirRead};
-use courier::{Custody, CustodyRead, Header};
-use courier_core::ContactId;
+use boundary::{device_of, exchange_of, fresh_device, put_device, put_exchange};
+use chain::Dir;
+use courier::{Custody, Header};
+use courier_core::{ContactId, Verification};
 use host_answers::{
-    Answer, DONE, Row, answer_of, blob_answer, code_answer, contact_answer, envelope_answer,
-    exchange_after, fetch_answer, inventory_answer, listed_answer, load_answer, maintained_answer,
-    opened_answer, own_answer, own_row, page_answer, row_of, save_answer, stored_answer,
-    tomb_answer, window_answer,
+    Answer, DONE, Row, acted_answer, answer_of, blob_answer, done_answer, envelope_answer,
+    fetch_answer, inventory_answer, own_answer, own_row, row_of, tomb_answer, wrote_answer,
 };
 
 // 0.2.3 as a number: major * 10,000 + minor * 100 + patch.
@@ -59,13 +55,12 @@ pub extern "C" fn goosetable_fresh(device: &mut [u8; 60])
 
 #[unsafe(no_mangle)]
 pub extern "C" fn goosetable_clock(device: &mut [u8; 60], seconds: u64) -> Answer
-    ensures { HostsCall device_kept (λ o. contact_answer (said_of o)) (clock_call seconds) result device.old device.new device_in device_in no_answers no_answers }
+    ensures { HostsCall device_kept (λ o. done_answer (said_of o)) (clock_call seconds) result device.old device.new device_in device_in no_answers no_answers }
 {
-    let a = contacts::clock(device_of(device), seconds);
-    let after = a.device;
-    let said = a.said;
-    put_device(device, after);
-    contact_answer(said)
+    let mut d = device_of(device);
+    contacts::clock(&mut d, seconds);
+    put_device(device, d);
+    done_answer(Ok(()))
 }
 
 // Enabled other than 0 and 1 is refused with 13.
@@ -76,16 +71,15 @@ pub extern "C" fn goosetable_setting(
     copies: u8,
     lifetime: u16,
 ) -> Answer
-    ensures { OnRead (enabled_of enabled) (λ on. HostsCall device_kept (λ o. contact_answer (said_of o)) (setting_call on copies lifetime) result device.old device.new device_in device_in no_answers no_answers) (Stays 13 result (device.old ∷ []) (device.new ∷ [])) }
+    ensures { OnRead (enabled_of enabled) (λ on. HostsCall device_kept (λ o. done_answer (said_of o)) (setting_call on copies lifetime) result device.old device.new device_in device_in no_answers no_answers) (Stays 13 result (device.old ∷ []) (device.new ∷ [])) }
 {
     if 1 < enabled {
         return answer_of(13, 0, 0, 0);
     }
-    let a = contacts::setting(device_of(device), enabled == 1, copies, lifetime);
-    let after = a.device;
-    let said = a.said;
-    put_device(device, after);
-    contact_answer(said)
+    let mut d = device_of(device);
+    let said = contacts::setting(&mut d, enabled == 1, copies, lifetime);
+    put_device(device, d);
+    done_answer(said)
 }
 
 // A verification above 2 is refused with 13.
@@ -96,18 +90,17 @@ pub extern "C" fn goosetable_contact(
     verification: u8,
     contacts: &mut [u8; 2304],
 ) -> Answer
-    ensures { OnRead (verification_of verification) (λ v. HostsCall device_kept (λ o. contact_answer (said_of o)) (contact_call (contact_id id) v) result device.old device.new
+    ensures { OnRead (verification_from verification) (λ v. HostsCall device_kept (λ o. done_answer (said_of o)) (contact_call (contact_id id) v) result device.old device.new
         (λ d a. device_in d (contacts_in contacts.old a)) (λ d a. device_in d (contacts_in contacts.new a)) no_answers no_answers)
         (Stays 13 result (device.old ∷ contacts.old ∷ []) (device.new ∷ contacts.new ∷ [])) }
 {
-    let VerificationRead::Is(v) = verification_of(verification) else {
+    let Some(v) = Verification::from_byte(verification) else {
         return answer_of(13, 0, 0, 0);
     };
-    let a = contacts::contact(device_of(device), ContactId(id), v, contacts);
-    let after = a.device;
-    let said = a.said;
-    put_device(device, after);
-    contact_answer(said)
+    let mut d = device_of(device);
+    let said = contacts::contact(&mut d, ContactId(id), v, contacts);
+    put_device(device, d);
+    done_answer(said)
 }
 
 // The exchange stays as it is where the call is refused.
@@ -120,15 +113,15 @@ pub extern "C" fn goosetable_fresh_exchange(
     prefixes: &[u8],
     offers: &[u8],
 ) -> Answer
-    ensures { HostsCall exchange_kept (λ o. opened_answer (opened_of o)) (open_exchange (contact_id peer)) result (device.now, exchange.old) (device.now, exchange.new)
+    ensures { HostsCall exchange_kept (λ o. done_answer (said_of o)) (open_exchange (contact_id peer)) result (device.now, exchange.old) (device.now, exchange.new)
         (λ p a. device_in p.0 (contacts_in contacts.now (exchange_in p.1 prefixes.now offers.now a)))
         (λ p a. device_in p.0 (contacts_in contacts.now (exchange_in p.1 prefixes.now offers.now a))) no_answers no_answers }
 {
     let d = device_of(device);
-    let stood = exchange_of(exchange);
-    let opened = contacts::fresh_exchange(d, ContactId(peer), contacts, prefixes, offers);
-    put_exchange(exchange, exchange_after(stood, opened));
-    opened_answer(opened)
+    let mut e = exchange_of(exchange);
+    let said = exchange::fresh_exchange(&mut e, d, ContactId(peer), contacts, prefixes, offers);
+    put_exchange(exchange, e);
+    done_answer(said)
 }
 
 // ---- envelopes
@@ -158,16 +151,15 @@ pub extern "C" fn goosetable_envelope(
         (λ d. envelope_in d contacts.now own.now carried.new tombstones.now carried_cells.new)
         (answers_lent replies.old actions.old) (answers_lent replies.new actions.new) }
 {
-    let t = *tag;
-    let commitment = *c;
     let head = Header {
-        tag: t,
-        c: commitment,
+        tag: *tag,
+        c: *c,
         expiry_min: expiry,
         copies,
     };
-    let e = envelope::envelope(
-        device_of(device),
+    let mut d = device_of(device);
+    let said = envelope::envelope(
+        &mut d,
         ContactId(peer),
         head,
         ct,
@@ -180,10 +172,8 @@ pub extern "C" fn goosetable_envelope(
         replies,
         actions,
     );
-    let after = e.device;
-    let answer = e.answer;
-    put_device(device, after);
-    envelope_answer(answer)
+    put_device(device, d);
+    envelope_answer(said)
 }
 
 // The length is the ciphertext's; the reply names its cell.
@@ -204,8 +194,7 @@ pub extern "C" fn goosetable_fetch<'c>(
         (λ d. fetch_in d contacts.now own.now carried.now own_cells.now carried_cells.now)
         (replies_lent replies.old) (replies_lent replies.new) }
 {
-    let mut number = 0u8;
-    let ciphertext = fetch::fetch(
+    let fetched = fetch::fetch(
         device_of(device),
         ContactId(peer),
         *tag,
@@ -215,10 +204,8 @@ pub extern "C" fn goosetable_fetch<'c>(
         own_cells,
         carried_cells,
         replies,
-        &mut number,
     );
-    let length = ciphertext.len();
-    fetch_answer(number, 1, length)
+    fetch_answer(fetched, 1)
 }
 
 // A direction other than `I` and `R` is refused with 12. The row is written where there is one.
@@ -238,21 +225,22 @@ pub extern "C" fn goosetable_own_envelope(
     own_cells: &mut [u8],
     row: &mut [u8; 54],
 ) -> Answer
-    ensures { OnRead (dir_read (dir_of dir)) (λ way. HostsOwn (λ o. own_answers row.old (own_says o))
+    ensures { OnRead (dir_of dir) (λ way. HostsOwn (λ o. own_answers row.old (own_says o))
         (add_own (contact_id contact) msgno route_key.now way generation idx s.now ct.now) (result, row.new) device.old device.new
         (λ d. lent_own d contacts.now own.old own_cells.old)
         (λ d. lent_own d contacts.now own.new own_cells.new))
         (Stays 12 result (device.old ∷ own.old ∷ own_cells.old ∷ row.old ∷ []) (device.new ∷ own.new ∷ own_cells.new ∷ row.new ∷ [])) }
 {
-    let DirRead::Is(d) = Dir::from_label(dir) else {
+    let Some(way) = Dir::from_label(dir) else {
         return answer_of(12, 0, 0, 0);
     };
-    let o = own_envelope::own_envelope(
-        device_of(device),
+    let mut d = device_of(device);
+    let made = own_envelope::own_envelope(
+        &mut d,
         ContactId(contact),
         msgno,
         *route_key,
-        d,
+        way,
         generation,
         idx,
         *s,
@@ -261,11 +249,8 @@ pub extern "C" fn goosetable_own_envelope(
         own,
         own_cells,
     );
-    let after = o.device;
-    let made = o.made;
-    let made_row = o.row;
-    put_device(device, after);
-    *row = own_row(made, made_row, *row);
+    put_device(device, d);
+    *row = own_row(made, *row);
     own_answer(made)
 }
 
@@ -281,12 +266,12 @@ pub extern "C" fn goosetable_inventory_of_ours(
     carried: &[u8; 14592],
     prefixes: &mut [u8],
 ) -> Answer
-    ensures { HostsCall device_read (λ o. listed_answer (inventory_says o)) (inventory_of_ours (length prefixes.old) (contact_id peer)) result device.now device.now
+    ensures { HostsCall device_read (λ o. wrote_answer (inventory_says o)) (inventory_of_ours (length prefixes.old) (contact_id peer)) result device.now device.now
         (λ d. rows_lent d contacts.now own.now carried.now) (λ d. rows_lent d contacts.now own.now carried.now)
         (bytes_lent prefixes.old) (bytes_lent prefixes.new) }
 {
     let d = device_of(device);
-    listed_answer(inventory::inventory(d, ContactId(peer), contacts, own, carried, prefixes))
+    wrote_answer(inventory::inventory(d, ContactId(peer), contacts, own, carried, prefixes))
 }
 
 // A list of prefixes from a peer; of the empty one, which ends them, the length counts the rows for which the tombstones were searched.
@@ -311,9 +296,11 @@ pub extern "C" fn goosetable_inventory(
         (λ p. received_in p.0 contacts.now own.now carried.now tombstones.now bad_tags.now p.1 prefixes.new offers.new)
         (replies_lent replies.old) (replies_lent replies.new) }
 {
-    let r = inventory::receive_inventory(
-        device_of(device),
-        exchange_of(exchange),
+    let d = device_of(device);
+    let mut e = exchange_of(exchange);
+    let said = exchange::receive_inventory(
+        &mut e,
+        d,
         ContactId(peer),
         contacts,
         own,
@@ -326,9 +313,7 @@ pub extern "C" fn goosetable_inventory(
         offers,
         replies,
     );
-    let after = r.exchange;
-    let said = r.said;
-    put_exchange(exchange, after);
+    put_exchange(exchange, e);
     inventory_answer(said)
 }
 
@@ -348,7 +333,7 @@ pub extern "C" fn goosetable_custody_code(
     offers: &mut [u8],
     actions: &mut [u8],
 ) -> Answer
-    ensures { OnRead (code_read (from_code code)) (λ k. HostsCall both_kept (λ o. code_answer (code_says o)) (custody_answer (length actions.old) (contact_id peer) tag.now k) result
+    ensures { OnRead (from_code code) (λ k. HostsCall both_kept (λ o. acted_answer (code_says o)) (custody_answer (length actions.old) (contact_id peer) tag.now k) result
         (device.old, exchange.old) (device.new, exchange.new)
         (λ p. code_lent p.0 p.1 contacts.now own.old carried.old tombstones.now prefixes.now offers.old)
         (λ p. code_lent p.0 p.1 contacts.now own.new carried.new tombstones.now prefixes.now offers.new)
@@ -356,12 +341,14 @@ pub extern "C" fn goosetable_custody_code(
         (Stays 13 result (device.old ∷ exchange.old ∷ own.old ∷ carried.old ∷ offers.old ∷ actions.old ∷ [])
         (device.new ∷ exchange.new ∷ own.new ∷ carried.new ∷ offers.new ∷ actions.new ∷ [])) }
 {
-    let CustodyRead::Known(k) = Custody::from_code(code) else {
+    let Some(k) = Custody::from_code(code) else {
         return answer_of(13, 0, 0, 0);
     };
-    let o = handover::handed_over(
-        device_of(device),
-        exchange_of(exchange),
+    let mut d = device_of(device);
+    let mut e = exchange_of(exchange);
+    let said = exchange::handed_over(
+        &mut e,
+        &mut d,
         ContactId(peer),
         *tag,
         k,
@@ -373,12 +360,9 @@ pub extern "C" fn goosetable_custody_code(
         offers,
         actions,
     );
-    let after = o.device;
-    let left = o.exchange;
-    let said = o.said;
-    put_device(device, after);
-    put_exchange(exchange, left);
-    code_answer(said)
+    put_device(device, d);
+    put_exchange(exchange, e);
+    acted_answer(said)
 }
 
 // ---- tombstones
@@ -392,15 +376,13 @@ pub extern "C" fn goosetable_stored_tombstone(
     tombstones: &mut [u8],
     actions: &mut [u8],
 ) -> Answer
-    ensures { HostsCall device_kept (λ o. stored_answer (says_stored o)) (stored_tombstone (length actions.old) tag.now s.now expiry) result device.old device.new
+    ensures { HostsCall device_kept (λ o. acted_answer (says_stored o)) (stored_tombstone (length actions.old) tag.now s.now expiry) result device.old device.new
         (λ d. tombstones_lent d tombstones.old) (λ d. tombstones_lent d tombstones.new) (actions_lent actions.old) (actions_lent actions.new) }
 {
-    let d = device_of(device);
-    let o = tombstones::stored_tombstone(d, *tag, *s, expiry, tombstones, actions);
-    let after = o.device;
-    let answer = o.answer;
-    put_device(device, after);
-    stored_answer(answer)
+    let mut d = device_of(device);
+    let said = tombstones::stored_tombstone(&mut d, *tag, *s, expiry, tombstones, actions);
+    put_device(device, d);
+    acted_answer(said)
 }
 
 #[unsafe(no_mangle)]
@@ -420,8 +402,9 @@ pub extern "C" fn goosetable_tomb(
         (λ d. tomb_lent d contacts.now own.new carried.new tombstones.new)
         (actions_lent actions.old) (actions_lent actions.new) }
 {
-    let o = tombs::receive_tomb(
-        device_of(device),
+    let mut d = device_of(device);
+    let said = tombs::receive_tomb(
+        &mut d,
         ContactId(peer),
         *tag,
         *s,
@@ -431,9 +414,7 @@ pub extern "C" fn goosetable_tomb(
         tombstones,
         actions,
     );
-    let after = o.device;
-    let said = o.said;
-    put_device(device, after);
+    put_device(device, d);
     tomb_answer(said, 0)
 }
 
@@ -454,8 +435,9 @@ pub extern "C" fn goosetable_opened(
         (λ d. opened_lent d contacts.now tombstones.old) (λ d. opened_lent d contacts.now tombstones.new)
         (answers_lent replies.old actions.old) (answers_lent replies.new actions.new) }
 {
-    let o = reports::report_opened(
-        device_of(device),
+    let mut d = device_of(device);
+    let said = reports::report_opened(
+        &mut d,
         ContactId(peer),
         *tag,
         *s,
@@ -465,9 +447,7 @@ pub extern "C" fn goosetable_opened(
         replies,
         actions,
     );
-    let after = o.device;
-    let said = o.said;
-    put_device(device, after);
+    put_device(device, d);
     tomb_answer(said, 1)
 }
 
@@ -483,11 +463,9 @@ pub extern "C" fn goosetable_failed(
     ensures { HostsCall device_kept (λ o. tomb_answer (length o.replies) (tomb_says o)) (failed_call (contact_id peer) tag.now) result device.old device.new
         (λ d. failed_lent d contacts.now bad_tags.old) (λ d. failed_lent d contacts.now bad_tags.new) no_answers no_answers }
 {
-    let d = device_of(device);
-    let o = reports::report_failed(d, ContactId(peer), *tag, contacts, bad_tags);
-    let after = o.device;
-    let said = o.said;
-    put_device(device, after);
+    let mut d = device_of(device);
+    let said = reports::report_failed(&mut d, ContactId(peer), *tag, contacts, bad_tags);
+    put_device(device, d);
     tomb_answer(said, 0)
 }
 
@@ -501,16 +479,14 @@ pub extern "C" fn goosetable_maintenance(
     tombstones: &mut [u8],
     actions: &mut [u8],
 ) -> Answer
-    ensures { HostsCall device_kept (λ o. maintained_answer (maintained_of o)) (maintenance_call (length actions.old)) result device.old device.new
+    ensures { HostsCall device_kept (λ o. acted_answer (maintained_of o)) (maintenance_call (length actions.old)) result device.old device.new
         (λ d. lent_tables d own.old carried.old tombstones.old) (λ d. lent_tables d own.new carried.new tombstones.new)
         (actions_lent actions.old) (actions_lent actions.new) }
 {
-    let d = device_of(device);
-    let o = maintenance::maintain_couriers(d, own, carried, tombstones, actions);
-    let after = o.device;
-    let answer = o.answer;
-    put_device(device, after);
-    maintained_answer(answer)
+    let mut d = device_of(device);
+    let said = maintenance::maintain_couriers(&mut d, own, carried, tombstones, actions);
+    put_device(device, d);
+    acted_answer(said)
 }
 
 // ---- held rows as blobs, and the saved file
@@ -542,12 +518,12 @@ pub extern "C" fn goosetable_save(
     carried_cells: &[u8],
     file: &mut [u8],
 ) -> Answer
-    ensures { HostsCall device_read (λ o. save_answer (save_says o)) (save_call (length file.old)) result device.now device.now
+    ensures { HostsCall device_read (λ o. wrote_answer (save_says o)) (save_call (length file.old)) result device.now device.now
         (λ d. held_in d carried.now tombstones.now carried_cells.now) (λ d. held_in d carried.now tombstones.now carried_cells.now)
         (bytes_lent file.old) (bytes_lent file.new) }
 {
     let d = device_of(device);
-    save_answer(saved::save(d, carried, tombstones, carried_cells, file))
+    wrote_answer(saved::save(d, carried, tombstones, carried_cells, file))
 }
 
 // A page of the post's screen, counted from 0; the length counts bytes.
@@ -559,12 +535,12 @@ pub extern "C" fn goosetable_page(
     tombstones: &[u8],
     area: &mut [u8],
 ) -> Answer
-    ensures { HostsCall device_read (λ o. page_answer (page_says o)) (page_call (length area.old) page) result device.now device.now
+    ensures { HostsCall device_read (λ o. wrote_answer (page_says o)) (page_call (length area.old) page) result device.now device.now
         (λ d. page_lent d carried.now tombstones.now) (λ d. page_lent d carried.now tombstones.now)
         (bytes_lent area.old) (bytes_lent area.new) }
 {
     let d = device_of(device);
-    page_answer(screen::page(d, page, carried, tombstones, area))
+    wrote_answer(screen::page(d, page, carried, tombstones, area))
 }
 
 // Replaces the held rows and the next slot by those of a saved file.
@@ -577,16 +553,14 @@ pub extern "C" fn goosetable_load(
     carried_cells: &mut [u8],
     file: &[u8],
 ) -> Answer
-    ensures { Hosts device_kept alone (λ o. load_answer (load_says o)) (λ s. load_step s file.now) result device.old device.new
+    ensures { Hosts device_kept alone (λ o. done_answer (load_says o)) (λ s. load_step s file.now) result device.old device.new
         (λ d. load_lent d contacts.now carried.old tombstones.old carried_cells.old)
         (λ d. load_lent d contacts.now carried.new tombstones.new carried_cells.new) no_answers no_answers }
 {
-    let d = device_of(device);
-    let o = load::load(d, contacts, carried, tombstones, carried_cells, file);
-    let after = o.device;
-    let said = o.said;
-    put_device(device, after);
-    load_answer(said)
+    let mut d = device_of(device);
+    let said = load::load(&mut d, contacts, carried, tombstones, carried_cells, file);
+    put_device(device, d);
+    done_answer(said)
 }
 
 // ---- functions of their inputs alone
@@ -594,9 +568,9 @@ pub extern "C" fn goosetable_load(
 // The rows of a window; the length counts them.
 #[unsafe(no_mangle)]
 pub extern "C" fn goosetable_window(skipped: &[u8], chains: &[u8], answer: &mut [u8]) -> Answer
-    ensures { (result ≡ window_answer (window_says answer.old skipped.now chains.now)) × (answer.new ≡ window_area answer.old skipped.now chains.now) }
+    ensures { (result ≡ wrote_answer (window_says answer.old skipped.now chains.now)) × (answer.new ≡ window_area answer.old skipped.now chains.now) }
 {
-    window_answer(chain::window(skipped, chains, answer))
+    wrote_answer(chain::window(skipped, chains, answer))
 }
 
 // The tag of a message key, under the contact's route key. A direction other than `I` and `R` is refused with 12.
@@ -608,15 +582,15 @@ pub extern "C" fn goosetable_route_tag(
     idx: u32,
     tag: &mut [u8; 16],
 ) -> Answer
-    ensures { OnRead (dir_read (dir_of dir)) (λ way. Fills (route_tag route_key.now way generation idx) result tag.new)
+    ensures { OnRead (dir_of dir) (λ way. Fills (route_tag route_key.now way generation idx) result tag.new)
         (Stays 12 result (tag.old ∷ []) (tag.new ∷ [])) }
 {
     match Dir::from_label(dir) {
-        DirRead::Is(d) => {
-            *tag = courier::route_tag(*route_key, d, generation, idx);
+        Some(way) => {
+            *tag = courier::route_tag(*route_key, way, generation, idx);
             answer_of(DONE, 0, 0, 0)
         }
-        DirRead::Neither => answer_of(12, 0, 0, 0),
+        None => answer_of(12, 0, 0, 0),
     }
 }
 

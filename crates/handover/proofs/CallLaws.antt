@@ -1,16 +1,19 @@
 -- Laws of the call: each way out as the model's step, and what it leaves.
 -- Assumes nothing.
-use Rattle.std.proofs.Common.{◌≡◌, ℕ, ◌+◌, ◌*◌, ◌/◌, ◌<◌, ◌≤◌, min, Bool, true, false, cond, not, ◌||◌, ltb, List, [], length, sym, refl, ap, ◌∙◌, arith, ltb-false}
+use Rattle.std.proofs.Common.{◌≡◌, ℕ, ◌+◌, ◌*◌, ◌/◌, ◌<◌, ◌≤◌, min, Bool, true, false, cond, not, ◌||◌, eqb, ltb, List, [], length, sym, refl, ap, ◌∙◌, arith, ltb-false, Option, Some, None, Result, Ok, Err}
+use denote.Enum.Bare.{sameb}
+use Rattle.std.specs.Option.{option_eq}
 use Rattle.octets.specs.Bytes.{part}
 use Rattle.courier_core.specs.declared.ContactId.{ContactId}
+use Rattle.courier_core.specs.declared.Refusal.{Refusal}
 use Rattle.courier_core.specs.declared.Refusal.TheVariants as refusal
-use Rattle.table.specs.declared.Found.{Found}
-use Rattle.table.specs.declared.Found.TheVariants.{At, Nothing}
 use Rattle.table.specs.Lists.{position, remove_at}
 use Rattle.table.specs.Rows.{held}
 use Rattle.table.specs.Codec.{table_of, with_table, TableNow}
 use Rattle.table.proofs.TableLaws.{get_d_table}
+use Rattle.courier.specs.contracts.Custody.{the_type}
 use Rattle.courier.specs.declared.Custody.{Custody}
+use Rattle.courier.specs.declared.Custody.TheVariants as custody
 use Rattle.rows.specs.declared.Device.{Device}
 use Rattle.rows.specs.declared.Exchange.{Exchange}
 use Rattle.rows.specs.declared.Own.{Own}
@@ -19,7 +22,7 @@ use Rattle.rows.specs.declared.Offer.{Offer}
 use Rattle.rows.specs.Rows.{contact_codec, own_codec, carried_codec, offer_codec, offer_of}
 use Rattle.model.specs.Basics.{match_found}
 use Rattle.model.specs.State.{Change, nothing, offered_now, ◌and◌}
-use Rattle.model.specs.Calls.{Call, Result, result, only, done, custody_answer}
+use Rattle.model.specs.Calls.{Call, Result as Outcome, result, only, done, custody_answer}
 use Rattle.model.specs.Contacts.{known, is_for}
 use Rattle.model.specs.Custody.{own_of_tag, carried_of_tag, is_accepted}
 use Rattle.model.specs.Exchange.{offer_of_tag, no_offer, handed_over, handed_actions, custody_tests, settle, receive_custody}
@@ -28,10 +31,34 @@ use Rattle.model.specs.Areas.{Areas, Written, view, view_session, store, store_d
 use Rattle.model.specs.Lent.{contacts_in, tombstones_in, actions_lent}
 use Rattle.model.proofs.CallLaws.{refused_here, not_here, no_test, answering_call, quiet_call, refused_call}
 use Rattle.tombs.proofs.WriteLaws.{acted}
-use Rattle.handover.specs.declared.Said.{Said}
-use Rattle.handover.specs.declared.Said.TheVariants as said
 use Rattle.handover.specs.Handing.{HandedAs, exchange_with, says, settle_lent, code_lent, Settles}
 use Rattle.handover.proofs.HandLaws.{change_by}
+
+-- ---- what the code compares
+
+not_back : (b : Bool) {c : Bool} → not b ≡ c → b ≡ not c
+not_back true e = ap not e
+not_back false e = ap not e
+
+same_code : (code : Custody) → sameb the_type code custody.Accepted ≡ is_accepted code
+same_code custody.Accepted = refl
+same_code custody.Full = refl
+same_code custody.Duplicate = refl
+same_code custody.Off = refl
+same_code custody.Invalid = refl
+
+-- is the code another than Accepted
+pub other_code : (code : Custody) {r c : Bool} → r ≡ not (sameb the_type code custody.Accepted) → r ≡ c → is_accepted code ≡ not c
+other_code code e h = sym (same_code code) ∙ not_back _ (sym e ∙ h)
+
+-- was the exchange opened for another than the peer
+module _ (eq : ContactId → ContactId → Bool) (peer : ContactId) (same : (p : ContactId) → eq p peer ≡ eqb p.0 peer.0) where
+  same_peer : (to : Option ContactId) → option_eq eq to (Some peer) ≡ is_for peer to
+  same_peer (Some p) = same p
+  same_peer None = refl
+
+  pub other_peer : (to : Option ContactId) {r c : Bool} → r ≡ not (option_eq eq to (Some peer)) → r ≡ c → is_for peer to ≡ not c
+  other_peer to e h = sym (same_peer to) ∙ not_back _ (sym e ∙ h)
 
 -- ---- an offer that is settled
 
@@ -49,7 +76,7 @@ module _ (i : ℕ) (tag : List ℕ) (code : Custody) (d : Device) (e : Exchange)
   abbrev left : List Offer
   left = remove_at i (table_of offer_codec (min 512 e.offered) offers)
 
-  abbrev settled : Bool → ℕ → Result
+  abbrev settled : Bool → ℕ → Outcome
   settled b n = result done [] (cond b (handed_actions To Tc tag) []) (offered_now left and cond b (handed_over To Tc tag n) nothing)
 
   settled_by : {b : Bool} {o : Offer} → b ≡ is_accepted code → o ≡ offer_of (part offers (i * 17) 17) → settle (view S) tag code i ≡ settled b o.copies
@@ -57,7 +84,7 @@ module _ (i : ℕ) (tag : List ℕ) (code : Custody) (d : Device) (e : Exchange)
   settled_by eb eo =
       λ j. settled (sym eb j) ((get_d_table offer_codec (min 512 e.offered) offers i no_offer inside ∙ sym eo) j).copies
 
-  abbrev Settled : Said → Device → Exchange → (own' carried' offers' ac' : List ℕ) → Type 0
+  abbrev Settled : Result ℕ Refusal → Device → Exchange → (own' carried' offers' ac' : List ℕ) → Type 0
   Settled r d' e' own' carried' offers' ac' =
       Written says (settle (view S) tag code i) r S (settle_lent d' e' own' carried' prefixes offers' a) (actions_lent ac) (actions_lent ac')
 
@@ -67,26 +94,26 @@ module _ (i : ℕ) (tag : List ℕ) (code : Custody) (d : Device) (e : Exchange)
         → settle_lent d' f own' carried' prefixes w a ≡ settle_lent d' (exchange_with (length left) e) own' carried' prefixes (with_table offer_codec offers left) a
     lent_after d' own' carried' = λ j. settle_lent d' ((ef ∙ ap (λ (k : ℕ). exchange_with k e) N.count) j) own' carried' prefixes (N.area j) a
 
-    pub not_accepted : b ≡ false → Settled (said.Done 0) d f own carried w ac
+    pub not_accepted : b ≡ false → Settled (Ok 0) d f own carried w ac
     unfolding store store_device store_session
     not_accepted h = quiet_call done (offered_now left) (settled_by eb eo ∙ ap (λ (x : Bool). settled x o.copies) h) refl (lent_after d own carried)
 
     -- what is handed over, by the places of the two rows
-    abbrev by : Found → Found → Change
+    abbrev by : Option ℕ → Option ℕ → Change
     by = change_by d tag o.copies own carried ac
 
-    stored_by : (p q : Found)
+    stored_by : (p q : Option ℕ)
         → settle_lent (store_device d (by p q)) (exchange_with (length left) e) (bytes_after own_codec own (by p q).own) (bytes_after carried_codec carried (by p q).carried) prefixes
         (with_table offer_codec offers left) a ≡ store S (offered_now left and by p q)
     unfolding store store_device store_session
-    stored_by (At i) q = refl
-    stored_by Nothing (At i) = refl
-    stored_by Nothing Nothing = refl
+    stored_by (Some i) q = refl
+    stored_by None (Some i) = refl
+    stored_by None None = refl
 
-    pub accepted : b ≡ true → {r : Device} {k : ℕ} {x y z : List ℕ} → HandedAs d tag o.copies own carried ac r k x y z → Settled (said.Done k) r f x y w z
+    pub accepted : b ≡ true → {r : Device} {k : ℕ} {x y z : List ℕ} → HandedAs d tag o.copies own carried ac r k x y z → Settled (Ok k) r f x y w z
     unfolding handed_over
     accepted h {r} {x = x} {y} H =
-        answering_call (settled true o.copies) (settled_by eb eo ∙ ap (λ (t : Bool). settled t o.copies) h) (ap said.Done H.count)
+        answering_call (settled true o.copies) (settled_by eb eo ∙ ap (λ (t : Bool). settled t o.copies) h) (ap Ok H.count)
         (lent_after r x y
         ∙ (λ j. settle_lent (H.device j) (exchange_with (length left) e) (H.owned j) (H.held j) prefixes (with_table offer_codec offers left) a)
         ∙ stored_by (position (carried_of_tag tag) Tc) (position (own_of_tag tag) To))
@@ -113,36 +140,36 @@ module _ (d : Device) (e : Exchange) (peer : ContactId) (tag : List ℕ) (code :
   abbrev short : Bool
   short = (ltb (length prefixes) 4096 || ltb (length offers) 8704) || ltb (length ac) (13 * (512 + length to / 44))
 
-  abbrev Codes : Said → Device → Exchange → (own' carried' offers' ac' : List ℕ) → Type 0
+  abbrev Codes : Result ℕ Refusal → Device → Exchange → (own' carried' offers' ac' : List ℕ) → Type 0
   Codes r d' e' own' carried' offers' ac' =
       Written says (step (view B) C) r B (code_lent d' e' contacts own' carried' to prefixes offers' a) (actions_lent ac) (actions_lent ac')
 
-  pub code_short : short ≡ true → Codes (said.Refused refusal.ShortArea) d e own carried offers ac
+  pub code_short : short ≡ true → Codes (Err refusal.ShortArea) d e own carried offers ac
   unfolding step tests perform custody_tests view view_session
   code_short h = refused_call refusal.ShortArea (refused_here _ _ _ h) refl refl
 
   module _ (long : short ≡ false) where
-    pub code_stranger : known (table_of contact_codec d.contacts contacts) peer ≡ false → Codes (said.Refused refusal.UnknownContact) d e own carried offers ac
+    pub code_stranger : known (table_of contact_codec d.contacts contacts) peer ≡ false → Codes (Err refusal.UnknownContact) d e own carried offers ac
     unfolding step tests perform custody_tests view view_session
     code_stranger k = refused_call refusal.UnknownContact (not_here _ _ _ long (refused_here _ _ _ (ap not k))) refl refl
 
     module _ (k : known (table_of contact_codec d.contacts contacts) peer ≡ true) where
-      pub code_other : is_for peer e.peer ≡ false → Codes (said.Refused refusal.WrongExchange) d e own carried offers ac
+      pub code_other : is_for peer e.peer ≡ false → Codes (Err refusal.WrongExchange) d e own carried offers ac
       unfolding step tests perform custody_tests view view_session
       code_other w = refused_call refusal.WrongExchange (not_here _ _ _ long (not_here _ _ _ (ap not k) (refused_here _ _ _ (ap not w)))) refl refl
 
-      module _ (w : is_for peer e.peer ≡ true) {f : Found} (q : f ≡ position (offer_of_tag tag) (table_of offer_codec (min 512 e.offered) offers)) where
+      module _ (w : is_for peer e.peer ≡ true) {f : Option ℕ} (q : f ≡ position (offer_of_tag tag) (table_of offer_codec (min 512 e.offered) offers)) where
         met : step (view B) C ≡ match_found f (settle (view B) tag code) (only done)
         unfolding step tests perform custody_tests view view_session receive_custody
         met =
             not_here _ _ _ long (not_here _ _ _ (ap not k) (not_here _ _ _ (ap not w) (no_test _)))
-            ∙ ap (λ (g : Found). match_found g (settle (view B) tag code) (only done)) (sym q)
+            ∙ ap (λ (g : Option ℕ). match_found g (settle (view B) tag code) (only done)) (sym q)
 
-        pub code_settled : {i : ℕ} → f ≡ At i → {r : Said} {d' : Device} {e' : Exchange} {own' carried' offers' ac' : List ℕ}
+        pub code_settled : {i : ℕ} → f ≡ Some i → {r : Result ℕ Refusal} {d' : Device} {e' : Exchange} {own' carried' offers' ac' : List ℕ}
             → Settles i tag code d e own carried offers ac r d' e' own' carried' offers' ac' → Codes r d' e' own' carried' offers' ac'
         code_settled h s =
-            let p = met ∙ ap (λ (g : Found). match_found g (settle (view B) tag code) (only done)) h in rw p (s prefixes (contacts_in contacts (tombstones_in to a)))
+            let p = met ∙ ap (λ (g : Option ℕ). match_found g (settle (view B) tag code) (only done)) h in rw p (s prefixes (contacts_in contacts (tombstones_in to a)))
 
-        pub code_unknown : f ≡ Nothing → Codes (said.Done 0) d e own carried offers ac
+        pub code_unknown : f ≡ None → Codes (Ok 0) d e own carried offers ac
         unfolding store store_device store_session
-        code_unknown h = quiet_call done nothing (met ∙ ap (λ (g : Found). match_found g (settle (view B) tag code) (only done)) h) refl refl
+        code_unknown h = quiet_call done nothing (met ∙ ap (λ (g : Option ℕ). match_found g (settle (view B) tag code) (only done)) h) refl refl

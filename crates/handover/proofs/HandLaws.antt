@@ -1,9 +1,7 @@
 -- Laws of copies that are handed over: the row that they are taken off, and its action.
 -- Assumes nothing.
-use Rattle.std.proofs.Common.{◌≡◌, ℕ, ◌*◌, ◌<◌, min, List, [], ◌∷◌, length, get_or, sym, refl, ap, ◌∙◌, subst, arith}
+use Rattle.std.proofs.Common.{◌≡◌, ℕ, ◌*◌, ◌<◌, min, List, [], ◌∷◌, length, get_or, sym, refl, ap, ◌∙◌, subst, arith, Option, Some, None}
 use Rattle.octets.specs.Bytes.{part, splice}
-use Rattle.table.specs.declared.Found.{Found}
-use Rattle.table.specs.declared.Found.TheVariants.{At, Nothing}
 use Rattle.table.specs.Lists.{position, replace_at}
 use Rattle.table.specs.Rows.{held, join, written}
 use Rattle.table.specs.Codec.{Codec, table_of, with_table, TableNow}
@@ -43,14 +41,14 @@ module _ (d : Device) (tag : List ℕ) (n : ℕ) (own carried ac : List ℕ) whe
   Tc = table_of carried_codec d.carried carried
 
   -- by the places of the carried row and of the own row
-  abbrev pub change_by : Found → Found → Change
+  abbrev pub change_by : Option ℕ → Option ℕ → Change
   change_by f g =
       match_found f (λ i. carried_now (replace_at i (lowered n (get_or Tc i no_carried)) Tc)) (match_found g (λ i. own_now (replace_at i (own_lowered n (get_or To i no_own)) To)) nothing)
 
-  abbrev actions_by : Found → Found → List Action
+  abbrev actions_by : Option ℕ → Option ℕ → List Action
   actions_by f g = match_found f (λ i. put_of (get_or Tc i no_carried) ∷ []) (match_found g (λ i. put_of_own (get_or To i no_own) ∷ []) [])
 
-  handed_as : (f g : Found) → f ≡ position (carried_of_tag tag) Tc → g ≡ position (own_of_tag tag) To → {r : Device} {k : ℕ} {x y z : List ℕ}
+  handed_as : (f g : Option ℕ) → f ≡ position (carried_of_tag tag) Tc → g ≡ position (own_of_tag tag) To → {r : Device} {k : ℕ} {x y z : List ℕ}
       → r ≡ store_device d (change_by f g) → x ≡ bytes_after own_codec own (change_by f g).own → y ≡ bytes_after carried_codec carried (change_by f g).carried
       → z ≡ with_table action_codec ac (actions_by f g) → k ≡ length (actions_by f g) → HandedAs d tag n own carried ac r k x y z
   unfolding handed_over handed_actions
@@ -65,21 +63,21 @@ module _ (d : Device) (tag : List ℕ) (n : ℕ) (own carried ac : List ℕ) whe
         count = dk ∙ ap length l;
       }
 
-  pub hands_carried : {i m : ℕ} {r : Device} {y z : List ℕ} → At i ≡ position (carried_of_tag tag) Tc → TakenOffCarried n d.carried i carried ac m y z
+  pub hands_carried : {i m : ℕ} {r : Device} {y z : List ℕ} → Some i ≡ position (carried_of_tag tag) Tc → TakenOffCarried n d.carried i carried ac m y z
       → r ≡ device_with d.own m d → HandedAs d tag n own carried ac r 1 own y z
   unfolding store_device
   hands_carried {i} e T q =
-      handed_as (At i) _ e refl (q ∙ ap (λ (k : ℕ). device_with d.own k d) T.rows.count) refl T.rows.area
+      handed_as (Some i) _ e refl (q ∙ ap (λ (k : ℕ). device_with d.own k d) T.rows.count) refl T.rows.area
       (with_one action_codec ac _ _ (put_of (get_or Tc i no_carried)) refl T.action) refl
 
-  module _ (p : Nothing ≡ position (carried_of_tag tag) Tc) where
-    pub hands_own : {i m : ℕ} {r : Device} {x z : List ℕ} → At i ≡ position (own_of_tag tag) To → TakenOffOwn n d.own i own ac m x z
+  module _ (p : None ≡ position (carried_of_tag tag) Tc) where
+    pub hands_own : {i m : ℕ} {r : Device} {x z : List ℕ} → Some i ≡ position (own_of_tag tag) To → TakenOffOwn n d.own i own ac m x z
         → r ≡ device_with m d.carried d → HandedAs d tag n own carried ac r 1 x carried z
     unfolding store_device
     hands_own {i} e T q =
-        handed_as Nothing (At i) p e (q ∙ ap (λ (k : ℕ). device_with k d.carried d) T.rows.count) T.rows.area refl
+        handed_as None (Some i) p e (q ∙ ap (λ (k : ℕ). device_with k d.carried d) T.rows.count) T.rows.area refl
         (with_one action_codec ac _ _ (put_of_own (get_or To i no_own)) refl T.action) refl
 
-    pub hands_nothing : Nothing ≡ position (own_of_tag tag) To → HandedAs d tag n own carried ac d 0 own carried ac
+    pub hands_nothing : None ≡ position (own_of_tag tag) To → HandedAs d tag n own carried ac d 0 own carried ac
     unfolding store_device with_table written join
-    hands_nothing e = handed_as Nothing Nothing p e refl refl refl refl refl
+    hands_nothing e = handed_as None None p e refl refl refl refl refl

@@ -1,14 +1,13 @@
 -- A hasher takes more bytes. Assumes nothing.
 use mathlib.Core.Path.{◌≡◌, refl, sym, ap, ap₂, ◌∙◌}
-use mathlib.Core.List.{List, [], ◌∷◌, ◌++◌, append-nil, append_assoc}
-use Prim.Native.Nat.{ℕ, zero, suc, ◌+◌, ◌-◌, ◌*◌, ◌/◌, ◌%◌, ◌≤◌, ◌<◌}
+use mathlib.Core.List.{List, [], ◌++◌, append_assoc}
+use Prim.Native.Nat.{ℕ, ◌+◌, ◌-◌, ◌*◌, ◌/◌, ◌%◌, ◌≤◌, ◌<◌}
 use native.Mathlib.Omega.{arith}
-use lib.ListN.{length, get_or, take, drop, set, length-append, length-drop, length-take, length-set, take-append-drop, drop_of_length-le}
-use lib.Seq.{drop-drop, drop-append-le, take-suc-set, length-take-le, take_all, take-add}
-use Rattle.octets.specs.Bytes.{part, splice}
-use Rattle.octets.proofs.Parts.{part_whole, length_part, length_splice, take_written}
+use lib.ListN.{length, take, drop, length-append, length-drop, take-append-drop, drop_of_length-le}
+use lib.Seq.{drop-drop, drop-append-le, length-take-le, take_all}
+use Rattle.octets.specs.Bytes.{splice}
+use Rattle.octets.proofs.Parts.{length_splice, take_written}
 use Rattle.sha_block.specs.Loop.{turns}
-use Rattle.sha_block.specs.Block.{compress}
 use Rattle.sha384.specs.Padding.{padding, padded}
 use Rattle.sha384.specs.Sha384.{H0, next, hashed, digest, sha384}
 use Rattle.sha384.proofs.Whole.{hashed_append}
@@ -21,17 +20,13 @@ hashed_short : (h p : List ℕ) → length p < 128 → hashed h p ≡ h
 unfolding hashed turns
 hashed_short h p l = let e : length p / 128 ≡ 0 = omega arith in ap (λ (n : ℕ). turns (next p) n 0 h) e
 
-hashed_block : (h p : List ℕ) → length p ≡ 128 → hashed h p ≡ compress h p
-unfolding hashed turns next
-hashed_block h p l = let e : length p / 128 ≡ 1 = omega arith in ap (λ (n : ℕ). turns (next p) n 0 h) e ∙ ap (compress h) (part_whole p 128 l)
-
 behind_short : (p : List ℕ) → length p < 128 → behind p ≡ p
 unfolding behind
 behind_short p l = let e : 128 * (length p / 128) ≡ 0 = omega arith in ap (λ (n : ℕ). drop n p) e
 
-behind_block : (p : List ℕ) → length p ≡ 128 → behind p ≡ []
+behind_whole : (p : List ℕ) → length p % 128 ≡ 0 → behind p ≡ []
 unfolding behind
-behind_block p l = drop_of_length-le p {i = 128 * (length p / 128)} (omega arith)
+behind_whole p l = drop_of_length-le p {i = 128 * (length p / 128)} (omega arith)
 
 length_behind : (x : List ℕ) → length (behind x) ≡ length x % 128
 unfolding behind
@@ -74,13 +69,13 @@ module _ (s r : Hasher) (x y : List ℕ) (t : Taken s x) where
       let n : length (x ++ y) % 128 ≡ length now = omega (arith, length-append x y, length-append (take (length x % 128) s.block) y, ap length t.held, length_behind x) in
       taken (p ∙ sym (hashed_short s.state now h)) (ap (λ (k : ℕ). take k r.block) n ∙ q ∙ sym (behind_short now h)) l
 
-  -- a block in all: it is hashed
-  pub taken_block : length now ≡ 128 → r.state ≡ compress s.state now → r.len ≡ s.len + length y → Taken r (x ++ y)
-  taken_block h p l =
+  -- whole blocks in all: they are hashed
+  pub taken_whole : length now % 128 ≡ 0 → r.state ≡ hashed s.state now → r.len ≡ s.len + length y → Taken r (x ++ y)
+  taken_whole h p l =
       let n : length (x ++ y) % 128 ≡ 0 = omega (arith, length-append x y, length-append (take (length x % 128) s.block) y, ap length t.held, length_behind x) in
-      taken (p ∙ sym (hashed_block s.state now h)) (ap (λ (k : ℕ). take k r.block) n ∙ sym (behind_block now h)) l
+      taken p (ap (λ (k : ℕ). take k r.block) n ∙ sym (behind_whole now h)) l
 
--- ---- a run of bytes, and one block
+-- ---- a run of bytes, and whole blocks
 
 -- where x ends, by the hasher's count
 at_end : (s : Hasher) (x : List ℕ) → Taken s x → s.len % 128 ≡ length x % 128
@@ -105,19 +100,18 @@ module _ (s : Hasher) (m b : List ℕ) (room : length s.block ≡ 128) (fits : s
       let l : at + length m < 128 = omega (arith, h) in
       taken_short s _ x m t (omega arith) refl (ap (λ (k : ℕ). take k b) n ∙ sym (held_run x t)) refl
 
-  pub push_full : (h : List ℕ) → at + length m ≡ 128 → h ≡ compress s.state (part b 0 128) → (x : List ℕ) → Taken s x
+  pub push_full : (h : List ℕ) → at + length m ≡ 128 → h ≡ hashed s.state b → (x : List ℕ) → Taken s x
       → Taken (record { state = h; block = b; len = s.len + length m }) (x ++ m)
-  unfolding part
   push_full h n eh x t =
-      taken_block s _ x m t (length_held_run x t ∙ n) (eh ∙ ap (compress s.state) (sym (held_run x t ∙ ap (λ (k : ℕ). take k b) n))) refl
+      let lb : length b ≡ 128 = ap length e ∙ length_splice s.block at m (omega arith) ∙ room in
+      let whole : take (length x % 128) s.block ++ m ≡ b = held_run x t ∙ ap (λ (k : ℕ). take k b) n ∙ take_all 128 b (omega arith) in
+      taken_whole s _ x m t (omega (arith, ap length whole)) (eh ∙ ap (hashed s.state) (sym whole)) refl
 
-pub push_whole : (s : Hasher) (m : List ℕ) (from : ℕ) (h : List ℕ) → from + 128 ≤ length m → s.len % 128 ≡ 0
-    → h ≡ compress s.state (part m from 128) → (x : List ℕ) → Taken s x
-    → Taken (record { state = h; block = s.block; len = s.len + 128 }) (x ++ part m from 128)
-push_whole s m from h l z eh x t =
-    let n : length (part m from 128) ≡ 128 = length_part m from 128 l in
-    let e : take (length x % 128) s.block ++ part m from 128 ≡ part m from 128 = ap (λ (k : ℕ). take k s.block ++ part m from 128) (sym (at_end s x t) ∙ z) in
-    taken_block s _ x (part m from 128) t (ap length e ∙ n) (eh ∙ ap (compress s.state) (sym e)) (ap (λ (k : ℕ). s.len + k) (sym n))
+pub push_whole : (s : Hasher) (m h : List ℕ) → length m % 128 ≡ 0 → s.len % 128 ≡ 0 → h ≡ hashed s.state m → (x : List ℕ) → Taken s x
+    → Taken (record { state = h; block = s.block; len = s.len + length m }) (x ++ m)
+push_whole s m h l z eh x t =
+    let e : take (length x % 128) s.block ++ m ≡ m = ap (λ (k : ℕ). take k s.block ++ m) (sym (at_end s x t) ∙ z) in
+    taken_whole s _ x m t (omega (arith, ap length e)) (eh ∙ ap (hashed s.state) (sym e)) refl
 
 -- ---- the end
 
@@ -129,19 +123,14 @@ finished s h d v room ev eh ed x t =
     let n : s.len - s.len % 128 + length v ≡ length x = omega (arith, ap length e, length_behind x, t.len) in
     ed ∙ ap digest (eh ∙ (λ i. hashed (t.state i) (e i ++ padding (n i))) ∙ sym (hashed_append H0 x (padding (length x))))
 
--- ---- a message, front to back
+-- ---- a message in parts
 
-pub more_part : (x m : List ℕ) (at n : ℕ) → (x ++ take at m) ++ part m at n ≡ x ++ take (at + n) m
-unfolding part
-more_part x m at n = append_assoc x (take at m) (take n (drop at m)) ∙ ap (λ (l : List ℕ). x ++ l) (sym (take-add at n m))
-
--- the same, where the part is lent as a slice
-pub length_lent : (m : List ℕ) (at n : ℕ) → at + n ≤ length m → length (take (at + n - at) (drop at m)) ≡ n
-length_lent m at n h = length-take-le (at + n - at) (drop at m) (omega (arith, length-drop at m)) ∙ omega arith
-
-pub more_lent : (x m : List ℕ) (at n : ℕ) → (x ++ take at m) ++ take (at + n - at) (drop at m) ≡ x ++ take (at + n) m
-unfolding part
-more_lent x m at n = let k : at + n - at ≡ n = omega arith in ap (λ (j : ℕ). (x ++ take at m) ++ take j (drop at m)) k ∙ more_part x m at n
+-- cut in two places
+pub cut_twice : (x m : List ℕ) (i j : ℕ) {f r w e : List ℕ} → f ≡ take i m → r ≡ drop i m → w ≡ take j r → e ≡ drop j r → ((x ++ f) ++ w) ++ e ≡ x ++ m
+cut_twice x m i j {f} {r} {w} {e} ef er ew ee =
+    let back : w ++ e ≡ r = ap₂ ◌++◌ ew ee ∙ take-append-drop j r in
+    let all : f ++ r ≡ m = ap₂ ◌++◌ ef er ∙ take-append-drop i m in
+    append_assoc (x ++ f) w e ∙ ap (λ (l : List ℕ). (x ++ f) ++ l) back ∙ append_assoc x f r ∙ ap (λ (l : List ℕ). x ++ l) all
 
 -- three parts, one behind the other
 pub regroup : (p a b c : List ℕ) → p ++ a ++ b ++ c ≡ p ++ (a ++ b ++ c)

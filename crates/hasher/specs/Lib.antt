@@ -1,1 +1,2 @@
 pub mod Taken
+pub mod Parts

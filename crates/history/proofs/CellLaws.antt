@@ -1,13 +1,11 @@
 -- Laws of cells: the free one that a new row gets, and the ciphertexts that stay where they are.
 -- Assumes nothing.
-use Rattle.std.proofs.Common.{◌≡◌, ℕ, zero, suc, ◌+◌, ◌*◌, ◌/◌, ◌<◌, ◌≤◌, Bool, true, false, cond, not, ◌||◌, eqb, ltb, List, [], ◌∷◌, length, sym, refl, ap, ◌∙◌, arith, ltb-false, ltb-true, ne_eqb, eqb-true}
+use Rattle.std.proofs.Common.{◌≡◌, ℕ, zero, suc, ◌+◌, ◌*◌, ◌/◌, ◌<◌, ◌≤◌, Bool, true, false, cond, not, ◌||◌, eqb, ltb, List, [], ◌∷◌, length, sym, refl, ap, ◌∙◌, arith, ltb-false, ltb-true, ne_eqb, eqb-true, Option, Some, None}
 use mathlib.Core.Bool.{false≢true}
 use native.Mathlib.Nat.{min-le_left, min-le_right}
 use borrow.Author.Tests.{eqb-false}
 use Rattle.octets.specs.Bytes.{part, splice}
 use Rattle.octets.proofs.Parts.{length_splice, read_same, read_before, read_past}
-use Rattle.table.specs.declared.Found.{Found}
-use Rattle.table.specs.declared.Found.TheVariants.{At, Nothing}
 use Rattle.table.specs.Lists.{All, any, filter, count_by, is_at}
 use Rattle.table.proofs.ListLaws.{all_imp}
 use Rattle.table.proofs.RowLaws.{row_of_lem}
@@ -17,18 +15,18 @@ use Rattle.model.proofs.Laws.{ciphertext_inside}
 
 -- ---- the free cell
 
-free_at : (n i : ℕ) (named : List ℕ) (c : ℕ) → free_from n i named ≡ At c → (c < i + n) × (any (λ (m : ℕ). eqb m c) named ≡ false)
+free_at : (n i : ℕ) (named : List ℕ) (c : ℕ) → free_from n i named ≡ Some c → (c < i + n) × (any (λ (m : ℕ). eqb m c) named ≡ false)
 unfolding free_from
 free_at zero i named c e = let z : ◌≡◌ {A = ℕ} 0 1 = cc in absurd (omega arith)
 free_at (suc n) i named c e = go (any (λ (m : ℕ). eqb m i) named) refl e (free_at n (suc i) named c)
   where
-    go : (b : Bool) → any (λ (m : ℕ). eqb m i) named ≡ b → cond b (free_from n (suc i) named) (At i) ≡ At c
-        → (free_from n (suc i) named ≡ At c → (c < suc i + n) × (any (λ (m : ℕ). eqb m c) named ≡ false))
+    go : (b : Bool) → any (λ (m : ℕ). eqb m i) named ≡ b → cond b (free_from n (suc i) named) (Some i) ≡ Some c
+        → (free_from n (suc i) named ≡ Some c → (c < suc i + n) × (any (λ (m : ℕ). eqb m c) named ≡ false))
         → (c < i + suc n) × (any (λ (m : ℕ). eqb m c) named ≡ false)
     go true q e f = let z = f e in (omega (arith, z.0), z.1)
     go false q e f = let z : i ≡ c = cc in (omega arith, ap (λ (k : ℕ). any (λ (m : ℕ). eqb m k) named) (sym z) ∙ q)
 
-pub cell_free : (size : ℕ) (named : List ℕ) (c : ℕ) → free_cell size named ≡ At c → (c < cell_count size) × All (λ (m : ℕ). m ≡ c → ⊥) named
+pub cell_free : (size : ℕ) (named : List ℕ) (c : ℕ) → free_cell size named ≡ Some c → (c < cell_count size) × All (λ (m : ℕ). m ≡ c → ⊥) named
 unfolding free_cell
 cell_free size named c e =
     let z = free_at (cell_count size) 0 named c e in
@@ -80,13 +78,13 @@ covers (suc n) named h =
     (h j (omega arith))) in
     omega (arith, few, length_split is named, any_count is named (h n (omega arith)))
 
-free_none : (n i : ℕ) (named : List ℕ) → free_from n i named ≡ Nothing → (j : ℕ) → i ≤ j → j < i + n → any (λ (m : ℕ). eqb m j) named ≡ true
+free_none : (n i : ℕ) (named : List ℕ) → free_from n i named ≡ None → (j : ℕ) → i ≤ j → j < i + n → any (λ (m : ℕ). eqb m j) named ≡ true
 unfolding free_from
 free_none zero i named e j h k = absurd (omega arith)
 free_none (suc n) i named e j h k = go (any (λ (m : ℕ). eqb m i) named) refl e (λ e l. free_none n (suc i) named e j l (omega arith))
   where
-    go : (b : Bool) → any (λ (m : ℕ). eqb m i) named ≡ b → cond b (free_from n (suc i) named) (At i) ≡ Nothing
-        → (free_from n (suc i) named ≡ Nothing → suc i ≤ j → any (λ (m : ℕ). eqb m j) named ≡ true) → any (λ (m : ℕ). eqb m j) named ≡ true
+    go : (b : Bool) → any (λ (m : ℕ). eqb m i) named ≡ b → cond b (free_from n (suc i) named) (Some i) ≡ None
+        → (free_from n (suc i) named ≡ None → suc i ≤ j → any (λ (m : ℕ). eqb m j) named ≡ true) → any (λ (m : ℕ). eqb m j) named ≡ true
     go false q e f = let z : ◌≡◌ {A = ℕ} 0 1 = cc in absurd (omega arith)
     go true q e f = by (ltb i j) refl
       where
@@ -98,9 +96,9 @@ pub cells_left : (size : ℕ) (named : List ℕ) → length named < cell_count s
 unfolding cells_used free_cell
 cells_left size named h = go (free_from (cell_count size) 0 named) refl
   where
-    go : (f : Found) → free_from (cell_count size) 0 named ≡ f → not (is_at f) ≡ false
-    go (At i) e = refl
-    go Nothing e = absurd (omega (arith, covers (cell_count size) named (λ j l. free_none (cell_count size) 0 named e j (omega arith) (omega arith))))
+    go : (f : Option ℕ) → free_from (cell_count size) 0 named ≡ f → not (is_at f) ≡ false
+    go (Some i) e = refl
+    go None e = absurd (omega (arith, covers (cell_count size) named (λ j l. free_none (cell_count size) 0 named e j (omega arith) (omega arith))))
 
 -- ---- ciphertexts
 

@@ -1,14 +1,12 @@
 -- Laws of contacts: what a contact call does to who is known, when it was added, and whether it is verified.
 -- Assumes nothing.
-use Rattle.std.proofs.Common.{◌≡◌, ℕ, suc, ◌+◌, ◌≤◌, Bool, true, false, cond, not, ◌&&◌, ◌||◌, eqb, leb, List, [], ◌∷◌, ◌++◌, length, get_or, take, drop, sym, refl, ap, ◌∙◌, subst, arith, eqb-true, le-leb}
+use Rattle.std.proofs.Common.{◌≡◌, ℕ, suc, ◌+◌, ◌≤◌, Bool, true, false, cond, not, ◌&&◌, ◌||◌, eqb, leb, List, [], ◌∷◌, ◌++◌, length, get_or, take, drop, sym, refl, ap, ◌∙◌, subst, arith, eqb-true, le-leb, Option, Some, None}
 use mathlib.Core.Bool.{false≢true}
 use borrow.Author.Tests.{eqb-false}
 use Rattle.courier_core.specs.Core.{verification_byte}
 use Rattle.courier_core.specs.declared.ContactId.{ContactId}
 use Rattle.courier_core.specs.declared.Verification.{Verification}
 use Rattle.courier_core.specs.declared.Verification.TheVariants as verification
-use Rattle.table.specs.declared.Found.{Found}
-use Rattle.table.specs.declared.Found.TheVariants.{At, Nothing}
 use Rattle.table.specs.Lists.{All, none, more, any, position, position_from, is_at, unwrap_or, replace_at}
 use Rattle.table.proofs.FindLaws.{position_any}
 use Rattle.rows.specs.declared.Contact.{Contact}
@@ -22,9 +20,9 @@ contact_of id v = record { id = id; verification = verification_byte v }
 
 -- ---- the place of a contact, one contact at a time
 
-abbrev pub shift : Found → Found
-shift (At i) = At (suc i)
-shift Nothing = Nothing
+abbrev pub shift : Option ℕ → Option ℕ
+shift (Some i) = Some (suc i)
+shift None = None
 
 pub position_shift : {A : Type 0} (p : A → Bool) (i : ℕ) (xs : List A) → position_from (suc i) p xs ≡ shift (position_from i p xs)
 unfolding position_from
@@ -32,33 +30,33 @@ position_shift p i [] = refl
 position_shift p i (x ∷ xs) = go (p x) (position_shift p (suc i) xs)
   where
     go : (b : Bool) → position_from (suc (suc i)) p xs ≡ shift (position_from (suc i) p xs)
-        → cond b (At (suc i)) (position_from (suc (suc i)) p xs) ≡ shift (cond b (At i) (position_from (suc i) p xs))
+        → cond b (Some (suc i)) (position_from (suc (suc i)) p xs) ≡ shift (cond b (Some i) (position_from (suc i) p xs))
     go true h = refl
     go false h = h
 
 module _ (id : ContactId) (q : Contact) (qs : List Contact) where
-  place_next : contact_place (q ∷ qs) id ≡ cond (is_contact id q) (At 0) (shift (contact_place qs id))
+  place_next : contact_place (q ∷ qs) id ≡ cond (is_contact id q) (Some 0) (shift (contact_place qs id))
   unfolding contact_place position_from
-  place_next = ap (λ (f : Found). cond (is_contact id q) (At 0) f) (position_shift (is_contact id) 0 qs)
+  place_next = ap (λ (f : Option ℕ). cond (is_contact id q) (Some 0) f) (position_shift (is_contact id) 0 qs)
 
   verified_next : is_verified (q ∷ qs) id ≡ cond (is_contact id q) (eqb q.verification 1) (is_verified qs id)
   unfolding is_verified
   verified_next = rw place_next (go (is_contact id q) (contact_place qs id))
     where
-      go : (b : Bool) (f : Found) → match_found (cond b (At 0) (shift f)) (λ i. eqb (get_or (q ∷ qs) i no_contact).verification 1) false
+      go : (b : Bool) (f : Option ℕ) → match_found (cond b (Some 0) (shift f)) (λ i. eqb (get_or (q ∷ qs) i no_contact).verification 1) false
           ≡ cond b (eqb q.verification 1) (match_found f (λ i. eqb (get_or qs i no_contact).verification 1) false)
       go true f = refl
-      go false (At i) = refl
-      go false Nothing = refl
+      go false (Some i) = refl
+      go false None = refl
 
   added_next : added_before (q ∷ qs) id ≡ cond (is_contact id q) 0 (suc (added_before qs id))
   unfolding added_before
   added_next = rw place_next (go (is_contact id q) (contact_place qs id))
     where
-      go : (b : Bool) (f : Found) → unwrap_or (suc (length qs)) (cond b (At 0) (shift f)) ≡ cond b 0 (suc (unwrap_or (length qs) f))
+      go : (b : Bool) (f : Option ℕ) → unwrap_or (suc (length qs)) (cond b (Some 0) (shift f)) ≡ cond b 0 (suc (unwrap_or (length qs) f))
       go true f = refl
-      go false (At i) = refl
-      go false Nothing = refl
+      go false (Some i) = refl
+      go false None = refl
 
   put_next : (v : Verification) → put_contact (q ∷ qs) id v ≡ cond (is_contact id q) (contact_of id v ∷ qs) (q ∷ put_contact qs id v)
   unfolding put_contact replace_at
@@ -67,11 +65,11 @@ module _ (id : ContactId) (q : Contact) (qs : List Contact) where
       p : Contact
       p = contact_of id v
 
-      go : (b : Bool) (f : Found) → match_found (cond b (At 0) (shift f)) (λ i. replace_at i p (q ∷ qs)) ((q ∷ qs) ++ (p ∷ []))
+      go : (b : Bool) (f : Option ℕ) → match_found (cond b (Some 0) (shift f)) (λ i. replace_at i p (q ∷ qs)) ((q ∷ qs) ++ (p ∷ []))
           ≡ cond b (p ∷ qs) (q ∷ match_found f (λ i. replace_at i p qs) (qs ++ (p ∷ [])))
       go true f = refl
-      go false (At i) = let e : suc i + 1 ≡ suc (i + 1) = omega arith in ap (λ (n : ℕ). q ∷ (take i qs ++ (p ∷ drop n (q ∷ qs)))) e
-      go false Nothing = refl
+      go false (Some i) = let e : suc i + 1 ≡ suc (i + 1) = omega arith in ap (λ (n : ℕ). q ∷ (take i qs ++ (p ∷ drop n (q ∷ qs)))) e
+      go false None = refl
 
 -- ---- after a contact call
 
@@ -226,6 +224,6 @@ pub shut_unverified : (ps : List Contact) (id : ContactId) → known ps id ≡ f
 unfolding known is_verified contact_place
 shut_unverified ps id h = go (position (is_contact id) ps) refl
   where
-    go : (f : Found) → position (is_contact id) ps ≡ f → match_found f (λ i. eqb (get_or ps i no_contact).verification 1) false ≡ false
-    go (At i) e = absurd (false≢true (sym h ∙ sym (position_any (is_contact id) 0 ps) ∙ ap is_at e))
-    go Nothing e = refl
+    go : (f : Option ℕ) → position (is_contact id) ps ≡ f → match_found f (λ i. eqb (get_or ps i no_contact).verification 1) false ≡ false
+    go (Some i) e = absurd (false≢true (sym h ∙ sym (position_any (is_contact id) 0 ps) ∙ ap is_at e))
+    go None e = refl

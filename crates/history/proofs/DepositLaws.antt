@@ -1,12 +1,10 @@
 -- An envelope call that is answered with code 0 has put its row, with its ciphertext in a cell that no row named.
 -- Assumes nothing.
-use Rattle.std.proofs.Common.{◌≡◌, ℕ, Bool, true, false, cond, not, ◌&&◌, List, [], ◌∷◌, ◌++◌, length, get_or, replicate, sym, refl, ap, ◌∙◌, arith}
+use Rattle.std.proofs.Common.{◌≡◌, ℕ, Bool, true, false, cond, not, ◌&&◌, List, [], ◌∷◌, ◌++◌, length, get_or, replicate, sym, refl, ap, ◌∙◌, arith, Option, Some, None}
 use borrow.Author.Tests.{not-false}
 use Rattle.courier_core.specs.declared.ContactId.{ContactId}
 use Rattle.courier_core.specs.declared.Refusal.{Refusal}
 use Rattle.courier_core.specs.Core.{first_of}
-use Rattle.table.specs.declared.Found.{Found}
-use Rattle.table.specs.declared.Found.TheVariants.{At, Nothing}
 use Rattle.table.specs.Lists.{is_at}
 use Rattle.courier.specs.declared.Header.{Header}
 use Rattle.courier.specs.declared.Custody.{Custody}
@@ -57,20 +55,20 @@ module _ (s : State) (replies actions : ℕ) (window : List ℕ) (peer : Contact
   unfolding answer_custody
   code_accepted code e = sym (code_is head.tag (custody_code code) (replicate 20 0)) ∙ ap (code_in (length head.tag)) e ∙ code_is head.tag 0 (replicate 20 0)
 
-  answered : (f : Found) (code : Custody) → custody_of s peer head (length ct) ≡ code → lookup (window_rows window) head.tag ≡ f
+  answered : (f : Option ℕ) (code : Custody) → custody_of s peer head (length ct) ≡ code → lookup (window_rows window) head.tag ≡ f
       → known s.contacts peer ≡ true → (accepts s (window_rows window) peer head (length ct) && cells_used (length s.carried_cells) (carried_named s)) ≡ false
       → (match_found f (λ i. ours_at (get_or (window_rows window) i no_reachable)) (answer_custody s peer head ct code)).replies ≡ custody_reply head.tag custody.Accepted ∷ []
       → Placed s peer head (length ct) × (match_found f (λ i. ours_at (get_or (window_rows window) i no_reachable)) (answer_custody s peer head ct code) ≡ answer_custody s peer head ct custody.Accepted)
   unfolding accepts ours_at
-  answered (At i) code e l k u h = let z : ◌≡◌ {A = ℕ} 0 1 = ap length h in absurd (omega arith)
-  answered Nothing custody.Accepted e l k u h =
+  answered (Some i) code e l k u h = let z : ◌≡◌ {A = ℕ} 0 1 = ap length h in absurd (omega arith)
+  answered None custody.Accepted e l k u h =
       let used : cells_used (length s.carried_cells) (carried_named s) ≡ false =
       and_false (not (is_at (lookup (window_rows window) head.tag)) && is_accepted (custody_of s peer head (length ct))) (cells_used (length s.carried_cells) (carried_named s)) (rw (e, l)) u in
       (placed s replies actions window peer head ct k used e, refl)
-  answered Nothing custody.Full e l k u h = let z : ◌≡◌ {A = ℕ} 1 0 = code_accepted custody.Full h in absurd (omega arith)
-  answered Nothing custody.Duplicate e l k u h = let z : ◌≡◌ {A = ℕ} 2 0 = code_accepted custody.Duplicate h in absurd (omega arith)
-  answered Nothing custody.Off e l k u h = let z : ◌≡◌ {A = ℕ} 3 0 = code_accepted custody.Off h in absurd (omega arith)
-  answered Nothing custody.Invalid e l k u h = let z : ◌≡◌ {A = ℕ} 4 0 = code_accepted custody.Invalid h in absurd (omega arith)
+  answered None custody.Full e l k u h = let z : ◌≡◌ {A = ℕ} 1 0 = code_accepted custody.Full h in absurd (omega arith)
+  answered None custody.Duplicate e l k u h = let z : ◌≡◌ {A = ℕ} 2 0 = code_accepted custody.Duplicate h in absurd (omega arith)
+  answered None custody.Off e l k u h = let z : ◌≡◌ {A = ℕ} 3 0 = code_accepted custody.Off h in absurd (omega arith)
+  answered None custody.Invalid e l k u h = let z : ◌≡◌ {A = ℕ} 4 0 = code_accepted custody.Invalid h in absurd (omega arith)
 
   -- the tests that an envelope has passed that is answered with code 0, and what its call does
   pub code_0 : (step s (Calls.envelope replies actions window peer head ct)).replies ≡ custody_reply head.tag custody.Accepted ∷ []

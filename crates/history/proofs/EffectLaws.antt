@@ -1,16 +1,13 @@
 -- Each call does one of the things that `Effects` lists.
 -- Assumes nothing.
-use Rattle.std.proofs.Common.{◌≡◌, ℕ, ◌+◌, ◌-◌, ◌<◌, min, Bool, true, false, cond, not, ◌&&◌, eqb, ltb, leb, List, [], ◌∷◌, ◌++◌, length, get_or, sym, refl, ap, ◌∙◌, subst, arith, ltb-false, leb-false, leb-true}
+use Rattle.std.proofs.Common.{◌≡◌, ℕ, ◌+◌, ◌-◌, ◌<◌, min, Bool, true, false, cond, not, ◌&&◌, eqb, ltb, leb, List, [], ◌∷◌, ◌++◌, length, get_or, sym, refl, ap, ◌∙◌, subst, arith, ltb-false, leb-false, leb-true, Option, Some, None}
 use mathlib.Core.Bool.{false≢true}
-use mathlib.Core.Option as option
 use borrow.Author.Tests.{not-true, not-false}
 use Rattle.courier_core.specs.Core.{first_of}
 use Rattle.courier_core.specs.declared.ContactId.{ContactId}
 use Rattle.courier_core.specs.declared.Verification.{Verification}
 use Rattle.courier_core.specs.declared.Refusal.{Refusal}
 use Rattle.courier_core.specs.declared.Refusal.TheVariants as refusal
-use Rattle.table.specs.declared.Found.{Found}
-use Rattle.table.specs.declared.Found.TheVariants.{At, Nothing}
 use Rattle.table.specs.Lists.{any, position, is_at, unwrap_or, remove_at, replace_at}
 use Rattle.table.proofs.ListLaws.{all_each, all_imp}
 use Rattle.table.proofs.FindLaws.{position_any, position_first, any_none}
@@ -56,9 +53,9 @@ pub and_true : (a b : Bool) → (a && b) ≡ true → (a ≡ true) × (b ≡ tru
 and_true true b h = (refl, h)
 and_true false b h = absurd (false≢true h)
 
-found_at : (f : Found) → not (is_at f) ≡ false → f ≡ At (unwrap_or 0 f)
-found_at (At i) e = refl
-found_at Nothing e = absurd (false≢true (sym e))
+found_at : (f : Option ℕ) → not (is_at f) ≡ false → f ≡ Some (unwrap_or 0 f)
+found_at (Some i) e = refl
+found_at None e = absurd (false≢true (sym e))
 
 either_way : (b : Bool) → ◌≡◌ {A = ℕ} (cond b 0 0) 0
 either_way true = refl
@@ -183,19 +180,19 @@ module _ (s : State) where
     c : Call
     c = Calls.envelope replies actions window peer head ct
 
-    answer_effect : (f : Found) (code : Custody) → custody_of s peer head (length ct) ≡ code → lookup (window_rows window) head.tag ≡ f
+    answer_effect : (f : Option ℕ) (code : Custody) → custody_of s peer head (length ct) ≡ code → lookup (window_rows window) head.tag ≡ f
         → known s.contacts peer ≡ true → (accepts s (window_rows window) peer head (length ct) && cells_used (length s.carried_cells) (carried_named s)) ≡ false
         → Effects.Effect s c (match_found f (λ i. ours_at (get_or (window_rows window) i no_reachable)) (answer_custody s peer head ct code))
     unfolding c ours_at answer_custody apply carry accepts
-    answer_effect (At i) code e l k u = quiet c (ours_at (get_or (window_rows window) i no_reachable)) refl idle
-    answer_effect Nothing custody.Accepted e l k u =
+    answer_effect (Some i) code e l k u = quiet c (ours_at (get_or (window_rows window) i no_reachable)) refl idle
+    answer_effect None custody.Accepted e l k u =
         let used : cells_used (length s.carried_cells) (carried_named s) ≡ false =
         and_false (not (is_at (lookup (window_rows window) head.tag)) && is_accepted (custody_of s peer head (length ct))) (cells_used (length s.carried_cells) (carried_named s)) (rw (e, l)) u in
         record { held = Effects.gave replies actions window peer head ct (placed k used e) refl; own = Effects.same; contacts = Effects.same tt }
-    answer_effect Nothing custody.Full e l k u = quiet c (answer_custody s peer head ct custody.Full) refl idle
-    answer_effect Nothing custody.Duplicate e l k u = quiet c (answer_custody s peer head ct custody.Duplicate) refl idle
-    answer_effect Nothing custody.Off e l k u = quiet c (answer_custody s peer head ct custody.Off) refl idle
-    answer_effect Nothing custody.Invalid e l k u = quiet c (answer_custody s peer head ct custody.Invalid) refl idle
+    answer_effect None custody.Full e l k u = quiet c (answer_custody s peer head ct custody.Full) refl idle
+    answer_effect None custody.Duplicate e l k u = quiet c (answer_custody s peer head ct custody.Duplicate) refl idle
+    answer_effect None custody.Off e l k u = quiet c (answer_custody s peer head ct custody.Off) refl idle
+    answer_effect None custody.Invalid e l k u = quiet c (answer_custody s peer head ct custody.Invalid) refl idle
 
     envelope_effect : Passed (envelope_tests s replies actions window peer head (length ct)) → Effects.Effect s (Calls.envelope replies actions window peer head ct) (receive_envelope s (window_rows window) peer head ct)
     unfolding c envelope_tests receive_envelope
@@ -216,13 +213,13 @@ module _ (s : State) where
     absent : (o : Result) → o.answer ≡ done → any (carried_of_tag tag) s.carried ≡ false → Effects.Unhanded s o (code_for tag custody.Accepted)
     absent o d e = all_imp (λ r q. rw (d, q)) s.carried (any_none (carried_of_tag tag) s.carried e)
 
-    settled : (acts : List Action) (j : ℕ) → position (offer_of_tag tag) offered ≡ At j → (f h : Found) → position (carried_of_tag tag) s.carried ≡ f
+    settled : (acts : List Action) (j : ℕ) → position (offer_of_tag tag) offered ≡ Some j → (f h : Option ℕ) → position (carried_of_tag tag) s.carried ≡ f
         → position (own_of_tag tag) s.own ≡ h
         → Effects.Effect s code0 (result done [] acts (offered_now (remove_at j offered)
         and match_found f (λ i. carried_now (replace_at i (lowered (get_or offered j no_offer).copies (get_or s.carried i no_carried)) s.carried))
         (match_found h (λ i. own_now (replace_at i (own_lowered (get_or offered j no_offer).copies (get_or s.own i no_own)) s.own)) nothing)))
     unfolding apply
-    settled acts j e (At i) h p q =
+    settled acts j e (Some i) h p q =
         let n : offered_copies offered tag ≡ (get_or offered j no_offer).copies = rw e in
         record {
           held = subst (λ (k : ℕ). Effects.HeldStep s
@@ -232,7 +229,7 @@ module _ (s : State) where
           own = Effects.same;
           contacts = Effects.same tt;
         }
-    settled acts j e Nothing (At i) p q =
+    settled acts j e None (Some i) p q =
         let none-there : any (carried_of_tag tag) s.carried ≡ false = sym (position_any (carried_of_tag tag) 0 s.carried) ∙ ap is_at p in
         let o : Result = result done [] acts (offered_now (remove_at j offered) and own_now (replace_at i (own_lowered (get_or offered j no_offer).copies (get_or s.own i no_own)) s.own)) in
         record {
@@ -240,7 +237,7 @@ module _ (s : State) where
           own = Effects.lowers i (get_or offered j no_offer).copies (position_first (own_of_tag tag) s.own no_own i q).inside;
           contacts = Effects.same tt;
         }
-    settled acts j e Nothing Nothing p q =
+    settled acts j e None None p q =
         let none-there : any (carried_of_tag tag) s.carried ≡ false = sym (position_any (carried_of_tag tag) 0 s.carried) ∙ ap is_at p in
         let o : Result = result done [] acts (offered_now (remove_at j offered) and nothing) in
         record { held = Effects.same (absent o refl none-there); own = Effects.same; contacts = Effects.same tt }
@@ -255,14 +252,14 @@ module _ (s : State) where
     unfolding receive_custody settle handed_over
     code_effect code = go (position (offer_of_tag tag) offered) refl code
       where
-        go : (f : Found) → position (offer_of_tag tag) offered ≡ f → (code : Custody)
+        go : (f : Option ℕ) → position (offer_of_tag tag) offered ≡ f → (code : Custody)
             → Effects.Effect s (Calls.custody_answer actions peer tag code) (match_found f (settle s tag code) (only done))
-        go (At j) e custody.Accepted = settled (handed_actions s.own s.carried tag) j e (position (carried_of_tag tag) s.carried) (position (own_of_tag tag) s.own) refl refl
-        go (At j) e custody.Full = nods custody.Full (settle s tag custody.Full j) refl (cleared j) refl
-        go (At j) e custody.Duplicate = nods custody.Duplicate (settle s tag custody.Duplicate j) refl (cleared j) refl
-        go (At j) e custody.Off = nods custody.Off (settle s tag custody.Off j) refl (cleared j) refl
-        go (At j) e custody.Invalid = nods custody.Invalid (settle s tag custody.Invalid j) refl (cleared j) refl
-        go Nothing e code = at_rest (Calls.custody_answer actions peer tag code) (only done)
+        go (Some j) e custody.Accepted = settled (handed_actions s.own s.carried tag) j e (position (carried_of_tag tag) s.carried) (position (own_of_tag tag) s.own) refl refl
+        go (Some j) e custody.Full = nods custody.Full (settle s tag custody.Full j) refl (cleared j) refl
+        go (Some j) e custody.Duplicate = nods custody.Duplicate (settle s tag custody.Duplicate j) refl (cleared j) refl
+        go (Some j) e custody.Off = nods custody.Off (settle s tag custody.Off j) refl (cleared j) refl
+        go (Some j) e custody.Invalid = nods custody.Invalid (settle s tag custody.Invalid j) refl (cleared j) refl
+        go None e code = at_rest (Calls.custody_answer actions peer tag code) (only done)
             (all_each (λ r. ap (λ (n : ℕ). cond (is_accepted code && carried_of_tag tag r) n 0) (rw e) ∙ either_way (is_accepted code && carried_of_tag tag r)) s.carried) tt idle
 
   -- ---- tombstones
@@ -306,12 +303,12 @@ module _ (s : State) where
     abbrev tombed : Call
     tombed = Calls.tomb actions peer tag secret
 
-    abbrev met_at : Found → Found → Met
+    abbrev met_at : Option ℕ → Option ℕ → Met
     met_at f h =
         match_found f (λ i. cond (tombstone_matches (get_or s.carried i no_carried).c secret) (carried_at i) wrong)
         (match_found h (λ i. cond (tombstone_matches (commitment_of (get_or s.own i no_own).s) secret) (own_at i) wrong) unknown)
 
-    met_carried : (b : Bool) (i : ℕ) → tombstone_matches (get_or s.carried i no_carried).c secret ≡ b → position (carried_of_tag tag) s.carried ≡ At i
+    met_carried : (b : Bool) (i : ℕ) → tombstone_matches (get_or s.carried i no_carried).c secret ≡ b → position (carried_of_tag tag) s.carried ≡ Some i
         → Effects.Effect s tombed (receive_tomb s tag secret (cond b (carried_at i) wrong))
     unfolding receive_tomb turn apply
     met_carried true i m p = record { held = Effects.turns actions peer tag secret i p m refl; own = Effects.same; contacts = Effects.same tt }
@@ -326,11 +323,11 @@ module _ (s : State) where
     unfolding meets receive_tomb
     tomb_effect = go (position (carried_of_tag tag) s.carried) (position (own_of_tag tag) s.own) refl refl
       where
-        go : (f h : Found) → position (carried_of_tag tag) s.carried ≡ f → position (own_of_tag tag) s.own ≡ h
+        go : (f h : Option ℕ) → position (carried_of_tag tag) s.carried ≡ f → position (own_of_tag tag) s.own ≡ h
             → Effects.Effect s tombed (receive_tomb s tag secret (met_at f h))
-        go (At i) h e k = met_carried (tombstone_matches (get_or s.carried i no_carried).c secret) i refl e
-        go Nothing (At i) e k = met_own (tombstone_matches (commitment_of (get_or s.own i no_own).s) secret) i (position_first (own_of_tag tag) s.own no_own i k).inside
-        go Nothing Nothing e k = quiet tombed (only done) refl idle
+        go (Some i) h e k = met_carried (tombstone_matches (get_or s.carried i no_carried).c secret) i refl e
+        go None (Some i) e k = met_own (tombstone_matches (commitment_of (get_or s.own i no_own).s) secret) i (position_first (own_of_tag tag) s.own no_own i k).inside
+        go None None e k = quiet tombed (only done) refl idle
 
   -- ---- own rows, maintenance
 
@@ -369,17 +366,17 @@ module _ (s : State) where
   unfolding receive_fetch fetched
   fetch_idle peer tag = go (find (envelope_of_tag tag) (envelopes s.own s.carried peer))
     where
-      go : (x : option.Option Envelope) → Idle (match_some x (fetched s) (only missing)).change
-      go option.none = idle_nothing
-      go (option.some e) = idle_nothing
+      go : (x : Option Envelope) → Idle (match_some x (fetched s) (only missing)).change
+      go None = idle_nothing
+      go (Some e) = idle_nothing
 
   pub blob_idle : (slot : ℕ) → Idle (row_blob_of s slot).change
   unfolding row_blob_of
   blob_idle slot = go (find (λ (h : Slotted). eqb h.slot slot) (held_rows s))
     where
-      go : (x : option.Option Slotted) → Idle (match_some x (λ h. writes (held_row h.held)) (only missing)).change
-      go option.none = idle_nothing
-      go (option.some h) = idle_nothing
+      go : (x : Option Slotted) → Idle (match_some x (λ h. writes (held_row h.held)) (only missing)).change
+      go None = idle_nothing
+      go (Some h) = idle_nothing
 
   pub failed_idle : (peer : ContactId) (tag : List ℕ) → Idle (report_failed s peer tag).change
   unfolding report_failed

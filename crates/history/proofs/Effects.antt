@@ -1,10 +1,9 @@
 -- What a call does to the tables: six things to held rows, five to own rows, two to contacts.
 -- Assumes nothing.
-use Rattle.std.proofs.Common.{◌≡◌, ℕ, ◌+◌, ◌*◌, ◌<◌, ◌≤◌, true, false, not, ◌&&◌, leb, List, [], ◌∷◌, ◌++◌, length, get_or}
+use Rattle.std.proofs.Common.{◌≡◌, ℕ, ◌+◌, ◌*◌, ◌<◌, ◌≤◌, true, false, not, ◌&&◌, leb, List, [], ◌∷◌, ◌++◌, length, get_or, Some}
 use Rattle.octets.specs.Bytes.{splice}
 use Rattle.courier_core.specs.declared.ContactId.{ContactId}
 use Rattle.courier_core.specs.declared.Verification.{Verification}
-use Rattle.table.specs.declared.Found.TheVariants.{At}
 use Rattle.table.specs.Lists.{All, any, filter, position, remove_at, replace_at}
 use Rattle.courier.specs.declared.Header.{Header}
 use Rattle.courier.specs.declared.Custody.TheVariants as custody
@@ -38,7 +37,7 @@ pub record Placed (s : State) (peer : ContactId) (head : Header) (len : ℕ) : T
   pub room : length s.carried < 256
   pub below : deposited s.carried peer < quota (is_verified s.contacts peer)
   pub small : len ≤ 2064
-  pub cell : free_cell (length s.carried_cells) (carried_named s) ≡ At (carried_cell s)
+  pub cell : free_cell (length s.carried_cells) (carried_named s) ≡ Some (carried_cell s)
 
 pub data HeldStep (s : State) (o : Result) : Call → List Carried → List Tombstone → ℕ → List ℕ → Type 0 where
   same : {c : Call} → Unhanded s o (role c) → HeldStep s o c s.carried s.tombstones s.next_slot s.carried_cells
@@ -46,14 +45,14 @@ pub data HeldStep (s : State) (o : Result) : Call → List Carried → List Tomb
       → o ≡ answer_custody s peer head ct custody.Accepted
       → HeldStep s o (Calls.envelope replies actions window peer head ct) (s.carried ++ (new_carried s peer head (length ct) ∷ [])) s.tombstones
       (s.next_slot + 1) (splice s.carried_cells (carried_cell s * cell_size) ct)
-  handed_on : (actions : ℕ) (peer : ContactId) (tag : List ℕ) (i : ℕ) → position (carried_of_tag tag) s.carried ≡ At i
+  handed_on : (actions : ℕ) (peer : ContactId) (tag : List ℕ) (i : ℕ) → position (carried_of_tag tag) s.carried ≡ Some i
       → is_refused o.answer ≡ false
       → HeldStep s o (Calls.custody_answer actions peer tag custody.Accepted)
       (replace_at i (lowered (offered_copies s.session.exchange.offered tag) (get_or s.carried i no_carried)) s.carried)
       s.tombstones s.next_slot s.carried_cells
   stored : {c : Call} → Unhanded s o (role c) → (t : Tombstone) → t.slot ≡ s.next_slot
       → HeldStep s o c s.carried (remaining s.tombstones ++ (t ∷ [])) (s.next_slot + 1) s.carried_cells
-  turns : (actions : ℕ) (peer : ContactId) (tag secret : List ℕ) (i : ℕ) → position (carried_of_tag tag) s.carried ≡ At i
+  turns : (actions : ℕ) (peer : ContactId) (tag secret : List ℕ) (i : ℕ) → position (carried_of_tag tag) s.carried ≡ Some i
       → tombstone_matches (get_or s.carried i no_carried).c secret ≡ true → is_refused o.answer ≡ false
       → HeldStep s o (Calls.tomb actions peer tag secret) (remove_at i s.carried)
       (insert_by_slot (turned (get_or s.carried i no_carried) tag secret) s.tombstones) s.next_slot s.carried_cells
@@ -67,7 +66,7 @@ pub record Made (s : State) (new : Own) : Type 0 where
   pub contact_known : known s.contacts new.contact ≡ true
   pub number_new : any (is_message new.contact new.msgno) s.own ≡ false
   pub small : new.len ≤ 2064
-  pub cell : free_cell (length s.own_cells) (own_named s) ≡ At new.cell
+  pub cell : free_cell (length s.own_cells) (own_named s) ≡ Some new.cell
 
 pub data OwnStep (s : State) : List Own → List ℕ → Type 0 where
   same : OwnStep s s.own s.own_cells

@@ -1,15 +1,12 @@
 -- Laws of offers: what a list of them says of a tag after each change that an exchange knows.
 -- Assumes nothing.
-use Rattle.std.proofs.Common.{◌≡◌, ℕ, suc, ◌+◌, Bool, true, false, cond, ◌&&◌, ◌||◌, eqb, List, [], ◌∷◌, ◌++◌, map, get_or, take, drop, sym, refl, ap, ◌∙◌, ap₂, arith, take-append-drop, length-take}
+use Rattle.std.proofs.Common.{◌≡◌, ℕ, suc, ◌+◌, Bool, true, false, cond, ◌&&◌, ◌||◌, eqb, List, [], ◌∷◌, ◌++◌, map, get_or, take, drop, sym, refl, ap, ◌∙◌, ap₂, arith, take-append-drop, length-take, Option, Some, None}
 use mathlib.Core.Bool.{false≢true}
 use mathlib.Core.List.{flat_map}
-use mathlib.Core.Option as option
 use Rattle.octets.specs.Bytes.{same_bytes}
 use Rattle.octets.proofs.Compare.{same_eq}
 use Rattle.octets.proofs.Numbers.{bytes_take}
 use Rattle.courier_core.specs.declared.ContactId.{ContactId}
-use Rattle.table.specs.declared.Found.{Found}
-use Rattle.table.specs.declared.Found.TheVariants.{At, Nothing}
 use Rattle.table.specs.Lists.{All, none, more, any, filter, position, position_from, is_at, remove_at, replace_at}
 use Rattle.table.proofs.ListLaws.{drop_next, all_each, all_imp, all_append, all_map, all_filter, any_append}
 use Rattle.table.proofs.FindLaws.{position_any, position_first, any_none}
@@ -51,21 +48,21 @@ module _ (tag : List ℕ) where
   offered_next : (o : Offer) (os : List Offer) → offered_copies (o ∷ os) tag ≡ cond (offer_of_tag tag o) o.copies (offered_copies os tag)
   unfolding position_from
   offered_next o os =
-      ap (λ (f : Found). match_found (cond (offer_of_tag tag o) (At 0) f) (λ i. (get_or (o ∷ os) i no_offer).copies) 0) (position_shift (offer_of_tag tag) 0 os)
+      ap (λ (f : Option ℕ). match_found (cond (offer_of_tag tag o) (Some 0) f) (λ i. (get_or (o ∷ os) i no_offer).copies) 0) (position_shift (offer_of_tag tag) 0 os)
       ∙ go (offer_of_tag tag o) (position (offer_of_tag tag) os)
     where
-      go : (b : Bool) (f : Found) → match_found (cond b (At 0) (shift f)) (λ i. (get_or (o ∷ os) i no_offer).copies) 0
+      go : (b : Bool) (f : Option ℕ) → match_found (cond b (Some 0) (shift f)) (λ i. (get_or (o ∷ os) i no_offer).copies) 0
           ≡ cond b o.copies (match_found f (λ i. (get_or os i no_offer).copies) 0)
       go true f = refl
-      go false (At i) = refl
-      go false Nothing = refl
+      go false (Some i) = refl
+      go false None = refl
 
   pub offered_none : (os : List Offer) → any (offer_of_tag tag) os ≡ false → offered_copies os tag ≡ 0
   offered_none os e = go (position (offer_of_tag tag) os) refl
     where
-      go : (f : Found) → position (offer_of_tag tag) os ≡ f → match_found f (λ i. (get_or os i no_offer).copies) 0 ≡ 0
-      go (At i) q = absurd (false≢true (sym e ∙ sym (position_any (offer_of_tag tag) 0 os) ∙ ap is_at q))
-      go Nothing q = refl
+      go : (f : Option ℕ) → position (offer_of_tag tag) os ≡ f → match_found f (λ i. (get_or os i no_offer).copies) 0 ≡ 0
+      go (Some i) q = absurd (false≢true (sym e ∙ sym (position_any (offer_of_tag tag) 0 os) ∙ ap is_at q))
+      go None q = refl
 
   offered_append : (xs ys : List Offer) → offered_copies (xs ++ ys) tag ≡ cond (any (offer_of_tag tag) xs) (offered_copies xs tag) (offered_copies ys tag)
   unfolding any
@@ -81,7 +78,7 @@ module _ (tag : List ℕ) where
 
   -- ---- a code clears its tag
 
-  module _ (t : List ℕ) (os : List Offer) (i : ℕ) (p : position (offer_of_tag t) os ≡ At i) (d : OffersDiffer os) where
+  module _ (t : List ℕ) (os : List Offer) (i : ℕ) (p : position (offer_of_tag t) os ≡ Some i) (d : OffersDiffer os) where
     parts : take i os ++ (get_or os i no_offer ∷ drop (i + 1) os) ≡ os
     parts = ap (λ (l : List Offer). take i os ++ l) (sym (drop_next os i no_offer (position_first (offer_of_tag t) os no_offer i p).inside)) ∙ take-append-drop i os
 
@@ -123,14 +120,14 @@ module _ (tag : List ℕ) where
       → insert_offer e (o ∷ os) ≡ cond (offer_of_tag e.head.tag o) (offer_for e ∷ os) (o ∷ insert_offer e os)
   unfolding insert_offer position_from replace_at
   insert_next e o os =
-      ap (λ (f : Found). match_found (cond (offer_of_tag e.head.tag o) (At 0) f) (λ i. replace_at i (offer_for e) (o ∷ os)) ((o ∷ os) ++ (offer_for e ∷ [])))
+      ap (λ (f : Option ℕ). match_found (cond (offer_of_tag e.head.tag o) (Some 0) f) (λ i. replace_at i (offer_for e) (o ∷ os)) ((o ∷ os) ++ (offer_for e ∷ [])))
       (position_shift (offer_of_tag e.head.tag) 0 os) ∙ go (offer_of_tag e.head.tag o) (position (offer_of_tag e.head.tag) os)
     where
-      go : (b : Bool) (f : Found) → match_found (cond b (At 0) (shift f)) (λ i. replace_at i (offer_for e) (o ∷ os)) ((o ∷ os) ++ (offer_for e ∷ []))
+      go : (b : Bool) (f : Option ℕ) → match_found (cond b (Some 0) (shift f)) (λ i. replace_at i (offer_for e) (o ∷ os)) ((o ∷ os) ++ (offer_for e ∷ []))
           ≡ cond b (offer_for e ∷ os) (o ∷ match_found f (λ i. replace_at i (offer_for e) os) (os ++ (offer_for e ∷ [])))
       go true f = refl
-      go false (At i) = let q : suc i + 1 ≡ suc (i + 1) = omega arith in ap (λ (n : ℕ). o ∷ (take i os ++ (offer_for e ∷ drop n (o ∷ os)))) q
-      go false Nothing = refl
+      go false (Some i) = let q : suc i + 1 ≡ suc (i + 1) = omega arith in ap (λ (n : ℕ). o ∷ (take i os ++ (offer_for e ∷ drop n (o ∷ os)))) q
+      go false None = refl
 
   insert_first : (e : Envelope) → insert_offer e [] ≡ offer_for e ∷ []
   unfolding insert_offer position_from
@@ -194,18 +191,18 @@ fetch_kind bad ts window peer prefix = go (lookup window prefix)
     by true t = none
     by false t = more refl none
 
-    go : (f : Found) → All (λ (r : Reply). eqb r.kind 1 ≡ false)
+    go : (f : Option ℕ) → All (λ (r : Reply). eqb r.kind 1 ≡ false)
         (match_found f (λ i. cond (not_fetched bad ts peer (get_or window i no_reachable).tag) [] (fetch_reply (get_or window i no_reachable).tag ∷ [])) [])
-    go (At i) = by (not_fetched bad ts peer (get_or window i no_reachable).tag) (get_or window i no_reachable).tag
-    go Nothing = none
+    go (Some i) = by (not_fetched bad ts peer (get_or window i no_reachable).tag) (get_or window i no_reachable).tag
+    go None = none
 
 tomb_kind : (ts : List Tombstone) (prefix : List ℕ) → All (λ (r : Reply). eqb r.kind 1 ≡ false) (tomb_for ts prefix)
 unfolding tomb_for
 tomb_kind ts prefix = go (find (has_prefix prefix) ts)
   where
-    go : (x : option.Option Tombstone) → All (λ (r : Reply). eqb r.kind 1 ≡ false) (match_some x (λ t. tomb_reply t.tag t.s ∷ []) [])
-    go option.none = none
-    go (option.some t) = more refl none
+    go : (x : Option Tombstone) → All (λ (r : Reply). eqb r.kind 1 ≡ false) (match_some x (λ t. tomb_reply t.tag t.s ∷ []) [])
+    go None = none
+    go (Some t) = more refl none
 
 -- ---- the headers that are sent are whole
 
@@ -253,12 +250,12 @@ insert_differ : (e : Envelope) (os : List Offer) → OffersDiffer os → OffersD
 unfolding insert_offer
 insert_differ e os d = go (position (offer_of_tag e.head.tag) os) refl
   where
-    go : (f : Found) → position (offer_of_tag e.head.tag) os ≡ f → OffersDiffer (match_found f (λ i. replace_at i (offer_for e) os) (os ++ (offer_for e ∷ [])))
-    go (At i) p =
+    go : (f : Option ℕ) → position (offer_of_tag e.head.tag) os ≡ f → OffersDiffer (match_found f (λ i. replace_at i (offer_for e) os) (os ++ (offer_for e ∷ [])))
+    go (Some i) p =
         let first = position_first (offer_of_tag e.head.tag) os no_offer i p in
         became_sorted {G = λ (x : Offer). Unit {0}} {S = λ (x y : Offer). y.tag ≡ x.tag} (λ x y z w a b h q. h (sym a ∙ q ∙ b))
         (became_replaced os i no_offer (offer_for e) first.inside (sym (same_eq (get_or os i no_offer).tag e.head.tag first.holds)) (all_each (λ x. refl) (take i os)) (all_each (λ x. refl) (drop (i + 1) os))) d
-    go Nothing p =
+    go None p =
         sorted_push os (offer_for e) d
         (all_imp (λ o q z. unlike o.tag e.head.tag q z) os (any_none (offer_of_tag e.head.tag) os (sym (position_any (offer_of_tag e.head.tag) 0 os) ∙ ap is_at p)))
 

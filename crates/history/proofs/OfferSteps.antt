@@ -1,6 +1,6 @@
 -- What the exchanges have offered after a list of calls is what the calls and their replies say.
 -- Assumes nothing.
-use Rattle.std.proofs.Common.{◌≡◌, ℕ, zero, suc, ◌+◌, ◌/◌, ◌%◌, ◌≤◌, min, Bool, true, false, cond, eqb, ltb, List, [], ◌∷◌, ◌++◌, length, get_or, set, sym, refl, ap, ◌∙◌, subst, arith, get_or-set_other, get_or-set_same, ltb-false, ltb-true, eq-eqb, ne_eqb, eqb-true}
+use Rattle.std.proofs.Common.{◌≡◌, ℕ, zero, suc, ◌+◌, ◌/◌, ◌%◌, ◌≤◌, min, Bool, true, false, cond, eqb, ltb, List, [], ◌∷◌, ◌++◌, length, get_or, set, sym, refl, ap, ◌∙◌, subst, arith, get_or-set_other, get_or-set_same, ltb-false, ltb-true, eq-eqb, ne_eqb, eqb-true, Option, Some, None}
 use lib.ListN.{get_or-eq_default}
 use borrow.Author.Tests.{eqb-false}
 use Rattle.octets.specs.Bytes.{same_bytes}
@@ -8,8 +8,6 @@ use Rattle.octets.proofs.Compare.{same_eq}
 use Rattle.courier_core.specs.Core.{first_of}
 use Rattle.courier_core.specs.declared.ContactId.{ContactId}
 use Rattle.courier_core.specs.declared.Refusal.{Refusal}
-use Rattle.table.specs.declared.Found.{Found}
-use Rattle.table.specs.declared.Found.TheVariants.{At, Nothing}
 use Rattle.table.specs.Lists.{All, none, more, any, position, position_from, is_at}
 use Rattle.table.specs.Rows.{ragged, held}
 use Rattle.table.specs.Codec.{table_of}
@@ -88,13 +86,13 @@ module _ (s : State) where
     unfolding receive_envelope ours_at answer_custody carry
     envelope_still window peer head ct = go (lookup window head.tag) (custody_of s peer head (length ct))
       where
-        go : (f : Found) (code : Custody) → (match_found f (λ i. ours_at (get_or window i no_reachable)) (answer_custody s peer head ct code)).change.offered ≡ keep
-        go (At i) code = refl
-        go Nothing custody.Accepted = refl
-        go Nothing custody.Full = refl
-        go Nothing custody.Duplicate = refl
-        go Nothing custody.Off = refl
-        go Nothing custody.Invalid = refl
+        go : (f : Option ℕ) (code : Custody) → (match_found f (λ i. ours_at (get_or window i no_reachable)) (answer_custody s peer head ct code)).change.offered ≡ keep
+        go (Some i) code = refl
+        go None custody.Accepted = refl
+        go None custody.Full = refl
+        go None custody.Duplicate = refl
+        go None custody.Off = refl
+        go None custody.Invalid = refl
 
     store_still : (tag secret : List ℕ) (expiry : ℕ) → (store_tombstone s tag secret expiry).offered ≡ keep
     unfolding store_tombstone
@@ -126,9 +124,9 @@ module _ (s : State) where
     unfolding receive_custody settle
     code_follows actions peer t code = go (position (offer_of_tag t) offered) refl
       where
-        go : (f : Found) → position (offer_of_tag t) offered ≡ f → Follows (Calls.custody_answer actions peer t code) (match_found f (settle s t code) (only done))
-        go (At i) e = record { differ = removed_differ i offered d; says = λ tag. offered_cleared tag t offered i e d }
-        go Nothing e = still (Calls.custody_answer actions peer t code) (only done) refl (λ tag. by tag (same_bytes t tag) refl)
+        go : (f : Option ℕ) → position (offer_of_tag t) offered ≡ f → Follows (Calls.custody_answer actions peer t code) (match_found f (settle s t code) (only done))
+        go (Some i) e = record { differ = removed_differ i offered d; says = λ tag. offered_cleared tag t offered i e d }
+        go None e = still (Calls.custody_answer actions peer t code) (only done) refl (λ tag. by tag (same_bytes t tag) refl)
           where
             by : (tag : List ℕ) (b : Bool) → same_bytes t tag ≡ b → offered_copies offered tag ≡ cond b 0 (offered_copies offered tag)
             by tag true q =

@@ -1,11 +1,10 @@
 -- What a call makes of the carried rows: some leave, the others lose the copies that are handed over, and at most one is given.
 -- Assumes nothing.
-use Rattle.std.proofs.Common.{◌≡◌, ℕ, ◌+◌, ◌-◌, ◌*◌, ◌≤◌, Bool, true, false, not, List, [], ◌∷◌, ◌++◌, length, get_or, take, drop, sym, refl, ap, ◌∙◌, append-nil, arith, leb-true}
+use Rattle.std.proofs.Common.{◌≡◌, ℕ, ◌+◌, ◌-◌, ◌*◌, ◌≤◌, Bool, true, false, not, List, [], ◌∷◌, ◌++◌, length, get_or, take, drop, sym, refl, ap, ◌∙◌, append-nil, arith, leb-true, Some}
 use borrow.Author.Tests.{not-false}
 use Rattle.octets.specs.Bytes.{splice, same_bytes}
 use Rattle.octets.proofs.Compare.{same_eq}
 use Rattle.courier_core.specs.declared.ContactId.{ContactId}
-use Rattle.table.specs.declared.Found.TheVariants.{At}
 use Rattle.table.specs.Lists.{position, remove_at, replace_at}
 use Rattle.table.proofs.ListLaws.{all_each, all_imp}
 use Rattle.table.proofs.FindLaws.{First, position_first, any_none}
@@ -110,7 +109,7 @@ module _ (s : State) (o : Result) where
   unchanged : {c : Call} → Unhanded s o (role c) → Thinned c s.carried
   unchanged {c = c} u = became_same s.carried (all_imp (λ r e. stays_as (role c) r e) s.carried u)
 
-  module _ (tag : List ℕ) (i : ℕ) (p : position (carried_of_tag tag) s.carried ≡ At i) where
+  module _ (tag : List ℕ) (i : ℕ) (p : position (carried_of_tag tag) s.carried ≡ Some i) where
     first : First (carried_of_tag tag) s.carried no_carried i
     first = position_first (carried_of_tag tag) s.carried no_carried i p
 

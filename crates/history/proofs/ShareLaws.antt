@@ -1,14 +1,12 @@
 -- With 256 cells and at most seven other depositors the test Full is P's quota alone.
 -- Assumes nothing.
-use Rattle.std.proofs.Common.{◌≡◌, ℕ, ◌+◌, ◌/◌, ◌<◌, ◌≤◌, Bool, true, false, cond, not, ◌||◌, ltb, leb, List, [], ◌∷◌, length, take, drop, sym, refl, ap, ◌∙◌, ap₂, le_refl, arith, take-take, le-ltb, eq-eqb, ne_eqb, le-leb, leb-false}
+use Rattle.std.proofs.Common.{◌≡◌, ℕ, ◌+◌, ◌/◌, ◌<◌, ◌≤◌, Bool, true, false, cond, not, ◌||◌, ltb, leb, List, [], ◌∷◌, length, take, drop, sym, refl, ap, ◌∙◌, ap₂, le_refl, arith, take-take, le-ltb, eq-eqb, ne_eqb, le-leb, leb-false, Option, Some, None}
 use mathlib.Core.Bool.{false≢true}
 use lib.ListN.{length-map}
 use borrow.Author.Tests.{lt-leb}
 use Rattle.octets.specs.Bytes.{part, same_bytes}
 use Rattle.courier_core.specs.declared.ContactId.{ContactId}
 use Rattle.courier_core.specs.declared.Refusal.TheVariants as refusal
-use Rattle.table.specs.declared.Found.{Found}
-use Rattle.table.specs.declared.Found.TheVariants.{At, Nothing}
 use Rattle.table.specs.Lists.{All, more, any, position, is_at}
 use Rattle.table.specs.Rows.{rows, held}
 use Rattle.table.specs.Codec.{table_of}
@@ -50,14 +48,14 @@ same_tests tag [] e a = refl
 same_tests tag (r ∷ rs) e (more q a) =
     ap₂ (λ (x y : Bool). x || y) (ap (λ (n : ℕ). same_bytes (take n r.tag) tag) e ∙ ap (λ (t : List ℕ). same_bytes t tag) q) (same_tests tag rs e a)
 
-not_found : (window tag : List ℕ) → length tag ≡ 16 → any (λ (r : Reachable). same_bytes r.tag tag) (window_rows window) ≡ false → lookup (window_rows window) tag ≡ Nothing
+not_found : (window tag : List ℕ) → length tag ≡ 16 → any (λ (r : Reachable). same_bytes r.tag tag) (window_rows window) ≡ false → lookup (window_rows window) tag ≡ None
 unfolding lookup
 not_found window tag e h = go (position (λ (r : Reachable). same_bytes (take (length tag) r.tag) tag) (window_rows window)) refl
   where
-    go : (f : Found) → position (λ (r : Reachable). same_bytes (take (length tag) r.tag) tag) (window_rows window) ≡ f → f ≡ Nothing
-    go (At i) q = absurd (false≢true (sym (sym (ap is_at q) ∙ position_any (λ (r : Reachable). same_bytes (take (length tag) r.tag) tag) 0 (window_rows window)
+    go : (f : Option ℕ) → position (λ (r : Reachable). same_bytes (take (length tag) r.tag) tag) (window_rows window) ≡ f → f ≡ None
+    go (Some i) q = absurd (false≢true (sym (sym (ap is_at q) ∙ position_any (λ (r : Reachable). same_bytes (take (length tag) r.tag) tag) 0 (window_rows window)
         ∙ same_tests tag (window_rows window) e (tags_short window) ∙ h)))
-    go Nothing q = refl
+    go None q = refl
 
 -- ---- the test Full
 
@@ -87,7 +85,7 @@ module _ (s : State) (g : Limits s.contacts s.carried) (peer : ContactId) (few :
 
   module _ (replies actions : ℕ) (window : List ℕ) (head : Header) (ct : List ℕ) (r : Reaches s replies actions window peer head (length ct))
       (tag16 : length head.tag ≡ 16) where
-    ours_not : lookup (window_rows window) head.tag ≡ Nothing
+    ours_not : lookup (window_rows window) head.tag ≡ None
     ours_not = not_found window head.tag tag16 r.not_ours
 
     -- the tests before Full do not apply

@@ -1,8 +1,6 @@
 -- Laws of sorted lists, and of lists of which some elements go and the others may change.
 -- Assumes nothing.
-use Rattle.std.proofs.Common.{◌≡◌, ℕ, zero, suc, ◌+◌, ◌<◌, ◌≤◌, Bool, true, false, cond, leb, ◌⊎◌, List, [], ◌∷◌, ◌++◌, map, length, get_or, take, drop, sym, refl, ap, ◌∙◌, subst, inl, inr, add-one, arith, take-append-drop, drop_of_length-le, leb-false, leb-true}
-use Rattle.table.specs.declared.Found.{Found}
-use Rattle.table.specs.declared.Found.TheVariants.{At, Nothing}
+use Rattle.std.proofs.Common.{◌≡◌, ℕ, zero, suc, ◌+◌, ◌<◌, ◌≤◌, Bool, true, false, cond, leb, ◌⊎◌, List, [], ◌∷◌, ◌++◌, map, length, get_or, take, drop, sym, refl, ap, ◌∙◌, subst, inl, inr, add-one, arith, take-append-drop, drop_of_length-le, leb-false, leb-true, Option, Some, None}
 use Rattle.table.specs.Lists.{All, none, more, any, filter, count_by, position, is_at, unwrap_or, insert_at, remove_at, replace_at}
 use Rattle.table.proofs.ListLaws.{drop_next, all_append, all_take, all_drop, all_imp}
 use Rattle.table.proofs.FindLaws.{position_any, position_first, any_none}
@@ -125,14 +123,14 @@ module _ {A : Type 0} {R : A → A → Type 0} where
       at_get (y ∷ ys) (suc i) d (more q a) h = at_get ys i d a (omega arith)
       at_get {P = P} [] i d _ h = elim h [ ]
 
-      go : (f : Found) → position p xs ≡ f → Sorted R (take (unwrap_or (length xs) f) xs ++ (x ∷ drop (unwrap_or (length xs) f) xs))
-      go (At i) e =
+      go : (f : Option ℕ) → position p xs ≡ f → Sorted R (take (unwrap_or (length xs) f) xs ++ (x ∷ drop (unwrap_or (length xs) f) xs))
+      go (Some i) e =
           let f = position_first p xs x i e in
           let n : A = get_or xs i x in
           let r : R x n = at_get xs i x high f.inside f.holds in
           let after : All (R x) (drop i xs) = subst (All (R x)) (sym (drop_next xs i x f.inside)) (more r (all_imp (λ y q. trans x n y r q) (drop (i + 1) xs) (sorted_after xs i x f.inside s))) in
           sorted_between (take i xs) (drop i xs) x (kept i) (below i f.before) after
-      go Nothing e =
+      go None e =
           sorted_between (take (length xs) xs) (drop (length xs) xs) x (kept (length xs))
           (all_take (length xs) xs (both xs (any_none p xs (sym (position_any p 0 xs) ∙ ap is_at e)) low))
           (subst (All (R x)) (sym (drop_of_length-le xs {i = length xs} (omega arith))) none)

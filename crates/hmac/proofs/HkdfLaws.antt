@@ -1,31 +1,30 @@
 -- HKDF, block by block. Assumes nothing.
-use mathlib.Core.Path.{◌≡◌, refl, sym, ap, ap₂, ◌∙◌}
+use mathlib.Core.Path.{◌≡◌, refl, sym, ap, ◌∙◌}
 use mathlib.Core.List.{List, [], ◌∷◌, ◌++◌}
-use Prim.Native.Nat.{ℕ, zero, suc, ◌+◌, ◌-◌, ◌*◌, ◌/◌, ◌≤◌, ◌<◌, min}
-use native.Mathlib.Nat.{le_antisymm}
+use Prim.Native.Nat.{ℕ, suc, ◌+◌, ◌-◌, ◌*◌, ◌/◌, ◌≤◌, ◌<◌, min}
 use native.Mathlib.Numerals.{add-one}
 use native.Mathlib.Omega.{arith}
 use lib.ListN.{length, take, replicate, length-append, length-take}
 use mathlib.Core.Logic.{◌⊎◌, inl, inr, ⊎_elim}
 use lib.Seq.{take_all, take-nil, take-append-add}
-use lib.Dec.{leb}
+use lib.Dec.{eqb, leb}
 use mathlib.Core.Bool.{Bool, true, false}
-use borrow.Author.Tests.{eq-eqb, ne_eqb, leb-true, leb-false, le-leb, lt-leb}
+use borrow.Author.Tests.{leb-true, leb-false, le-leb, lt-leb}
 use Rattle.octets.specs.Bytes.{splice}
 use Rattle.octets.proofs.Parts.{length_splice, take_written}
 use Rattle.hmac.specs.Hmac.{K0, keyed, hmac}
 use Rattle.hmac.specs.Hkdf.{extract, T, up_to, expand, hkdf, longest, derived, filled}
-use Rattle.hmac.specs.declared.Derived.TheVariants.{Done, TooLong}
+use Rattle.std.specs.Prelude.{Ok, Err}
 
 -- ---- 2.2
 
-pub no_salt : (salt ikm : List ℕ) → length salt ≡ 0 → hmac (replicate 48 0) ikm ≡ extract salt ikm
+pub no_salt : (salt ikm : List ℕ) → eqb (length salt) 0 ≡ true → hmac (replicate 48 0) ikm ≡ extract salt ikm
 unfolding extract
-no_salt salt ikm e = rw (eq-eqb (length salt) 0 e)
+no_salt salt ikm e = rw e
 
-pub some_salt : (salt ikm : List ℕ) → (length salt ≡ 0 → ⊥) → hmac salt ikm ≡ extract salt ikm
+pub some_salt : (salt ikm : List ℕ) → eqb (length salt) 0 ≡ false → hmac salt ikm ≡ extract salt ikm
 unfolding extract
-some_salt salt ikm h = rw (ne_eqb (length salt) 0 h)
+some_salt salt ikm e = rw e
 
 -- ---- 2.3
 
@@ -100,12 +99,12 @@ take_least r x n l e = ap (λ (k : ℕ). take k r) e ∙ go (leb 48 x) refl
 -- ---- the answer
 
 module _ (ikm salt info out : List ℕ) where
-  pub too_long : longest < length out → (TooLong ≡ derived (length out)) × (out ≡ filled ikm salt info out)
+  pub too_long : longest < length out → (Err (record {}) ≡ derived (length out)) × (out ≡ filled ikm salt info out)
   unfolding derived filled
   too_long h = let e = lt-leb (length out) longest h in (rw e, rw e)
 
   pub fits : (prk out' : List ℕ) → length out ≤ longest → prk ≡ extract salt ikm → out' ≡ expand prk info (length out)
-      → (Done ≡ derived (length out)) × (out' ≡ filled ikm salt info out)
+      → (Ok tt ≡ derived (length out)) × (out' ≡ filled ikm salt info out)
   unfolding derived filled hkdf
   fits prk out' h ep eo =
       let e = le-leb (length out) longest h in

@@ -1,9 +1,8 @@
 -- RFC 5869 with SHA-384: HashLen = 48.
 -- Assumes nothing.
-use Rattle.std.specs.Prelude.{ℕ, zero, suc, ◌+◌, ◌*◌, ◌/◌, cond, List, [], ◌∷◌, ◌++◌, length, take, replicate, eqb, leb}
+use Rattle.std.specs.Prelude.{ℕ, zero, suc, ◌+◌, ◌*◌, ◌/◌, cond, List, [], ◌∷◌, ◌++◌, length, take, replicate, eqb, leb, Result, Ok, Err}
 use Rattle.hmac.specs.Hmac.{hmac}
-use Rattle.hmac.specs.declared.Derived.{Derived}
-use Rattle.hmac.specs.declared.Derived.TheVariants.{Done, TooLong}
+use Rattle.hmac.specs.declared.TooLong.{TooLong}
 
 -- 2.2: PRK = HMAC-Hash(salt, IKM). A salt that is not provided, here an empty one, is HashLen zeros
 unfoldable pub extract : (salt ikm : List ℕ) → List ℕ
@@ -31,8 +30,8 @@ unfoldable pub hkdf : (ikm salt info : List ℕ) (L : ℕ) → List ℕ
 hkdf ikm salt info L = expand (extract salt ikm) info L
 
 -- the answer for an area of L bytes, and what the area holds then
-unfoldable pub derived : ℕ → Derived
-derived L = cond (leb L longest) Done TooLong
+unfoldable pub derived : ℕ → Result (Unit {0}) TooLong
+derived L = cond (leb L longest) (Ok tt) (Err (record {}))
 
 unfoldable pub filled : (ikm salt info out : List ℕ) → List ℕ
 filled ikm salt info out = cond (leb (length out) longest) (hkdf ikm salt info (length out)) out

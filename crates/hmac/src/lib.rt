@@ -1,21 +1,21 @@
 // HMAC (FIPS 198-1) and HKDF (RFC 5869) with SHA-384.
 #![tactic(auto)]
 
-ghost use Rattle.std.specs.Prelude.{◌≡◌, List, [], ◌∷◌, ◌++◌, ℕ, ◌+◌, ◌-◌, ◌*◌, ◌^◌, ◌≤◌, ◌<◌, length, take};
+ghost use Rattle.std.specs.Prelude.{◌≡◌, List, [], ◌∷◌, ◌++◌, ℕ, ◌+◌, ◌-◌, ◌*◌, ◌≤◌, ◌<◌, length, take};
 ghost use Rattle.octets.specs.Bytes.{splice};
-ghost use Rattle.sha_block.specs.Constants.{K};
 ghost use Rattle.hasher.specs.Taken.{Taken};
+ghost use Rattle.hasher.specs.Parts.{joined};
 ghost use Rattle.hmac.specs.Hmac.{K0, padded, ipad, keyed, hmac as hmac_of};
 ghost use Rattle.hmac.specs.Hkdf.{extract as extract_of, expand as expand_of, longest, derived, filled};
 
 use hasher::Hasher;
-use octets::least;
+use hasher::parts::Parts;
 
 // Section 4, steps 1 to 3: the key as one block.
 fn block_key(key: &[u8]) -> [u8; 128]
     ensures { result ≡ K0 key.now }
 {
-    let mut k0 = [0u8; 128];
+    let mut k0 = [0; 128];
     if 128 < key.len() {
         let hashed = sha384::hash(key);
         octets::copy_in(&mut k0, 0, &hashed);
@@ -29,146 +29,124 @@ fn block_key(key: &[u8]) -> [u8; 128]
 fn pad(k0: [u8; 128], byte: u8) -> [u8; 128]
     ensures { result ≡ padded k0 byte }
 {
-    let mut out = [0u8; 128];
-    let mut i = 0;
-    while i < 128 {
-        out[i] = k0[i] ^ byte;
-        i += 1;
+    let mut out = k0;
+    for x in &mut out {
+        *x ^= byte;
     }
     out
 }
 
-// Steps 4 and 5, of a text that comes in parts: a hasher that is to take them. k are the constants of SHA-384.
-fn begin(k: &[u64; 80], k0: [u8; 128]) -> Hasher
-    requires { k.now ≡ K }
+// Steps 4 and 5, of a text that comes in parts: a hasher that is to take them.
+fn begin(k0: [u8; 128]) -> Hasher
     ensures taken { Taken result (padded k0 ipad) }
     ensures len_value { result.len ≡ 128 }
 {
     let inner = pad(k0, 0x36);
-    hasher::update(k, hasher::start(), &inner)
+    Hasher::new().update(&inner)
 }
 
 // Steps 6 to 9, with the hasher that has taken the text.
-fn end(k: &[u64; 80], k0: [u8; 128], s: Hasher) -> [u8; 48]
-    requires { k.now ≡ K }
+fn end(k0: [u8; 128], s: Hasher) -> [u8; 48]
     ensures { (text : List ℕ) → Taken s (padded k0 ipad ++ text) → result ≡ keyed k0 text }
 {
-    let h = hasher::finish(k, s);
+    let h = s.finish();
     let outer = pad(k0, 0x5c);
     sha384::hash_after(&outer, &h)
 }
 
-// HMAC of a text in three parts. The first two are short, so that the length of the whole has 64 bits.
-pub fn hmac_parts(key: &[u8], first: &[u8], second: &[u8], third: &[u8]) -> [u8; 48]
-    requires { length first.now + length second.now < 2 ^ 62 }
-    ensures { result ≡ hmac_of key.now (first.now ++ second.now ++ third.now) }
+// HMAC of a text in parts.
+pub fn hmac_parts(key: &[u8], text: Parts<'_>) -> [u8; 48]
+    ensures { result ≡ hmac_of key.now (joined text.entry) }
 {
-    let k = sha_block::constants();
     let k0 = block_key(key);
-    let s = begin(&k, k0);
-    let t = hasher::update_parts(&k, s, first, second, third);
-    end(&k, k0, t)
+    end(k0, begin(k0).update_parts(text))
 }
 
 // HMAC of a text under a key, both of any length.
 pub fn hmac(key: &[u8], text: &[u8]) -> [u8; 48]
     ensures { result ≡ hmac_of key.now text.now }
 {
-    hmac_parts(key, b"", b"", text)
+    let text = Parts {
+        first: b"",
+        second: b"",
+        third: text,
+    };
+    hmac_parts(key, text)
 }
 
 // RFC 5869, 2.2.
 pub fn extract(salt: &[u8], ikm: &[u8]) -> [u8; 48]
     ensures { result ≡ extract_of salt.now ikm.now }
 {
-    if salt.len() == 0 {
-        let zeros = [0u8; 48];
-        return hmac(&zeros, ikm);
+    if salt.is_empty() {
+        return hmac(&[0; 48], ikm);
     }
     hmac(salt, ikm)
 }
 
-// 2.3: HMAC of T(i - 1) | info | i, which is T(i). The info comes in three parts.
-fn next_block(
-    k: &[u64; 80],
-    k0: [u8; 128],
-    previous: &[u8],
-    first: &[u8],
-    second: &[u8],
-    third: &[u8],
-    i: u8,
-) -> [u8; 48]
-    requires k_value { k.now ≡ K }
-    requires previous_len_bound { (length previous.now ≤ 48) × (length first.now + length second.now < 2 ^ 62) }
-    ensures { result ≡ keyed k0 (previous.now ++ (first.now ++ second.now ++ third.now) ++ (i ∷ [])) }
+// 2.3: HMAC of T(i - 1) | info | i, which is T(i).
+fn next_block(k0: [u8; 128], previous: &[u8], info: Parts<'_>, i: u8) -> [u8; 48]
+    requires previous_len_bound { length previous.now ≤ 48 }
+    ensures { result ≡ keyed k0 (previous.now ++ joined info.entry ++ (i ∷ [])) }
 {
-    let counter = [i];
-    let s = begin(k, k0);
-    let a = hasher::update(k, s, previous);
-    let b = hasher::update_parts(k, a, first, second, third);
-    let c = hasher::update(k, b, &counter);
-    end(k, k0, c)
+    let s = begin(k0).update(previous).update_parts(info).update(&[i]);
+    end(k0, s)
 }
 
-// T(i + 1), from T(i), which is the first `have` bytes of t; it is written at 48 i of out, as far as there is room.
+// T(i + 1), from T(i); it is written at 48 i of out, as far as there is room.
 fn expand_more(
-    k: &[u64; 80],
     k0: [u8; 128],
-    t: [u8; 48],
-    have: usize,
-    first: &[u8],
-    second: &[u8],
-    third: &[u8],
+    previous: &[u8],
+    info: Parts<'_>,
     out: &mut [u8],
     i: usize,
 ) -> [u8; 48]
-    requires k_value { k.now ≡ K }
-    requires have_bound { (have ≤ 48) × (i < 255) × (48 * i < length out.old) × (length first.now + length second.now < 2 ^ 62) }
-    ensures value { result ≡ keyed k0 (take have t ++ (first.now ++ second.now ++ third.now) ++ ((i + 1) ∷ [])) }
+    requires i_bound { (length previous.now ≤ 48) × (i < 255) × (48 * i < length out.old) }
+    ensures value { result ≡ keyed k0 (previous.now ++ joined info.entry ++ ((i + 1) ∷ [])) }
     ensures out_after { out.new ≡ splice out.old (48 * i) (take (length out.old - 48 * i) result) }
 {
-    let next = next_block(k, k0, &t[0..have], first, second, third, (i + 1) as u8);
-    let n = least(48, out.len() - 48 * i);
-    octets::copy_in(out, 48 * i, &next[0..n]);
+    let next = next_block(k0, previous, info, (i + 1) as u8);
+    let n = (out.len() - 48 * i).min(48);
+    octets::copy_in(out, 48 * i, &next[..n]);
     next
 }
 
-// 2.3, with an info in three parts, of which the first two are short.
-pub fn expand(prk: [u8; 48], first: &[u8], second: &[u8], third: &[u8], out: &mut [u8])
-    requires { (length out.old ≤ longest) × (length first.now + length second.now < 2 ^ 62) }
-    ensures { out.new ≡ expand_of prk (first.now ++ second.now ++ third.now) (length out.old) }
+// 2.3. T(i) is the first `have` bytes of t: T(0) has none.
+pub fn expand(prk: [u8; 48], info: Parts<'_>, out: &mut [u8])
+    requires { length out.old ≤ longest }
+    ensures { out.new ≡ expand_of prk (joined info.entry) (length out.old) }
 {
-    let k = sha_block::constants();
     let k0 = block_key(&prk);
-    let mut t = [0u8; 48];
+    let mut t = [0; 48];
     let mut have = 0;
-    let mut i = 0;
-    while 48 * i < out.len() {
-        let next = expand_more(&k, k0, t, have, first, second, third, out, i);
+    for i in 0..out.len().div_ceil(48) {
+        let next = expand_more(k0, &t[..have], info, out, i);
         t = next;
         have = 48;
-        i += 1;
     }
 }
 
 // The longest output that the standard allows.
 pub const LONGEST: usize = 255 * 48;
 
-#[derive(Drop)]
-pub enum Derived {
-    Done,
-    TooLong,
-}
+// The output is longer than that.
+#[derive(Clone, Copy, PartialEq, Eq)]
+pub struct TooLong;
 
 // HKDF: fills out, or leaves it as it is where it is longer than the standard allows.
-pub fn hkdf(ikm: &[u8], salt: &[u8], info: &[u8], out: &mut [u8]) -> Derived
+pub fn hkdf(ikm: &[u8], salt: &[u8], info: &[u8], out: &mut [u8]) -> Result<(), TooLong>
     ensures value { result ≡ derived (length out.old) }
     ensures out_after { out.new ≡ filled ikm.now salt.now info.now out.old }
 {
     if LONGEST < out.len() {
-        return Derived::TooLong;
+        return Err(TooLong);
     }
     let prk = extract(salt, ikm);
-    expand(prk, b"", b"", info, out);
-    Derived::Done
+    let info = Parts {
+        first: b"",
+        second: b"",
+        third: info,
+    };
+    expand(prk, info, out);
+    Ok(())
 }

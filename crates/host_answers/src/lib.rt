@@ -2,19 +2,12 @@
 #![tactic(auto)]
 
 ghost use Rattle.std.specs.Prelude.{◌≡◌};
-ghost use Rattle.contacts.specs.Answers.{exchange_after};
-ghost use Rattle.host_answers.specs.HostAnswers.{answered, refusing, contact_answer, opened_answer, envelope_answer, fetch_answer, own_answer, own_row_area, listed_answer, inventory_answer, code_answer, stored_answer, tomb_answer, maintained_answer, blob_answer, save_answer, load_answer, page_answer, window_answer, carried_row, tombstone_row, row_of};
+ghost use Rattle.fetch.specs.Fetch.{fetched_said};
+ghost use Rattle.host_answers.specs.HostAnswers.{answered, refusing, done_answer, acted_answer, wrote_answer, envelope_answer, fetched_answer, own_answer, own_row_area, inventory_answer, tomb_answer, blob_answer, carried_row, tombstone_row, no_row, row_of};
 
-use chain::Windowed;
-use contacts::Opened;
-use inventory::Listed;
-use maintenance::Maintained;
-use own_envelope::Made;
-use rows::{Exchange, Own};
-use saved::{BlobAnswer, SaveAnswer};
-use screen::PageAnswer;
-use state::{Carried, HeldKind, HeldRead, Tombstone};
-use tombstones::Stored;
+use courier_core::Refusal;
+use rows::Own;
+use state::{Carried, Held, Tombstone};
 
 // What a call says: a refusal's number from 1 to 13, or one of these.
 pub const DONE: u8 = 0;
@@ -71,26 +64,47 @@ pub fn answer_of(said: u8, replies: usize, actions: usize, length: usize) -> Ans
     }
 }
 
-pub fn refused(why: courier_core::Refusal) -> Answer
+pub fn refused(why: Refusal) -> Answer
     ensures { result ≡ refusing why }
 {
-    answer_of(courier_core::refusal_number(why), 0, 0, 0)
+    answer_of(why.number(), 0, 0, 0)
 }
 
-pub fn contact_answer(said: contacts::Said) -> Answer
-    ensures { result ≡ contact_answer said }
+// Of a call that says no more where it is done: contact, setting, clock, fresh exchange, load.
+pub fn done_answer(said: Result<(), Refusal>) -> Answer
+    ensures { result ≡ done_answer said }
 {
     match said {
-        contacts::Said::Done => answer_of(DONE, 0, 0, 0),
-        contacts::Said::Refused(why) => refused(why),
+        Ok(()) => answer_of(DONE, 0, 0, 0),
+        Err(why) => refused(why),
     }
 }
 
-pub fn envelope_answer(answer: envelope::Answer) -> Answer
-    ensures { result ≡ envelope_answer answer }
+// Of a call that lists so many actions: custody code, stored tombstone, maintenance.
+pub fn acted_answer(acted: Result<usize, Refusal>) -> Answer
+    ensures { result ≡ acted_answer acted }
 {
-    match answer {
-        envelope::Answer::Ours(contact, generation, idx) => Answer {
+    match acted {
+        Ok(actions) => answer_of(DONE, 0, actions, 0),
+        Err(why) => refused(why),
+    }
+}
+
+// Of a call that writes so many prefixes, rows or bytes: inventory of ours, window, save, page.
+pub fn wrote_answer(wrote: Result<usize, Refusal>) -> Answer
+    ensures { result ≡ wrote_answer wrote }
+{
+    match wrote {
+        Ok(length) => answer_of(DONE, 0, 0, length),
+        Err(why) => refused(why),
+    }
+}
+
+pub fn envelope_answer(said: Result<envelope::Answer, Refusal>) -> Answer
+    ensures { result ≡ envelope_answer said }
+{
+    match said {
+        Ok(envelope::Answer::Ours(contact, generation, idx)) => Answer {
             contact: contact.0,
             replies: 0,
             actions: 0,
@@ -99,162 +113,70 @@ pub fn envelope_answer(answer: envelope::Answer) -> Answer
             generation,
             said: OURS,
         },
-        envelope::Answer::Done(replies, actions) => answer_of(DONE, replies, actions, 0),
-        envelope::Answer::Refused(why) => refused(why),
+        Ok(envelope::Answer::Done(replies, actions)) => answer_of(DONE, replies, actions, 0),
+        Err(why) => refused(why),
     }
 }
 
-// The number of a fetch: 0 for an envelope, which has so many replies, 255 for none, or a refusal's.
-pub fn fetch_answer(number: u8, replies: usize, length: usize) -> Answer
-    ensures { result ≡ fetch_answer replies number length }
+// Of a fetch, which replies so many rows where it finds an envelope.
+pub fn fetch_answer(fetched: Result<Option<&[u8]>, Refusal>, replies: usize) -> Answer
+    ensures { result ≡ fetched_answer replies (fetched_said fetched.entry) }
 {
-    match number {
-        0 => answer_of(DONE, replies, 0, length),
-        255 => answer_of(MISSING, 0, 0, 0),
-        _ => answer_of(number, 0, 0, 0),
+    match fetched {
+        Ok(Some(ciphertext)) => answer_of(DONE, replies, 0, ciphertext.len()),
+        Ok(None) => answer_of(MISSING, 0, 0, 0), // no envelope has the tag
+        Err(why) => refused(why),
     }
 }
 
-pub fn own_answer(made: Made) -> Answer
+pub fn own_answer(made: Result<Option<Own>, Refusal>) -> Answer
     ensures { result ≡ own_answer made }
 {
     match made {
-        Made::Row => answer_of(DONE, 0, 0, 0),
-        Made::NoEnvelope => answer_of(NO_ENVELOPE, 0, 0, 0),
-        Made::Refused(why) => refused(why),
+        Ok(Some(_)) => answer_of(DONE, 0, 0, 0),
+        Ok(None) => answer_of(NO_ENVELOPE, 0, 0, 0),
+        Err(why) => refused(why),
     }
 }
 
-pub fn listed_answer(listed: Listed) -> Answer
-    ensures { result ≡ listed_answer listed }
-{
-    match listed {
-        Listed::Wrote(length) => answer_of(DONE, 0, 0, length),
-        Listed::Refused(why) => refused(why),
-    }
-}
-
-pub fn inventory_answer(said: inventory::Said) -> Answer
+pub fn inventory_answer(said: Result<inventory::Said, Refusal>) -> Answer
     ensures { result ≡ inventory_answer said }
 {
     match said {
-        inventory::Said::Done(replies, searched) => answer_of(DONE, replies, 0, searched),
-        inventory::Said::Malformed => answer_of(MALFORMED, 0, 0, 0),
-        inventory::Said::Refused(why) => refused(why),
-    }
-}
-
-pub fn code_answer(said: handover::Said) -> Answer
-    ensures { result ≡ code_answer said }
-{
-    match said {
-        handover::Said::Done(actions) => answer_of(DONE, 0, actions, 0),
-        handover::Said::Refused(why) => refused(why),
-    }
-}
-
-pub fn stored_answer(stored: Stored) -> Answer
-    ensures { result ≡ stored_answer stored }
-{
-    match stored {
-        Stored::Done(actions) => answer_of(DONE, 0, actions, 0),
-        Stored::Refused(why) => refused(why),
+        Ok(inventory::Said::Done(replies, searched)) => answer_of(DONE, replies, 0, searched),
+        Ok(inventory::Said::Malformed) => answer_of(MALFORMED, 0, 0, 0),
+        Err(why) => refused(why),
     }
 }
 
 // Of a tomb or a report, which replies so many rows where it is done.
-pub fn tomb_answer(said: tombs::Said, replies: usize) -> Answer
+pub fn tomb_answer(said: Result<tombs::Said, Refusal>, replies: usize) -> Answer
     ensures { result ≡ tomb_answer replies said }
 {
     match said {
-        tombs::Said::Done(actions) => answer_of(DONE, replies, actions, 0),
-        tombs::Said::Malformed => answer_of(MALFORMED, 0, 0, 0),
-        tombs::Said::Refused(why) => refused(why),
+        Ok(tombs::Said::Done(actions)) => answer_of(DONE, replies, actions, 0),
+        Ok(tombs::Said::Malformed) => answer_of(MALFORMED, 0, 0, 0),
+        Err(why) => refused(why),
     }
 }
 
-pub fn maintained_answer(maintained: Maintained) -> Answer
-    ensures { result ≡ maintained_answer maintained }
-{
-    match maintained {
-        Maintained::Done(actions) => answer_of(DONE, 0, actions, 0),
-        Maintained::Refused(why) => refused(why),
-    }
-}
-
-pub fn blob_answer(blob: BlobAnswer) -> Answer
+pub fn blob_answer(blob: Result<Option<usize>, Refusal>) -> Answer
     ensures { result ≡ blob_answer blob }
 {
     match blob {
-        BlobAnswer::Wrote(length) => answer_of(DONE, 0, 0, length),
-        BlobAnswer::Missing => answer_of(MISSING, 0, 0, 0),
-        BlobAnswer::Refused(why) => refused(why),
-    }
-}
-
-pub fn save_answer(saved: SaveAnswer) -> Answer
-    ensures { result ≡ save_answer saved }
-{
-    match saved {
-        SaveAnswer::Wrote(length) => answer_of(DONE, 0, 0, length),
-        SaveAnswer::Refused(why) => refused(why),
-    }
-}
-
-pub fn page_answer(page: PageAnswer) -> Answer
-    ensures { result ≡ page_answer page }
-{
-    match page {
-        PageAnswer::Wrote(length) => answer_of(DONE, 0, 0, length),
-        PageAnswer::Refused(why) => refused(why),
-    }
-}
-
-pub fn load_answer(said: load::Said) -> Answer
-    ensures { result ≡ load_answer said }
-{
-    match said {
-        load::Said::Done => answer_of(DONE, 0, 0, 0),
-        load::Said::Refused(why) => refused(why),
-    }
-}
-
-pub fn window_answer(windowed: Windowed) -> Answer
-    ensures { result ≡ window_answer windowed }
-{
-    match windowed {
-        Windowed::Listed(length) => answer_of(DONE, 0, 0, length),
-        Windowed::Refused(why) => refused(why),
-    }
-}
-
-pub fn opened_answer(opened: Opened) -> Answer
-    ensures { result ≡ opened_answer opened }
-{
-    match opened {
-        Opened::As(_) => answer_of(DONE, 0, 0, 0),
-        Opened::Refused(why) => refused(why),
-    }
-}
-
-// The exchange that a host has after a fresh one: that one, or the one that it had.
-pub fn exchange_after(stood: Exchange, opened: Opened) -> Exchange
-    ensures { result ≡ exchange_after stood opened }
-{
-    match opened {
-        Opened::As(fresh) => fresh,
-        Opened::Refused(_) => stood,
+        Ok(Some(length)) => answer_of(DONE, 0, 0, length),
+        Ok(None) => answer_of(MISSING, 0, 0, 0), // no row has the slot
+        Err(why) => refused(why),
     }
 }
 
 // The bytes of an own row where there is one, or those that were there.
-pub fn own_row(made: Made, row: Own, before: [u8; 54]) -> [u8; 54]
-    ensures { result ≡ own_row_area before made row }
+pub fn own_row(made: Result<Option<Own>, Refusal>, before: [u8; 54]) -> [u8; 54]
+    ensures { result ≡ own_row_area before made }
 {
     match made {
-        Made::Row => rows::own_bytes(row),
-        Made::NoEnvelope => before,
-        Made::Refused(_) => before,
+        Ok(Some(row)) => rows::own_bytes(row),
+        Ok(None) | Err(_) => before,
     }
 }
 
@@ -277,8 +199,8 @@ pub fn carried_row(row: Carried) -> Row
     }
 }
 
-pub fn tombstone_row(kind: u8, row: Tombstone) -> Row
-    ensures { result ≡ tombstone_row kind row }
+pub fn tombstone_row(row: Tombstone) -> Row
+    ensures { result ≡ tombstone_row row }
 {
     let tag = row.tag;
     let second = row.s;
@@ -288,19 +210,30 @@ pub fn tombstone_row(kind: u8, row: Tombstone) -> Row
         tag,
         second,
         copies: 0,
-        kind,
+        kind: 2,
     }
 }
 
-pub fn row_of(read: HeldRead) -> Row
+// Of a blob that is no row: kind 0, and zeros.
+fn no_row() -> Row
+    ensures { result ≡ no_row }
+{
+    Row {
+        depositor: 0,
+        expiry_min: 0,
+        tag: [0u8; 16],
+        second: [0u8; 16],
+        copies: 0,
+        kind: 0,
+    }
+}
+
+pub fn row_of(read: Option<Held>) -> Row
     ensures { result ≡ row_of read }
 {
-    let kind = read.kind;
-    let carried = read.carried;
-    let tombstone = read.tombstone;
-    match kind {
-        HeldKind::None => tombstone_row(0, tombstone),
-        HeldKind::Carried => carried_row(carried),
-        HeldKind::Tombstone => tombstone_row(2, tombstone),
+    match read {
+        Some(Held::Carried(row)) => carried_row(row),
+        Some(Held::Tombstone(row)) => tombstone_row(row),
+        None => no_row(),
     }
 }

@@ -1,13 +1,11 @@
 -- What a listed prefix is answered with: a fetch, a tomb.
 -- Assumes nothing.
-use Rattle.std.proofs.Common.{◌≡◌, ℕ, ◌+◌, ◌*◌, ◌/◌, ◌<◌, ◌≤◌, Bool, true, false, cond, List, [], ◌++◌, map, length, get_or, take, drop, replicate, sym, refl, ap, ◌∙◌, ap₂, arith, length-append, drop_of_length-le, take-take}
+use Rattle.std.proofs.Common.{◌≡◌, ℕ, ◌+◌, ◌*◌, ◌/◌, ◌<◌, ◌≤◌, Bool, true, false, cond, List, [], ◌∷◌, ◌++◌, map, length, get_or, take, drop, replicate, sym, refl, ap, ◌∙◌, ap₂, arith, length-append, drop_of_length-le, take-take, Option, Some, None}
 use mathlib.Core.List.{flat_map}
-use mathlib.Core.Option.{Option, some, none}
 use lib.ListN.{length-replicate}
 use Rattle.octets.specs.Bytes.{part, splice, same_bytes}
 use Rattle.octets.proofs.Parts.{part_part, length_part}
 use Rattle.courier_core.specs.declared.ContactId.{ContactId}
-use Rattle.table.specs.declared.Found.TheVariants.{At, Nothing}
 use Rattle.table.specs.Rows.{held}
 use Rattle.table.specs.Codec.{table_of}
 use Rattle.table.proofs.RowLaws.{held_all, held_inside}
@@ -42,7 +40,7 @@ length_tomb tag s h k =
 -- ---- the fetch of a prefix
 
 -- the row that is found is in the window, and its tag is where it is read
-module _ (window prefix : List ℕ) (i : ℕ) (e : At i ≡ lookup (window_rows window) prefix) where
+module _ (window prefix : List ℕ) (i : ℕ) (e : Some i ≡ lookup (window_rows window) prefix) where
   inside : i < held (length window) 30 (length window / 30)
   unfolding lookup window_rows
   inside =
@@ -60,32 +58,34 @@ module _ (window prefix : List ℕ) (i : ℕ) (e : At i ≡ lookup (window_rows 
   window_tag =
       ap (λ (r : Reachable). r.tag) (get_d_table reachable_codec (length window / 30) window i no_reachable inside) ∙ part_part window (i * 30) 30 14 16 (omega arith)
 
-module _ (bad : List BadTag) (ts : List Tombstone) (window : List ℕ) (peer : ContactId) (prefix a x : List ℕ) (k : ℕ) where
-  abbrev F : List (List ℕ)
-  F = map reply_bytes (fetch_for bad ts (window_rows window) peer prefix)
+module _ (bad : List BadTag) (ts : List Tombstone) (window : List ℕ) (peer : ContactId) (prefix : List ℕ) where
+  abbrev F : List Reply
+  F = fetch_for bad ts (window_rows window) peer prefix
 
-  pub fetch_none : Nothing ≡ lookup (window_rows window) prefix → Appended 40 a k F k a
+  pub fetch_none : None ≡ lookup (window_rows window) prefix → [] ≡ F
   unfolding fetch_for
-  fetch_none e = rw (sym e) (append_none 40 a k)
+  fetch_none e = rw (sym e) refl
 
-  module _ (i : ℕ) (e : At i ≡ lookup (window_rows window) prefix) (tag : List ℕ) (t : tag ≡ part window (i * 30 + 14) 16) where
+  module _ (i : ℕ) (e : Some i ≡ lookup (window_rows window) prefix) (tag : List ℕ) (t : tag ≡ part window (i * 30 + 14) 16) where
     found_tag : (get_or (window_rows window) i no_reachable).tag ≡ tag
     found_tag = window_tag window prefix i e ∙ sym t
 
-    pub fetch_bad : is_bad bad peer tag ≡ true → Appended 40 a k F k a
+    pub fetch_bad : is_bad bad peer tag ≡ true → [] ≡ F
     unfolding fetch_for
-    fetch_bad b = rw (sym e, found_tag, b) (append_none 40 a k)
+    fetch_bad b = rw (sym e, found_tag, b) refl
 
-    pub fetch_tombstoned : is_bad bad peer tag ≡ false → tombstoned ts tag ≡ true → Appended 40 a k F k a
+    pub fetch_tombstoned : is_bad bad peer tag ≡ false → tombstoned ts tag ≡ true → [] ≡ F
     unfolding fetch_for tombstoned
-    fetch_tombstoned b d = rw (sym e, found_tag, b, d) (append_none 40 a k)
+    fetch_tombstoned b d = rw (sym e, found_tag, b, d) refl
 
-    pub fetch_put : is_bad bad peer tag ≡ false → tombstoned ts tag ≡ false → k * 40 + 40 ≤ length a
-        → x ≡ splice a (k * 40) (reply_bytes (fetch_reply tag)) → Appended 40 a k F (k + 1) x
+    pub fetch_tag : is_bad bad peer tag ≡ false → tombstoned ts tag ≡ false → fetch_reply tag ∷ [] ≡ F
     unfolding fetch_for tombstoned
-    fetch_put b d h ex =
-        let l : length tag ≡ 16 = ap length t ∙ length_part window (i * 30 + 14) 16 (omega (arith, window_row_lem window prefix i e)) in
-        rw (sym e, found_tag, b, d) (append_one 40 a x (reply_bytes (fetch_reply tag)) k (length_fetch tag l) h ex)
+    fetch_tag b d = rw (sym e, found_tag, b, d) refl
+
+-- a tag's fetch is written
+pub fetch_put : (a x tag : List ℕ) (k : ℕ) → length tag ≡ 16 → k * 40 + 40 ≤ length a → x ≡ splice a (k * 40) (reply_bytes (fetch_reply tag))
+    → Appended 40 a k (reply_bytes (fetch_reply tag) ∷ []) (k + 1) x
+fetch_put a x tag k l h ex = append_one 40 a x (reply_bytes (fetch_reply tag)) k (length_fetch tag l) h ex
 
 -- ---- the tomb of a prefix
 
@@ -124,14 +124,14 @@ module _ (tombs : List ℕ) (g : ℕ) (prefix : List ℕ) (fits : g * 44 ≤ len
 
   -- the tombstone at j has the prefix, or the search goes on behind it
   pub tomb_next : (j : ℕ) (b d : Bool) → j < g → d ≡ same_bytes (part tombs (j * 44 + 8) 8) prefix → d ≡ b
-      → From j ≡ cond b (some (tombstone_of (part tombs (j * 44) 44))) (From (j + 1))
+      → From j ≡ cond b (Some (tombstone_of (part tombs (j * 44) 44))) (From (j + 1))
   unfolding find tombstone_of
   tomb_next j b d h e f =
       let t : take 8 (part (part tombs (j * 44) 44) 8 16) ≡ part tombs (j * 44 + 8) 8 = front (part tombs (j * 44) 44) ∙ part_part tombs (j * 44) 44 8 8 (omega arith) in
       ap (find (has_prefix prefix)) (table_next tombstone_codec g tombs j (omega (arith, length_tombs)))
-      ∙ ap (λ (z : Bool). cond z (some (tombstone_of (part tombs (j * 44) 44))) (From (j + 1))) (ap (λ (p : List ℕ). same_bytes p prefix) t ∙ sym e ∙ f)
+      ∙ ap (λ (z : Bool). cond z (Some (tombstone_of (part tombs (j * 44) 44))) (From (j + 1))) (ap (λ (p : List ℕ). same_bytes p prefix) t ∙ sym e ∙ f)
 
-  pub tomb_end : (j : ℕ) → g ≤ j → From j ≡ none
+  pub tomb_end : (j : ℕ) → g ≤ j → From j ≡ None
   unfolding find
   tomb_end j h = ap (find (has_prefix prefix)) (drop_of_length-le Ts {i = j} (omega (arith, length_table tombstone_codec g tombs, length_tombs)))
 
@@ -198,8 +198,3 @@ module _ (listed : List ℕ) (l : ℕ) (f : List ℕ → List Reply) (lent : Lis
     replying_end h =
         let w = R.within in
         (rw (map_flat f reply_bytes L) (filling_end 40 of L lent n R.fill (omega (arith, length_listed))), omega (arith, R.fill.below))
-
--- what is written of a tombstone
-pub tomb_of_lem : (a x tombs : List ℕ) (at from : ℕ) {t : Tombstone} → t ≡ tombstone_of (part tombs from 44) → x ≡ splice a at (reply_bytes (tomb_reply t.tag t.s))
-    → x ≡ splice a at (reply_bytes (tomb_of (tombstone_of (part tombs from 44))))
-tomb_of_lem a x tombs at from e h = h ∙ ap (λ (r : Tombstone). splice a at (reply_bytes (tomb_of r))) e

@@ -1,13 +1,13 @@
 -- The call inventory of ours: what is written is the model's list, and each way out is the model's step.
 -- Assumes nothing.
-use Rattle.std.proofs.Common.{◌≡◌, ℕ, ◌+◌, ◌*◌, ◌<◌, ◌≤◌, Bool, true, false, cond, not, List, [], ◌∷◌, map, length, take, sym, refl, ap, ◌∙◌, ap₂, zero-add, arith, length-take-le, le-ltb, lt-ltb}
+use Rattle.std.proofs.Common.{◌≡◌, ℕ, ◌+◌, ◌*◌, ◌<◌, ◌≤◌, Bool, true, false, cond, not, List, [], ◌∷◌, map, length, take, sym, refl, ap, ◌∙◌, ap₂, zero-add, arith, length-take-le, le-ltb, lt-ltb, Result, Ok, Err}
 use mathlib.Core.List.{flat_map}
 use Rattle.octets.specs.Bytes.{splice}
 use Rattle.courier_core.specs.declared.ContactId.{ContactId}
+use Rattle.courier_core.specs.declared.Refusal.{Refusal}
 use Rattle.courier_core.specs.declared.Refusal.TheVariants as refusal
-use Rattle.table.specs.Rows.{held, join, written}
+use Rattle.table.specs.Rows.{join, written}
 use Rattle.table.specs.Codec.{table_of, with_table}
-use Rattle.table.proofs.TableLaws.{table_held}
 use Rattle.rows.specs.declared.Device.{Device}
 use Rattle.rows.specs.declared.Own.{Own}
 use Rattle.rows.specs.declared.Carried.{Carried}
@@ -25,8 +25,6 @@ use Rattle.offers.specs.Appended.{Appended}
 use Rattle.offers.specs.Entries.{Entry, own_entry, carried_entry, entries, entry_at, row_of}
 use Rattle.offers.proofs.AppendLaws.{append_none, append_one}
 use Rattle.offers.proofs.EntryLaws.{length_held, held_is, sent, envelopes_sent}
-use Rattle.inventory.specs.declared.Listed.{Listed}
-use Rattle.inventory.specs.declared.Listed.TheVariants as listed
 use Rattle.inventory.specs.Inventory.{prefix_for, prefix_of, inventory_says, held_in}
 use Rattle.inventory.proofs.FillLaws.{map_flat, flat_same, Filling, filling_next, filling_end}
 
@@ -88,15 +86,15 @@ module _ (d : Device) (peer : ContactId) (contacts own carried lent : List ℕ) 
   abbrev C : Call
   C = inventory_of_ours (length lent) peer
 
-  abbrev Says : Listed → List ℕ → Type 0
+  abbrev Says : Result ℕ Refusal → List ℕ → Type 0
   Says r back = Written inventory_says (step (view B) C) r B B (bytes_lent lent) (bytes_lent back)
 
-  pub says_short : length lent < 4096 → Says (listed.Refused refusal.ShortArea) lent
+  pub says_short : length lent < 4096 → Says (Err refusal.ShortArea) lent
   unfolding step tests perform inventory_tests
   says_short h = refused_call refusal.ShortArea (refused_here _ _ _ (lt-ltb (length lent) 4096 h)) refl refl
 
   module _ (long : 4096 ≤ length lent) where
-    pub says_stranger : known (table_of contact_codec d.contacts contacts) peer ≡ false → Says (listed.Refused refusal.UnknownContact) lent
+    pub says_stranger : known (table_of contact_codec d.contacts contacts) peer ≡ false → Says (Err refusal.UnknownContact) lent
     unfolding step tests perform inventory_tests view
     says_stranger k =
         refused_call refusal.UnknownContact (not_here _ _ _ (le-ltb (length lent) 4096 long) (refused_here _ _ _ (ap not k))) refl refl
@@ -106,15 +104,15 @@ module _ (d : Device) (peer : ContactId) (contacts own carried lent : List ℕ) 
       unfolding step tests perform inventory_tests view
       performed = not_here _ _ _ (le-ltb (length lent) 4096 long) (not_here _ _ _ (ap not k) (no_test _))
 
-      pub says_listed : (n m c : ℕ) (back : List ℕ) → n ≡ held (length own) 54 d.own → m ≡ held (length carried) 57 d.carried
-          → Appended 8 lent 0 (flat_map prefix_of (entries peer (table_of own_codec n own) (table_of carried_codec m carried))) c back → Says (listed.Wrote c) back
+      pub says_listed : {os : List Own} {cs : List Carried} {c : ℕ} {back : List ℕ} → os ≡ table_of own_codec d.own own → cs ≡ table_of carried_codec d.carried carried
+          → Appended 8 lent 0 (flat_map prefix_of (entries peer os cs)) c back → Says (Ok c) back
       unfolding list_inventory inventory view store store_device store_session answer_areas with_table written join splice
-      says_listed n m c back en em A =
-          let s : flat_map prefix_of (entries peer (table_of own_codec n own) (table_of carried_codec m carried)) ≡ inventory (view B) peer =
-          ap₂ (λ (x : List Own) (y : List Carried). flat_map prefix_of (entries peer x y)) (table_held own_codec d.own _ own (omega arith) en) (table_held carried_codec d.carried _ carried (omega arith) em)
+      says_listed {os} {cs} eo ec A =
+          let s : flat_map prefix_of (entries peer os cs) ≡ inventory (view B) peer =
+          ap₂ (λ (x : List Own) (y : List Carried). flat_map prefix_of (entries peer x y)) eo ec
           ∙ sym (listed_are peer (table_of own_codec d.own own) (table_of carried_codec d.carried carried)) in
           rw performed (record {
-            answer = ap listed.Wrote (A.count ∙ zero-add _ ∙ ap length s);
+            answer = ap Ok (A.count ∙ zero-add _ ∙ ap length s);
             areas = refl;
             answers = ap bytes_lent (A.area ∙ ap (λ (l : List (List ℕ)). splice lent 0 (join l)) s);
           })

@@ -1,8 +1,9 @@
 -- The call inventory received: each way out is the model's step.
 -- Assumes nothing.
-use Rattle.std.proofs.Common.{◌≡◌, ℕ, ◌+◌, ◌*◌, ◌/◌, ◌%◌, ◌≤◌, min, Bool, true, false, ◌||◌, ltb, List, [], ◌∷◌, ◌++◌, map, length, take, sym, refl, ap, ◌∙◌, subst, ap₂, zero-add, arith, length-append, take_all, eq-eqb, ne_eqb}
+use Rattle.std.proofs.Common.{◌≡◌, ℕ, ◌+◌, ◌*◌, ◌/◌, ◌%◌, ◌≤◌, min, Bool, true, false, ◌||◌, ltb, List, ◌++◌, map, length, take, sym, refl, ap, ◌∙◌, subst, ap₂, zero-add, arith, length-append, take_all, eq-eqb, ne_eqb, Result, Ok, Err}
 use mathlib.Core.List.{map-append, flat_map}
 use lib.ListN.{length-map}
+use Rattle.std.proofs.lemmas.List.{map-id}
 use Rattle.octets.specs.Bytes.{splice}
 use Rattle.courier_core.specs.declared.ContactId.{ContactId}
 use Rattle.courier_core.specs.declared.Refusal.{Refusal}
@@ -14,13 +15,14 @@ use Rattle.rows.specs.declared.Device.{Device}
 use Rattle.rows.specs.declared.Exchange.{Exchange}
 use Rattle.rows.specs.declared.Own.{Own}
 use Rattle.rows.specs.declared.Carried.{Carried}
+use Rattle.rows.specs.declared.BadTag.{BadTag}
 use Rattle.rows.specs.declared.Tombstone.{Tombstone}
 use Rattle.rows.specs.declared.Reply.{Reply}
 use Rattle.rows.specs.Rows.{own_codec, carried_codec, tombstone_codec, bad_tag_codec, reply_bytes}
 use Rattle.model.specs.State.{State, nothing}
-use Rattle.model.specs.Calls.{Call, inventory_received, Result, only, malformed, refused, step_of}
+use Rattle.model.specs.Calls.{Call, inventory_received, Result as Outcome, only, malformed, refused, step_of}
 use Rattle.model.specs.Window.{window_rows, prefix_rows, prefix_codec}
-use Rattle.model.specs.Exchange.{Envelope, reply_for, fetch_for, tomb_for, searched_rows, offers, answer_inventory, list_more, too_many, receive_inventory, receive_inventory_tests}
+use Rattle.model.specs.Exchange.{Envelope, reply_for, tomb_for, searched_rows, offers, answer_inventory, list_more, too_many, receive_inventory, receive_inventory_tests}
 use Rattle.model.specs.Step.{tests, perform, step}
 use Rattle.model.specs.Areas.{Areas, Written, view, view_session, store, store_device, store_session, answer_areas}
 use Rattle.model.proofs.CallLaws.{quiet_call, refused_call}
@@ -30,11 +32,10 @@ use Rattle.offers.specs.Entries.{held_envelopes, entries}
 use Rattle.offers.specs.Offers.{ListsOffers, halves_of, WritesOffers}
 use Rattle.offers.proofs.AppendLaws.{append_then}
 use Rattle.offers.proofs.SentLaws.{offers_sent, searched_counted}
+use Rattle.inventory.specs.declared.Lookup.{Lookup}
 use Rattle.inventory.specs.declared.Received.{Received}
 use Rattle.inventory.specs.declared.Said.TheVariants as said
-use Rattle.inventory.specs.declared.Test.{Test}
-use Rattle.inventory.specs.declared.Test.TheVariants as test
-use Rattle.inventory.specs.Inventory.{offers_of, searched_of, replies_for, completed_with, lengthened_to, Terminated, Lengthened, received_says, received_in, Reads}
+use Rattle.inventory.specs.Inventory.{tombs, fetches, Answers, offers_of, searched_of, replies_for, completed_with, lengthened_to, Terminated, Lengthened, received_says, received_in, Reads}
 use Rattle.inventory.proofs.TestLaws.{first_refused, first_passed, Tests}
 
 -- ---- the terminator
@@ -42,7 +43,7 @@ use Rattle.inventory.proofs.TestLaws.{first_refused, first_passed, Tests}
 module _ (e : Exchange) (fs ms : List Reply) (es : List Envelope) (n : ℕ) (replies x y z offers w : List ℕ) (f t : ℕ) where
   -- three lists of replies, one behind the other
   terminated : (r : Received) (k c : ℕ) → Appended 40 replies 0 (map reply_bytes fs) f x → Appended 40 x f (map reply_bytes ms) t y
-      → WritesOffers es y t offers k z c w → t * 40 ≤ length replies → r.exchange ≡ completed_with e c → r.said ≡ said.Done k n
+      → WritesOffers es y t offers k z c w → t * 40 ≤ length replies → r.exchange ≡ completed_with e c → r.said ≡ Ok (said.Done k n)
       → Terminated e (fs ++ ms ++ map reply_for es) es n replies offers r z w
   unfolding with_table
   terminated r k c F T A h ex sa =
@@ -53,49 +54,27 @@ module _ (e : Exchange) (fs ms : List Reply) (es : List Envelope) (n : ℕ) (rep
       rw (sym s) (append_then 40 both A.rows (omega (arith, A.room, both.size))) in
       record {
         exchange = ex ∙ ap (completed_with e) A.table.count;
-        said = sa ∙ ap (λ (m : ℕ). said.Done m n) (all.count ∙ zero-add _ ∙ length-map (fs ++ ms ++ map reply_for es) reply_bytes);
+        said = sa ∙ ap (λ (m : ℕ). Ok (said.Done m n)) (all.count ∙ zero-add _ ∙ length-map (fs ++ ms ++ map reply_for es) reply_bytes);
         rows = all.area ∙ sym (written_splice replies (map reply_bytes (fs ++ ms ++ map reply_for es)));
         table = A.table.area;
       }
 
--- what the call writes, at the counts that fit
-module _ (d : Device) (e : Exchange) (peer : ContactId) (own carried tombs bad window prefixes : List ℕ) (l : ℕ) (replies offers : List ℕ) where
-  abbrev Fetch : List Tombstone → List ℕ → List Reply
-  Fetch ts = fetch_for (table_of bad_tag_codec d.bad_tags bad) ts (window_rows window) peer
-
-  abbrev Taken : List (List ℕ)
-  Taken = table_of prefix_codec l prefixes
-
-  abbrev Ends : Received → List ℕ → List ℕ → List Tombstone → List Own → List Carried → Type 0
-  Ends r z w ts os cs =
-      Terminated e (flat_map (Fetch ts) Taken ++ flat_map (tomb_for ts) Taken ++ map reply_for (offers_of peer ts Taken os cs)) (offers_of peer ts Taken os cs) (length (searched_of peer Taken os cs)) replies offers r z w
-
-  pub ended : {r : Received} {x y z w : List ℕ} (n m g : ℕ) {f t k c a : ℕ} {flags fs : List Bool} → n ≡ held (length own) 54 d.own → m ≡ held (length carried) 57 d.carried
-      → g ≡ held (length tombs) 44 d.tombstones → Appended 40 replies 0 (map reply_bytes (flat_map (Fetch (table_of tombstone_codec g tombs)) Taken)) f x
-      → Appended 40 x f (map reply_bytes (flat_map (tomb_for (table_of tombstone_codec g tombs)) Taken)) t y
-      → ListsOffers (table_of tombstone_codec g tombs) Taken (entries peer (table_of own_codec n own) (table_of carried_codec m carried)) flags a fs
-      → WritesOffers (halves_of fs (held_envelopes (table_of own_codec n own) (table_of carried_codec m carried))) y t offers k z c w
-      → t * 40 ≤ length replies → r.exchange ≡ completed_with e c → r.said ≡ said.Done k a
-      → Ends r z w (table_of tombstone_codec d.tombstones tombs) (table_of own_codec d.own own) (table_of carried_codec d.carried carried)
-  ended {r} {x} {y} {z} {w} n m g {f} {t} {k} {c} {a} {flags} {fs} en em eg F T L W h ex sa =
-      let ts : List Tombstone = table_of tombstone_codec g tombs in
-      let os : List Own = table_of own_codec n own in
-      let cs : List Carried = table_of carried_codec m carried in
-      subst (λ (q : List Tombstone). Ends r z w q (table_of own_codec d.own own) (table_of carried_codec d.carried carried)) (table_held tombstone_codec d.tombstones _ tombs (omega arith) eg)
-      (subst (λ (q : List Own). Ends r z w ts q (table_of carried_codec d.carried carried)) (table_held own_codec d.own _ own (omega arith) en)
-      (subst (λ (q : List Carried). Ends r z w ts os q) (table_held carried_codec d.carried _ carried (omega arith) em)
-      (terminated e (flat_map (Fetch ts) Taken) (flat_map (tomb_for ts) Taken) (offers_of peer ts Taken os cs) (length (searched_of peer Taken os cs)) replies x y z offers w f t r k c F T
-      (subst (λ (es : List Envelope). WritesOffers es y t offers k z c w) (offers_sent peer os cs ts Taken a fs L) W) h ex (sa ∙ ap (said.Done k) (searched_counted peer os cs ts Taken a fs L)))))
+-- what the call writes, by what the lookup has and by the rows held
+module _ (e : Exchange) (v : Lookup) (own : List Own) (carried : List Carried) (ls : List (List ℕ)) (replies offers : List ℕ) where
+  pub answered : {r : Received} {x y z w : List ℕ} {f t k c a : ℕ} {flags fs : List Bool} → Appended 40 replies 0 (map reply_bytes (flat_map (fetches v) ls)) f x
+      → Appended 40 x f (map reply_bytes (flat_map (tomb_for (tombs v)) ls)) t y → ListsOffers (tombs v) ls (entries v.peer own carried) flags a fs
+      → WritesOffers (halves_of fs (held_envelopes own carried)) y t offers k z c w → t * 40 ≤ length replies → r.exchange ≡ completed_with e c → r.said ≡ Ok (said.Done k a)
+      → Answers e v own carried ls replies offers r z w
+  answered {r} {x} {y} {z} {w} {f} {t} {k} {c} {a} {flags} {fs} F T L W h ex sa =
+      terminated e (flat_map (fetches v) ls) (flat_map (tomb_for (tombs v)) ls) (offers_of v.peer (tombs v) ls own carried) (length (searched_of v.peer ls own carried)) replies x y z offers w f t r k c F T
+      (subst (λ (es : List Envelope). WritesOffers es y t offers k z c w) (offers_sent v.peer own carried (tombs v) ls a fs L) W) h ex
+      (sa ∙ ap (λ (m : ℕ). Ok (said.Done k m)) (searched_counted v.peer own carried (tombs v) ls a fs L))
 
 -- ---- more prefixes
 
-map_same : (xs : List (List ℕ)) → map (λ (b : List ℕ). b) xs ≡ xs
-map_same [] = refl
-map_same (x ∷ xs) = ap (λ (l : List (List ℕ)). x ∷ l) (map_same xs)
-
 prefixes_are : (a : List ℕ) (count n : ℕ) → held (length a) 8 count ≡ n → table_of prefix_codec count a ≡ rows 8 n a
 unfolding table_of
-prefixes_are a count n e = map_same (rows 8 (held (length a) 8 count) a) ∙ ap (λ (k : ℕ). rows 8 k a) e
+prefixes_are a count n e = map-id (rows 8 (held (length a) 8 count) a) ∙ ap (λ (k : ℕ). rows 8 k a) e
 
 pub more_listed : (v : List ℕ) → prefix_rows v ≡ rows 8 (length v / 8) v
 unfolding prefix_rows
@@ -108,7 +87,7 @@ module _ (e : Exchange) (prefixes : List ℕ) (l : ℕ) (v : List ℕ) (whole : 
   joined : Ls ≡ rows 8 l prefixes ++ rows 8 (length v / 8) v
   joined = ap₂ (λ (x y : List (List ℕ)). x ++ y) (prefixes_are prefixes l l (held_all (length prefixes) 8 l (omega arith) (omega arith))) (more_listed v)
 
-  pub lengthens : (r : Received) (k : ℕ) (x : List ℕ) → k ≡ l + length v / 8 → r.exchange ≡ lengthened_to e k → r.said ≡ said.Done 0 0
+  pub lengthens : (r : Received) (k : ℕ) (x : List ℕ) → k ≡ l + length v / 8 → r.exchange ≡ lengthened_to e k → r.said ≡ Ok (said.Done 0 0)
       → x ≡ splice prefixes (l * 8) v → Lengthened e Ls prefixes r x
   unfolding with_table
   lengthens r k x ek ex sa h =
@@ -121,7 +100,7 @@ module _ (e : Exchange) (prefixes : List ℕ) (l : ℕ) (v : List ℕ) (whole : 
         exchange = ex ∙ ap (lengthened_to e) n;
         said = sa;
         table = h ∙ splice_written prefixes v (l * 8) (rows 8 l prefixes ++ rows 8 (length v / 8) v) (omega arith) j
-            ∙ ap (written prefixes) (sym joined ∙ sym (map_same Ls));
+            ∙ ap (written prefixes) (sym joined ∙ sym (map-id Ls));
       }
 
 -- ---- the call
@@ -133,10 +112,10 @@ module _ (d : Device) (peer : ContactId) (own carried tombs bad window v : List 
   abbrev S : State
   S = view (B e prefixes area)
 
-  abbrev Says : Result → Received → List ℕ → List ℕ → List ℕ → Type 0
+  abbrev Says : Outcome → Received → List ℕ → List ℕ → List ℕ → Type 0
   Says o r p os back = Written received_says o r.said (B e prefixes area) (B r.exchange p os) (replies_lent lent) (replies_lent back)
 
-  abbrev O : Result
+  abbrev O : Outcome
   O = receive_inventory S (window_rows window) peer (prefix_rows v)
 
   module _ (l : ℕ) (el : l ≡ held (length prefixes) 8 (min 512 e.listed)) where
@@ -151,7 +130,7 @@ module _ (d : Device) (peer : ContactId) (own carried tombs bad window v : List 
     unfolding too_many view view_session
     many_are = ap₂ (λ (x y : ℕ). e.complete || ltb 512 (x + y)) size more
 
-    pub says_malformed : (e.complete || ltb 512 (l + length v / 8)) ≡ true → Says O (record { exchange = e; said = said.Malformed }) prefixes area lent
+    pub says_malformed : (e.complete || ltb 512 (l + length v / 8)) ≡ true → Says O (record { exchange = e; said = Ok said.Malformed }) prefixes area lent
     unfolding receive_inventory store store_device store_session
     says_malformed h = quiet_call malformed nothing (rw (many_are ∙ h)) refl refl
 
@@ -180,16 +159,17 @@ module _ (d : Device) (peer : ContactId) (own carried tombs bad window v : List 
       abbrev Cs : List Carried
       Cs = table_of carried_codec d.carried carried
 
-      -- the terminator is answered, with these prefixes
-      abbrev Ended : Received → List ℕ → List ℕ → List (List ℕ) → Type 0
-      Ended r os back ls =
-          Terminated e (replies_for (table_of bad_tag_codec d.bad_tags bad) (window_rows window) peer Tombs ls (offers_of peer Tombs ls Os Cs)) (offers_of peer Tombs ls Os Cs)
-          (length (searched_of peer ls Os Cs)) lent area r back os
+      -- the terminator is answered, by these bad tags, tombstones, prefixes and rows
+      abbrev Ended : Received → List ℕ → List ℕ → List BadTag → List Tombstone → List (List ℕ) → List Own → List Carried → Type 0
+      Ended r w back bs ts ls os cs =
+          Terminated e (replies_for bs (window_rows window) peer ts ls (offers_of peer ts ls os cs)) (offers_of peer ts ls os cs) (length (searched_of peer ls os cs)) lent area r back w
 
-      pub says_answered : (r : Received) (os back : List ℕ) → length v / 8 ≡ 0 → Ended r os back Before → Says O r prefixes os back
+      pub says_answered : (r : Received) (w back : List ℕ) {bs : List BadTag} {ts : List Tombstone} {os : List Own} {cs : List Carried} → length v / 8 ≡ 0
+          → bs ≡ table_of bad_tag_codec d.bad_tags bad → ts ≡ Tombs → os ≡ Os → cs ≡ Cs → Ended r w back bs ts Before os cs → Says O r prefixes w back
       unfolding answer_inventory offers searched_rows view view_session store store_device store_session answer_areas with_table written join splice
-      says_answered r os back z T =
-          let G : Ended r os back S.session.exchange.listed = subst (Ended r os back) before_is T in
+      says_answered r w back z eb et eo ec T =
+          let G : Ended r w back (table_of bad_tag_codec d.bad_tags bad) Tombs S.session.exchange.listed Os Cs =
+          rw (sym eb, sym et, sym eo, sym ec, sym before_is) T in
           rw (answers z) (record {
             answer = G.said;
             areas = ap₂ (λ (x : Exchange) (o : List ℕ). B x prefixes o) G.exchange G.table;
@@ -215,14 +195,14 @@ module _ (d : Device) (peer : ContactId) (own carried tombs bad window v : List 
   unfolding view view_session
   reads = record { contacts = refl; peer = refl; prefix_area = refl; offer_area = refl }
 
-  module _ {t : Test} (T : Tests d contacts e.peer (length prefixes) (length area) (length lent) window peer v t) where
+  module _ {t : Result Unit Refusal} (T : Tests d contacts e.peer (length prefixes) (length area) (length lent) window peer v t) where
     abbrev Ts : List (Bool × Refusal)
     Ts = receive_inventory_tests S (length lent) window peer v
 
-    pub says_refused : {why : Refusal} → t ≡ test.Refused why → Says (step S C) (record { exchange = e; said = said.Refused why }) prefixes area lent
+    pub says_refused : {why : Refusal} → t ≡ Err why → Says (step S C) (record { exchange = e; said = Err why }) prefixes area lent
     unfolding step step_of tests perform
     says_refused {why} q = refused_call why (first_refused (λ (w : Refusal). only (refused w)) O Ts (sym q ∙ T S reads)) refl refl
 
-    pub says_performed : {r : Received} {p os back : List ℕ} → t ≡ test.Passed → Says O r p os back → Says (step S C) r p os back
+    pub says_performed : {r : Received} {p os back : List ℕ} → t ≡ Ok tt → Says O r p os back → Says (step S C) r p os back
     unfolding step step_of tests perform
     says_performed q W = rw (first_passed (λ (w : Refusal). only (refused w)) O Ts (sym q ∙ T S reads)) W

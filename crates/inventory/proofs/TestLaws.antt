@@ -1,6 +1,7 @@
 -- The refusals of inventory received, in document 01's order.
 -- Assumes nothing.
-use Rattle.std.proofs.Common.{◌≡◌, ℕ, ◌%◌, ◌≤◌, min, Bool, true, false, cond, not, ◌||◌, eqb, ltb, List, [], ◌∷◌, length, sym, refl, ap, ◌∙◌, arith, ltb-false}
+use Rattle.std.proofs.Common.{◌≡◌, ℕ, ◌%◌, ◌≤◌, min, Bool, true, false, cond, not, ◌||◌, eqb, ltb, List, [], ◌∷◌, length, sym, refl, ap, ◌∙◌, arith, ltb-false, Option, Some, None, Result, Ok, Err}
+use Rattle.std.specs.Option.{option_eq}
 use Rattle.courier_core.specs.Core.{first_of}
 use Rattle.courier_core.specs.declared.ContactId.{ContactId}
 use Rattle.courier_core.specs.declared.Refusal.{Refusal}
@@ -9,41 +10,35 @@ use Rattle.table.specs.Rows.{ragged, Fits}
 use Rattle.table.specs.Codec.{table_of}
 use Rattle.table.proofs.RowLaws.{held_le, fits_at}
 use Rattle.rows.specs.declared.Device.{Device}
-use Rattle.rows.specs.declared.Peer.{Peer}
-use Rattle.rows.specs.declared.Peer.TheVariants as whom
 use Rattle.rows.specs.Rows.{contact_codec}
 use Rattle.model.specs.State.{State}
 use Rattle.model.specs.Contacts.{known, is_for}
 use Rattle.model.specs.Window.{window_rows, wrong_window, strangers}
 use Rattle.model.specs.Exchange.{receive_inventory_tests}
-use Rattle.inventory.specs.declared.Test.{Test}
-use Rattle.inventory.specs.declared.Test.TheVariants as test
+use Rattle.model.proofs.KeepRows.{or_false}
 use Rattle.inventory.specs.Inventory.{Reads}
 
 -- one test after another
-pub or_yes : (y : Bool) {x : Bool} → x ≡ true → true ≡ (x || y)
-or_yes y e = rw e
-
 pub or_no : {x y z : Bool} → x ≡ false → z ≡ y → z ≡ (x || y)
 or_no e f = rw e f
 
-pub is_his : (peer : ContactId) {to : Peer} {p : ContactId} → to ≡ whom.Is p → eqb p.0 peer.0 ≡ is_for peer to
-is_his peer e = rw e
-
-pub is_nobodys : (peer : ContactId) {to : Peer} → to ≡ whom.Nobody → false ≡ is_for peer to
-is_nobodys peer e = rw e
+-- was the exchange opened for this peer, as the code asks it
+pub same_peer : (eq : ContactId → ContactId → Bool) (peer : ContactId) (to : Option ContactId) → ((p : ContactId) → eq p peer ≡ eqb p.0 peer.0)
+    → not (is_for peer to) ≡ not (option_eq eq to (Some peer))
+same_peer eq peer (Some p) h = ap not (sym (h p))
+same_peer eq peer None h = refl
 
 -- 512 at most
-pub capped : (len count : ℕ) {r : ℕ} → Fits len 8 (min count 512) r → Fits len 8 (min 512 count) r × (r ≤ 512)
-capped len count F =
-    let e : min count 512 ≡ min 512 count = omega arith in
-    (fits_at e F, omega (arith, F.is, (held_le len 8 (min count 512)).0))
+pub capped : (len count : ℕ) {k r : ℕ} → k ≡ min count 512 → Fits len 8 k r → Fits len 8 (min 512 count) r × (r ≤ 512)
+capped len count {k} e F =
+    let m : k ≡ min 512 count = omega arith in
+    (fits_at m F, omega (arith, F.is, (held_le len 8 k).0))
+
+-- the first test that holds, as the call answers it
+abbrev pub first_refusal : List (Bool × Refusal) → Result Unit Refusal
+first_refusal ts = first_of ts Err (Ok tt)
 
 -- ---- the room that a call asks for
-
-or_false : (x y : Bool) → (x || y) ≡ false → (x ≡ false) × (y ≡ false)
-or_false true y e = let z : ◌≡◌ {A = ℕ} 0 1 = cc in absurd (omega arith)
-or_false false y e = (refl, e)
 
 pub not_many : (x : Bool) (n : ℕ) → (x || ltb 512 n) ≡ false → n ≤ 512
 not_many x n e = ltb-false 512 n (or_false x (ltb 512 n) e).1
@@ -56,11 +51,11 @@ pub record Room (r p o : ℕ) (listed : List ℕ) : Type 0 where
 
 -- ---- the four tests
 
-abbrev told : (short wrong stranger other : Bool) → Test
+abbrev told : (short wrong stranger other : Bool) → Result Unit Refusal
 told short wrong stranger other =
-    first_of ((short, refusal.ShortArea) ∷ (wrong, refusal.WindowRows) ∷ (stranger, refusal.UnknownContact) ∷ (other, refusal.WrongExchange) ∷ []) test.Refused test.Passed
+    first_refusal ((short, refusal.ShortArea) ∷ (wrong, refusal.WindowRows) ∷ (stranger, refusal.UnknownContact) ∷ (other, refusal.WrongExchange) ∷ [])
 
-module _ (d : Device) (contacts : List ℕ) (to : Peer) (prefixes offers replies : ℕ) (window : List ℕ) (peer : ContactId) (listed : List ℕ) (s : State) (R : Reads s d contacts to prefixes offers) where
+module _ (d : Device) (contacts : List ℕ) (to : Option ContactId) (prefixes offers replies : ℕ) (window : List ℕ) (peer : ContactId) (listed : List ℕ) (s : State) (R : Reads s d contacts to prefixes offers) where
   abbrev Short : Bool
   Short = ltb replies 61440 || (ltb prefixes 4096 || ltb offers 8704)
 
@@ -70,37 +65,37 @@ module _ (d : Device) (contacts : List ℕ) (to : Peer) (prefixes offers replies
   abbrev Unknown : Bool
   Unknown = not (known (table_of contact_codec d.contacts contacts) peer) || strangers (table_of contact_codec d.contacts contacts) (window_rows window)
 
-  abbrev Says : Test → Type 0
-  Says r = r ≡ first_of (receive_inventory_tests s replies window peer listed) test.Refused test.Passed
+  abbrev Says : Result Unit Refusal → Type 0
+  Says r = r ≡ first_refusal (receive_inventory_tests s replies window peer listed)
 
   tell : Says (told Short Wrong Unknown (not (is_for peer to)))
   unfolding receive_inventory_tests
   tell = rw (R.contacts, R.peer, R.prefix_area, R.offer_area)
 
-  pub is_short : Short ≡ true → Says (test.Refused refusal.ShortArea)
+  pub is_short : Short ≡ true → Says (Err refusal.ShortArea)
   is_short a = ap (λ (x : Bool). told x Wrong Unknown (not (is_for peer to))) (sym a) ∙ tell
 
   module _ (a : Short ≡ false) where
-    pub is_wrong : Wrong ≡ true → Says (test.Refused refusal.WindowRows)
+    pub is_wrong : Wrong ≡ true → Says (Err refusal.WindowRows)
     is_wrong b = (λ j. told (sym a j) (sym b j) Unknown (not (is_for peer to))) ∙ tell
 
     module _ (b : Wrong ≡ false) where
-      pub is_unknown : Unknown ≡ true → Says (test.Refused refusal.UnknownContact)
+      pub is_unknown : Unknown ≡ true → Says (Err refusal.UnknownContact)
       is_unknown c = (λ j. told (sym a j) (sym b j) (sym c j) (not (is_for peer to))) ∙ tell
 
       module _ (c : Unknown ≡ false) where
-        pub is_other_lem : is_for peer to ≡ false → Says (test.Refused refusal.WrongExchange)
-        is_other_lem e = (λ j. told (sym a j) (sym b j) (sym c j) (not (sym e j))) ∙ tell
+        pub is_other_lem : not (is_for peer to) ≡ true → Says (Err refusal.WrongExchange)
+        is_other_lem e = (λ j. told (sym a j) (sym b j) (sym c j) (sym e j)) ∙ tell
 
-        pub is_passed : is_for peer to ≡ true → Says test.Passed
-        is_passed e = (λ j. told (sym a j) (sym b j) (sym c j) (not (sym e j))) ∙ tell
+        pub is_passed : not (is_for peer to) ≡ false → Says (Ok tt)
+        is_passed e = (λ j. told (sym a j) (sym b j) (sym c j) (sym e j)) ∙ tell
 
 -- ---- a call that passes has the room
 
-module _ (d : Device) (contacts : List ℕ) (to : Peer) (prefixes offers replies : ℕ) (window : List ℕ) (peer : ContactId) (listed : List ℕ) where
+module _ (d : Device) (contacts : List ℕ) (to : Option ContactId) (prefixes offers replies : ℕ) (window : List ℕ) (peer : ContactId) (listed : List ℕ) where
   -- what the function that tests says of every state
-  abbrev pub Tests : Test → Type 0
-  Tests r = (s : State) → Reads s d contacts to prefixes offers → r ≡ first_of (receive_inventory_tests s replies window peer listed) test.Refused test.Passed
+  abbrev pub Tests : Result Unit Refusal → Type 0
+  Tests r = (s : State) → Reads s d contacts to prefixes offers → r ≡ first_refusal (receive_inventory_tests s replies window peer listed)
 
   -- a state of which nothing else is known
   abbrev some_state : State
@@ -120,7 +115,7 @@ module _ (d : Device) (contacts : List ℕ) (to : Peer) (prefixes offers replies
     session = record { exchange = record { peer = to; complete = false; listed = []; offered = [] }; prefix_area = prefixes; offer_area = offers };
   }
 
-  pub has_room : {r : Test} → Tests r → r ≡ test.Passed → Room replies prefixes offers listed
+  pub has_room : {r : Result Unit Refusal} → Tests r → r ≡ (Ok tt) → Room replies prefixes offers listed
   unfolding ragged
   has_room t q =
       let R : Reads some_state d contacts to prefixes offers = record { contacts = refl; peer = refl; prefix_area = refl; offer_area = refl } in
@@ -136,7 +131,7 @@ module _ (d : Device) (contacts : List ℕ) (to : Peer) (prefixes offers replies
         whole = omega (arith, ltb-false 0 (length listed % 8) (or_false (wrong_window window) (ltb 0 (length listed % 8)) p.1).1);
       }
     where
-      go : (a b c o : Bool) → test.Passed ≡ told a b c o → (a ≡ false) × (b ≡ false)
+      go : (a b c o : Bool) → (Ok tt) ≡ told a b c o → (a ≡ false) × (b ≡ false)
       go true b c o e = let z : ◌≡◌ {A = ℕ} 0 1 = cc in absurd (omega arith)
       go false true c o e = let z : ◌≡◌ {A = ℕ} 0 1 = cc in absurd (omega arith)
       go false false c o e = (refl, refl)
@@ -144,20 +139,20 @@ module _ (d : Device) (contacts : List ℕ) (to : Peer) (prefixes offers replies
 -- ---- what the tests say of any list of them
 
 module _ {A : Type 0} (f : Refusal → A) (p : A) where
-  pub first_refused : (ts : List (Bool × Refusal)) {why : Refusal} → test.Refused why ≡ first_of ts test.Refused test.Passed → first_of ts f p ≡ f why
-  first_refused [] e = let z : ◌≡◌ {A = ℕ} 0 1 = cc in absurd (omega arith)
-  first_refused (t ∷ ts) {why} e = go t.0 e (first_refused ts)
-    where
-      go : (b : Bool) → test.Refused why ≡ cond b (test.Refused t.1) (first_of ts test.Refused test.Passed)
-          → (test.Refused why ≡ first_of ts test.Refused test.Passed → first_of ts f p ≡ f why) → cond b (f t.1) (first_of ts f p) ≡ f why
-      go true q rest = let z : t.1 ≡ why = cc in ap f z
-      go false q rest = rest q
+  abbrev by_test : Result Unit Refusal → A
+  by_test (Err why) = f why
+  by_test (Ok passed) = p
 
-  pub first_passed : (ts : List (Bool × Refusal)) → test.Passed ≡ first_of ts test.Refused test.Passed → first_of ts f p ≡ p
-  first_passed [] e = refl
-  first_passed (t ∷ ts) e = go t.0 e (first_passed ts)
+  first_by : (ts : List (Bool × Refusal)) → first_of ts f p ≡ by_test (first_refusal ts)
+  first_by [] = refl
+  first_by (t ∷ ts) = go t.0 (first_by ts)
     where
-      go : (b : Bool) → test.Passed ≡ cond b (test.Refused t.1) (first_of ts test.Refused test.Passed)
-          → (test.Passed ≡ first_of ts test.Refused test.Passed → first_of ts f p ≡ p) → cond b (f t.1) (first_of ts f p) ≡ p
-      go true q rest = let z : ◌≡◌ {A = ℕ} 0 1 = cc in absurd (omega arith)
-      go false q rest = rest q
+      go : (b : Bool) → first_of ts f p ≡ by_test (first_refusal ts) → cond b (f t.1) (first_of ts f p) ≡ by_test (cond b (Err t.1) (first_refusal ts))
+      go true rest = refl
+      go false rest = rest
+
+  pub first_refused : (ts : List (Bool × Refusal)) {why : Refusal} → Err why ≡ first_refusal ts → first_of ts f p ≡ f why
+  first_refused ts e = first_by ts ∙ ap by_test (sym e)
+
+  pub first_passed : (ts : List (Bool × Refusal)) → Ok tt ≡ first_refusal ts → first_of ts f p ≡ p
+  first_passed ts e = first_by ts ∙ ap by_test (sym e)

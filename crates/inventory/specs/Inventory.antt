@@ -1,8 +1,9 @@
 -- What the calls of the inventory say, by the model's definitions.
 -- Assumes nothing.
-use Rattle.std.specs.Prelude.{◌≡◌, ℕ, true, cond, List, [], ◌∷◌, ◌++◌, map, length}
+use Rattle.std.specs.Prelude.{◌≡◌, ℕ, true, cond, List, [], ◌∷◌, ◌++◌, map, length, Option, Some, None, Result, Ok, Err}
 use mathlib.Core.List.{flat_map}
 use Rattle.courier_core.specs.declared.ContactId.{ContactId}
+use Rattle.courier_core.specs.declared.Refusal.{Refusal}
 use Rattle.table.specs.Lists.{filter}
 use Rattle.table.specs.Codec.{table_of, with_table}
 use Rattle.rows.specs.declared.Own.{Own}
@@ -11,24 +12,23 @@ use Rattle.rows.specs.declared.Tombstone.{Tombstone}
 use Rattle.rows.specs.declared.BadTag.{BadTag}
 use Rattle.rows.specs.declared.Reachable.{Reachable}
 use Rattle.rows.specs.declared.Exchange.{Exchange}
-use Rattle.rows.specs.declared.Peer.{Peer}
 use Rattle.rows.specs.declared.Reply.{Reply}
 use Rattle.rows.specs.declared.Device.{Device}
-use Rattle.rows.specs.Rows.{contact_codec, offer_codec, reply_codec}
+use Rattle.rows.specs.Rows.{contact_codec, tombstone_codec, bad_tag_codec, offer_codec, reply_codec}
 use Rattle.model.specs.Basics.{trunc8}
 use Rattle.model.specs.State.{State}
-use Rattle.model.specs.Window.{window_rows, prefix_rows, prefix_codec}
-use Rattle.model.specs.Calls.{Answer, Result, refused, malformed, done, ours, found, missing, own_row, no_envelope, wrote, tomb_reply}
-use Rattle.model.specs.Areas.{Areas, Written, view}
-use Rattle.model.specs.Exchange.{Envelope, envelopes, reply_for, in_question, is_offered, halved, insert_offers, fetch_for, tomb_for, searched_count, receive_inventory}
-use Rattle.model.specs.Lent.{device_in, contacts_in, own_in, carried_in, tombstones_in, bad_tags_in, exchange_in, replies_lent}
+use Rattle.model.specs.Window.{window_rows, prefix_codec}
+use Rattle.model.specs.Calls.{Answer, Result as Outcome, refused, malformed, done, ours, found, missing, own_row, no_envelope, wrote, fetch_reply, tomb_reply}
+use Rattle.model.specs.Areas.{Areas}
+use Rattle.model.specs.Exchange.{Envelope, envelopes, reply_for, in_question, is_offered, halved, insert_offers, fetch_for, tomb_for, searched_count}
+use Rattle.model.specs.Lent.{device_in, contacts_in, own_in, carried_in, tombstones_in, bad_tags_in, exchange_in}
 use Rattle.offers.specs.declared.Row.{Row}
+use Rattle.offers.specs.Areas.{rows_of}
 use Rattle.offers.specs.Entries.{Entry, row_of}
 use Rattle.inventory.specs.declared.Received.{Received}
 use Rattle.inventory.specs.declared.Said.{Said}
 use Rattle.inventory.specs.declared.Said.TheVariants as said
-use Rattle.inventory.specs.declared.Listed.{Listed}
-use Rattle.inventory.specs.declared.Listed.TheVariants as listed
+use Rattle.inventory.specs.declared.Lookup.{Lookup}
 
 -- ---- inventory of ours
 
@@ -38,18 +38,19 @@ prefix_for r = cond r.goes (trunc8 r.tag ∷ []) []
 abbrev pub prefix_of : Entry → List (List ℕ)
 prefix_of e = prefix_for (row_of e)
 
-abbrev pub listed_of : Answer → Listed
-listed_of (refused why) = listed.Refused why
-listed_of malformed = listed.Wrote 0
-listed_of done = listed.Wrote 0
-listed_of (ours contact generation idx) = listed.Wrote 0
-listed_of (found cells position len) = listed.Wrote 0
-listed_of missing = listed.Wrote 0
-listed_of (own_row row) = listed.Wrote 0
-listed_of no_envelope = listed.Wrote 0
-listed_of (wrote count) = listed.Wrote count
+-- a refusal, or how many prefixes are written
+abbrev pub listed_of : Answer → Result ℕ Refusal
+listed_of (refused why) = Err why
+listed_of malformed = Ok 0
+listed_of done = Ok 0
+listed_of (ours contact generation idx) = Ok 0
+listed_of (found cells position len) = Ok 0
+listed_of missing = Ok 0
+listed_of (own_row row) = Ok 0
+listed_of no_envelope = Ok 0
+listed_of (wrote count) = Ok count
 
-abbrev pub inventory_says : Result → Listed
+abbrev pub inventory_says : Outcome → Result ℕ Refusal
 inventory_says o = listed_of o.answer
 
 -- what the call is lent, set into areas that are anything otherwise
@@ -57,6 +58,18 @@ abbrev pub held_in : Device → (contacts own carried : List ℕ) → Areas → 
 held_in d contacts own carried a = device_in d (contacts_in contacts (own_in own (carried_in carried a)))
 
 -- ---- inventory received: what is replied
+
+-- the tombstones, and the fetches of a listed prefix
+abbrev pub tombs : Lookup → List Tombstone
+tombs x = rows_of tombstone_codec x.tombstones
+
+abbrev pub fetches : Lookup → List ℕ → List Reply
+fetches x = fetch_for (rows_of bad_tag_codec x.bad_tags) (tombs x) (window_rows x.window.now) x.peer
+
+-- the fetch of a tag, if there is one
+abbrev pub fetch_of : Option (List ℕ) → List Reply
+fetch_of (Some tag) = fetch_reply tag ∷ []
+fetch_of None = []
 
 abbrev pub tomb_of : Tombstone → Reply
 tomb_of t = tomb_reply t.tag t.s
@@ -83,30 +96,36 @@ lengthened_to e listed = record { peer = e.peer; complete = e.complete; listed =
 -- the terminator is answered: with the replies rs and the offers of es, the tombstones searched for so many rows
 pub record Terminated (e : Exchange) (rs : List Reply) (es : List Envelope) (searched : ℕ) (replies offers : List ℕ) (r : Received) (replies' offers' : List ℕ) : Type 0 where
   pub exchange : r.exchange ≡ completed_with e (length (insert_offers es []))
-  pub said : r.said ≡ said.Done (length rs) searched
+  pub said : r.said ≡ Ok (said.Done (length rs) searched)
   pub rows : replies' ≡ with_table reply_codec replies rs
   pub table : offers' ≡ with_table offer_codec offers (insert_offers es [])
+
+-- the same, by what a lookup has and by the rows held
+abbrev pub Answers : Exchange → Lookup → List Own → List Carried → List (List ℕ) → (replies offers : List ℕ) → Received → (replies' offers' : List ℕ) → Type 0
+Answers e x own carried ls =
+    Terminated e (replies_for (rows_of bad_tag_codec x.bad_tags) (window_rows x.window.now) x.peer (tombs x) ls (offers_of x.peer (tombs x) ls own carried))
+    (offers_of x.peer (tombs x) ls own carried) (length (searched_of x.peer ls own carried))
 
 -- the prefixes ls are listed now
 pub record Lengthened (e : Exchange) (ls : List (List ℕ)) (prefixes : List ℕ) (r : Received) (prefixes' : List ℕ) : Type 0 where
   pub exchange : r.exchange ≡ lengthened_to e (length ls)
-  pub said : r.said ≡ said.Done 0 0
+  pub said : r.said ≡ Ok (said.Done 0 0)
   pub table : prefixes' ≡ with_table prefix_codec prefixes ls
 
 -- ---- the call
 
-abbrev pub said_of : Result → Answer → Said
-said_of o (refused why) = said.Refused why
-said_of o malformed = said.Malformed
-said_of o done = said.Done (length o.replies) (searched_count o)
-said_of o (ours contact generation idx) = said.Malformed
-said_of o (found cells position len) = said.Malformed
-said_of o missing = said.Malformed
-said_of o (own_row row) = said.Malformed
-said_of o no_envelope = said.Malformed
-said_of o (wrote count) = said.Malformed
+abbrev pub said_of : Outcome → Answer → Result Said Refusal
+said_of o (refused why) = Err why
+said_of o malformed = Ok said.Malformed
+said_of o done = Ok (said.Done (length o.replies) (searched_count o))
+said_of o (ours contact generation idx) = Ok said.Malformed
+said_of o (found cells position len) = Ok said.Malformed
+said_of o missing = Ok said.Malformed
+said_of o (own_row row) = Ok said.Malformed
+said_of o no_envelope = Ok said.Malformed
+said_of o (wrote count) = Ok said.Malformed
 
-abbrev pub received_says : Result → Said
+abbrev pub received_says : Outcome → Result Said Refusal
 received_says o = said_of o o.answer
 
 -- what the call is lent, set into areas that are anything otherwise
@@ -114,17 +133,8 @@ abbrev pub received_in : Device → (contacts own carried tombstones bad_tags : 
 received_in d contacts own carried tombstones bad_tags e prefixes offers a =
     device_in d (contacts_in contacts (own_in own (carried_in carried (tombstones_in tombstones (bad_tags_in bad_tags (exchange_in e prefixes offers a))))))
 
--- what the call does that is not refused, whatever the contacts are
-abbrev pub Performs : Device → ContactId → (own carried tombstones bad_tags window listed : List ℕ) → Exchange → (prefixes offers replies : List ℕ)
-    → Received → (prefixes' offers' replies' : List ℕ) → Type 0
-Performs d peer own carried tombstones bad_tags window listed e prefixes offers replies r prefixes' offers' replies' =
-    (contacts : List ℕ) (a : Areas)
-    → Written received_says (receive_inventory (view (received_in d contacts own carried tombstones bad_tags e prefixes offers a)) (window_rows window) peer (prefix_rows listed)) r.said
-    (received_in d contacts own carried tombstones bad_tags e prefixes offers a) (received_in d contacts own carried tombstones bad_tags r.exchange prefixes' offers' a)
-    (replies_lent replies) (replies_lent replies')
-
 -- the parts of a state that the tests read, by the areas
-pub record Reads (s : State) (d : Device) (area : List ℕ) (to : Peer) (prefixes offers : ℕ) : Type 0 where
+pub record Reads (s : State) (d : Device) (area : List ℕ) (to : Option ContactId) (prefixes offers : ℕ) : Type 0 where
   pub contacts : s.contacts ≡ table_of contact_codec d.contacts area
   pub peer : s.session.exchange.peer ≡ to
   pub prefix_area : s.session.prefix_area ≡ prefixes

@@ -2,10 +2,9 @@
 use mathlib.Core.Path.{◌≡◌, refl, ap, ap₂, ◌∙◌}
 use mathlib.Core.Bool.{Bool, true, false, cond}
 use mathlib.Core.List.{List, ◌++◌}
-use Prim.Native.Nat.{ℕ, ◌+◌, ◌-◌, ◌≤◌, ◌<◌}
-use native.Mathlib.Nat.{sub-zero}
+use Prim.Native.Nat.{ℕ, ◌+◌, ◌≤◌, ◌<◌}
 use native.Mathlib.Omega.{arith}
-use lib.ListN.{length, take, replicate, length-append, length-take}
+use lib.ListN.{length, take, replicate, length-append}
 use lib.Dec.{leb}
 use borrow.Author.Tests.{le-leb, lt-leb}
 use Rattle.octets.specs.Bytes.{splice, be}
@@ -14,11 +13,11 @@ use Rattle.octets.proofs.Numbers.{length_be}
 use Rattle.sha384.specs.Sha384.{sha384}
 use Rattle.hmac.specs.Hmac.{hmac}
 use Rattle.hmac.specs.Hkdf.{extract, expand, hkdf}
-use Rattle.kdf.specs.declared.Key.{Key}
-use Rattle.kdf.specs.declared.Digest.{Digest}
-use Rattle.kdf.specs.declared.Made.{Made}
-use Rattle.kdf.specs.declared.Made.TheVariants.{Done, LabelTooLong, OutTooLong}
-use Rattle.kdf.specs.Kdf.{protocol, head, labelled, tag, kdf, hash, commit_label, commit, longest_label, answered, key_as, digest_as, told, kept, is_done}
+use Rattle.std.specs.Prelude.{Option, Some, None, Result, Ok, Err}
+use Rattle.std.specs.Result.{is_ok}
+use Rattle.kdf.specs.declared.Refused.{Refused}
+use Rattle.kdf.specs.declared.Refused.TheVariants.{LabelTooLong, OutTooLong}
+use Rattle.kdf.specs.Kdf.{protocol, head, labelled, tag, kdf, hash, commit_label, commit, longest_label, answered, key_as, told, kept}
 
 -- ---- the answers
 
@@ -41,43 +40,60 @@ head_written label x y ex ey =
 
 -- ---- a lent area: what is answered, and what it holds
 
+module _ (label : List ℕ) (most n : ℕ) where
+  pub told_done : length label ≤ longest_label → n ≤ most → Ok tt ≡ told label most n
+  unfolding told
+  told_done h k = rw (le-leb n most k) (label_fits label _ _ h)
+
+  pub told_out : length label ≤ longest_label → most < n → Err OutTooLong ≡ told label most n
+  unfolding told
+  told_out h k = rw (lt-leb n most k) (label_fits label _ _ h)
+
+  pub told_label : longest_label < length label → Err LabelTooLong ≡ told label most n
+  unfolding told
+  told_label h = label_too_long label _ _ h
+
 module _ (label : List ℕ) (most : ℕ) (asked out : List ℕ) where
-  pub done : length label ≤ longest_label → length out ≤ most → (Done ≡ told label most (length out)) × (asked ≡ kept label most asked out)
-  unfolding told kept
-  done h k = let e = le-leb (length out) most k in (rw e (label_fits label _ _ h), rw e (label_fits label _ _ h))
+  pub kept_done : length label ≤ longest_label → length out ≤ most → asked ≡ kept label most asked out
+  unfolding kept
+  kept_done h k = rw (le-leb (length out) most k) (label_fits label _ _ h)
 
-  pub label_refused : longest_label < length label → (LabelTooLong ≡ told label most (length out)) × (out ≡ kept label most asked out)
-  unfolding told kept
-  label_refused h = (label_too_long label _ _ h, label_too_long label _ _ h)
+  pub kept_refused : {e : Refused} → Err e ≡ told label most (length out) → out ≡ kept label most asked out
+  unfolding told kept answered
+  kept_refused {e} h = go (leb (length label) longest_label) (leb (length out) most) h
+    where
+      go : (t u : Bool) → ◌≡◌ {A = Result (Unit {0}) Refused} (Err e) (cond t (cond u (Ok tt) (Err OutTooLong)) (Err LabelTooLong)) → out ≡ cond t (cond u asked out) out
+      go true true h = let z : ◌≡◌ {A = ℕ} 0 1 = cc in absurd (omega arith)
+      go true false h = refl
+      go false u h = refl
 
-  pub out_refused : length label ≤ longest_label → most < length out → (OutTooLong ≡ told label most (length out)) × (out ≡ kept label most asked out)
-  unfolding told kept
-  out_refused h k = let e = lt-leb (length out) most k in (rw e (label_fits label _ _ h), rw e (label_fits label _ _ h))
+-- an area of 16 bytes that was lent, and its answer, are a key by value
+module _ (label key : List ℕ) (most : ℕ) {r : Result (Unit {0}) Refused} (h : 16 ≤ most) (er : r ≡ told label most 16) where
+  pub key_made : {b : List ℕ} → true ≡ is_ok r → b ≡ kept label most key (replicate 16 0) → Some b ≡ key_as label key
+  unfolding told kept key_as answered
+  key_made {b} e eb = go (leb (length label) longest_label) (leb 16 most) (le-leb 16 most h) (e ∙ ap is_ok er) eb
+    where
+      go : (t u : Bool) → u ≡ true → true ≡ is_ok {T = Unit {0}} {E = Refused} (cond t (cond u (Ok tt) (Err OutTooLong)) (Err LabelTooLong))
+          → b ≡ cond t (cond u key (replicate 16 0)) (replicate 16 0) → ◌≡◌ {A = Option (List ℕ)} (Some b) (cond t (Some key) None)
+      go true true p e f = ap Some f
+      go true false p e f = let z : ◌≡◌ {A = ℕ} 0 1 = cc in absurd (omega arith)
+      go false u p e f = let z : ◌≡◌ {A = ℕ} 0 1 = cc in absurd (omega arith)
 
--- an area of 16 zeros that was lent, and its answer, are a key by value
-pub key_made : (label key : List ℕ) (most : ℕ) (m : Made) (fits : Bool) (b : List ℕ) → 16 ≤ most → m ≡ told label most 16 → fits ≡ is_done m
-    → b ≡ kept label most key (replicate 16 0) → ◌≡◌ {A = Key} (record { fits = fits; bytes = b }) (key_as label key)
-unfolding told kept key_as answered
-key_made label key most m fits b h em ef eb =
-    ap₂ (λ (f : Bool) (x : List ℕ). record { fits = f; bytes = x }) (ef ∙ ap is_done em) eb ∙ rw (le-leb 16 most h) (go (leb (length label) longest_label))
-  where
-    go : (t : Bool) → ◌≡◌ {A = Key} (record { fits = is_done (cond t Done LabelTooLong); bytes = cond t key (replicate 16 0) })
-        (cond t (record { fits = true; bytes = key }) (record { fits = false; bytes = replicate 16 0 }))
-    go true = refl
-    go false = refl
+  pub key_refused : false ≡ is_ok r → None ≡ key_as label key
+  unfolding told key_as answered
+  key_refused e = go (leb (length label) longest_label) (leb 16 most) (le-leb 16 most h) (e ∙ ap is_ok er)
+    where
+      go : (t u : Bool) → u ≡ true → false ≡ is_ok {T = Unit {0}} {E = Refused} (cond t (cond u (Ok tt) (Err OutTooLong)) (Err LabelTooLong))
+          → ◌≡◌ {A = Option (List ℕ)} None (cond t (Some key) None)
+      go true true p e = let z : ◌≡◌ {A = ℕ} 0 1 = cc in absurd (omega arith)
+      go true false p e = let z : ◌≡◌ {A = ℕ} 0 1 = cc in absurd (omega arith)
+      go false u p e = refl
 
 -- ---- the bytes
 
--- an area that a digest's front was copied into
-pub front_bytes : (d out out' : List ℕ) → length d ≡ 48 → length out ≤ 48 → out' ≡ splice out 0 (take (length out - 0) d) → out' ≡ take (length out) d
-front_bytes d out out' ld lo eo =
-    eo ∙ splice_all out (take (length out - 0) d) (omega (arith, length-take (length out - 0) d)) ∙ ap (λ (n : ℕ). take n d) (sub-zero (length out))
-
-pub tag_bytes : (key label x h d out out' : List ℕ) → h ≡ head label → d ≡ hmac key (h ++ label ++ x) → length d ≡ 48 → length out ≤ 48
-    → out' ≡ splice out 0 (take (length out - 0) d) → out' ≡ tag (length out) key label x
+pub tag_bytes : (n : ℕ) (key label x h : List ℕ) {d out : List ℕ} → h ≡ head label → d ≡ hmac key (h ++ label ++ x) → out ≡ take n d → out ≡ tag n key label x
 unfolding labelled
-tag_bytes key label x h d out out' eh ed ld lo eo =
-    front_bytes d out out' ld lo eo ∙ ap (take (length out)) (ed ∙ ap (λ (l : List ℕ). hmac key (l ++ label ++ x)) eh)
+tag_bytes n key label x h eh ed eo = eo ∙ ap (take n) (ed ∙ ap (λ (l : List ℕ). hmac key (l ++ label ++ x)) eh)
 
 pub kdf_bytes : (ikm salt label info h prk out out' : List ℕ) → h ≡ head label → prk ≡ extract salt ikm
     → out' ≡ expand prk (h ++ label ++ info) (length out) → out' ≡ kdf ikm salt label info (length out)
@@ -88,6 +104,6 @@ pub hash_bytes : (label x h : List ℕ) {b : List ℕ} → h ≡ head label → 
 unfolding hash labelled
 hash_bytes label x h eh e = e ∙ ap (λ (l : List ℕ). sha384 (l ++ label ++ x)) eh
 
-pub commit_bytes : (nonce : List ℕ) (d : Digest) (b : List ℕ) → d ≡ digest_as commit_label (hash commit_label nonce) → b ≡ take 32 d.bytes → b ≡ commit nonce
-unfolding commit digest_as answered
-commit_bytes nonce d b ed eb = eb ∙ ap (λ (x : Digest). take 32 x.bytes) ed
+pub commit_bytes : (nonce : List ℕ) {d b : List ℕ} → d ≡ hash commit_label nonce → b ≡ take 32 d → b ≡ commit nonce
+unfolding commit
+commit_bytes nonce ed eb = eb ∙ ap (take 32) ed

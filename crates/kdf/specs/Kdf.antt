@@ -1,15 +1,12 @@
 -- kdf.rs: labelled keys, tags and hashes.
 -- Assumes nothing.
-use Rattle.std.specs.Prelude.{ℕ, ◌+◌, Bool, true, false, cond, List, [], ◌∷◌, ◌++◌, length, take, replicate, leb}
+use Rattle.std.specs.Prelude.{ℕ, ◌+◌, cond, List, [], ◌∷◌, ◌++◌, length, take, leb, Option, Some, None, Result, Ok, Err}
 use Rattle.octets.specs.Bytes.{be}
 use Rattle.sha384.specs.Sha384.{sha384}
 use Rattle.hmac.specs.Hmac.{hmac}
 use Rattle.hmac.specs.Hkdf.{hkdf}
-use Rattle.kdf.specs.declared.Head.{Head}
-use Rattle.kdf.specs.declared.Key.{Key}
-use Rattle.kdf.specs.declared.Digest.{Digest}
-use Rattle.kdf.specs.declared.Made.{Made}
-use Rattle.kdf.specs.declared.Made.TheVariants.{Done, LabelTooLong, OutTooLong}
+use Rattle.kdf.specs.declared.Refused.{Refused}
+use Rattle.kdf.specs.declared.Refused.TheVariants.{LabelTooLong, OutTooLong}
 
 -- `cairn-r1 `, with its space
 abbrev pub protocol : List ℕ
@@ -47,7 +44,7 @@ commit_label = 99 ∷ 111 ∷ 109 ∷ 109 ∷ 105 ∷ 116 ∷ []
 unfoldable pub commit : (nonce : List ℕ) → List ℕ
 commit nonce = take 32 (hash commit_label nonce)
 
--- ---- the answers by value: a label whose length does not fit two bytes is answered by `fits`, and zeros
+-- ---- the answers by value: None for a label whose length does not fit two bytes
 
 abbrev pub longest_label : ℕ
 longest_label = 65526
@@ -55,14 +52,14 @@ longest_label = 65526
 unfoldable pub answered : {A : Type 0} → (label : List ℕ) → A → A → A
 answered label made none = cond (leb (length label) longest_label) made none
 
-unfoldable pub head_as : (label : List ℕ) → Head
-head_as label = answered label (record { fits = true; bytes = head label }) (record { fits = false; bytes = replicate 11 0 })
+unfoldable pub head_as : (label : List ℕ) → Option (List ℕ)
+head_as label = answered label (Some (head label)) None
 
-unfoldable pub key_as : (label key : List ℕ) → Key
-key_as label key = answered label (record { fits = true; bytes = key }) (record { fits = false; bytes = replicate 16 0 })
+unfoldable pub key_as : (label key : List ℕ) → Option (List ℕ)
+key_as label key = answered label (Some key) None
 
-unfoldable pub digest_as : (label digest : List ℕ) → Digest
-digest_as label digest = answered label (record { fits = true; bytes = digest }) (record { fits = false; bytes = replicate 48 0 })
+unfoldable pub digest_as : (label digest : List ℕ) → Option (List ℕ)
+digest_as label digest = answered label (Some digest) None
 
 -- ---- the answers for a lent area: the label is told first, since the source makes `labelled` before it asks for bytes
 
@@ -71,14 +68,9 @@ abbrev pub longest_tag : ℕ
 longest_tag = 48
 
 -- the answer for an area of n bytes, where at most `most` can be made
-unfoldable pub told : (label : List ℕ) (most n : ℕ) → Made
-told label most n = answered label (cond (leb n most) Done OutTooLong) LabelTooLong
+unfoldable pub told : (label : List ℕ) (most n : ℕ) → Result (Unit {0}) Refused
+told label most n = answered label (cond (leb n most) (Ok tt) (Err OutTooLong)) (Err LabelTooLong)
 
 -- what the area holds then: the bytes that were asked for, or what it held
 unfoldable pub kept : (label : List ℕ) (most : ℕ) (asked out : List ℕ) → List ℕ
 kept label most asked out = answered label (cond (leb (length out) most) asked out) out
-
-abbrev pub is_done : Made → Bool
-is_done Done = true
-is_done LabelTooLong = false
-is_done OutTooLong = false

@@ -1,62 +1,59 @@
 -- Laws of the load call: refused, and performed.
 -- Assumes nothing.
-use Rattle.std.proofs.Common.{◌≡◌, ℕ, ◌/◌, ◌≤◌, min, Bool, true, false, cond, List, [], ◌∷◌, length, sym, refl, ap, ◌∙◌, subst, arith, ltb-false}
+use Rattle.std.proofs.Common.{◌≡◌, ℕ, ◌/◌, ◌≤◌, min, Bool, true, false, cond, List, [], ◌∷◌, length, sym, refl, ap, ◌∙◌, subst, arith, ltb-false, Result, Ok, Err}
 use Rattle.courier_core.specs.declared.Refusal.{Refusal}
 use Rattle.table.specs.Codec.{table_of}
 use Rattle.rows.specs.declared.Contact.{Contact}
 use Rattle.rows.specs.declared.Device.{Device}
 use Rattle.rows.specs.Rows.{contact_codec}
 use Rattle.model.specs.State.{State}
-use Rattle.model.specs.Calls.{Result, refused, only, done, step_of}
+use Rattle.model.specs.Calls.{Result as Outcome, refused, only, done, step_of}
 use Rattle.model.specs.Cells.{cell_count}
 use Rattle.model.specs.Areas.{Areas, Written, view, store, store_device, store_session}
 use Rattle.model.specs.Lent.{no_answers}
 use Rattle.model.proofs.CallLaws.{quiet_call, refused_call}
-use Rattle.load_tests.specs.declared.Tested.{Tested}
-use Rattle.load_tests.specs.declared.Tested.TheVariants as tested
 use Rattle.load_tests.specs.Tests.{next_in, carried_count, tombstone_count, load_tests, tested_as}
-use Rattle.load_tests.proofs.TestLaws.{fine_none, fine_long, fine_whole, fine_kinds}
+use Rattle.load_tests.proofs.TestLaws.{fine_none, fine_long, fine_kinds}
 use Rattle.load.specs.declared.Have.{Have}
-use Rattle.load.specs.declared.Said.TheVariants as said
 use Rattle.load.specs.Load.{loaded, held_now, load_held_rows, load_step}
-use Rattle.load.specs.Laying.{Laid, Fine, says, load_lent, device_with}
+use Rattle.load.specs.Laying.{Laid, Fine, says, load_lent}
 
 -- a step by what its tests say
-abbrev pub after : Result → Tested → Result
-after p (tested.Refused why) = only (refused why)
-after p tested.Fine = p
+abbrev pub after : Outcome → Result (Unit {0}) Refusal → Outcome
+after p (Err why) = only (refused why)
+after p (Ok u) = p
 
-pub step_tested : (p : Result) (ts : List (Bool × Refusal)) → step_of ts p ≡ after p (tested_as ts)
+pub step_tested : (p : Outcome) (ts : List (Bool × Refusal)) → step_of ts p ≡ after p (tested_as ts)
 unfolding step_of tested_as
 step_tested p [] = refl
 step_tested p (t ∷ ts) = go t.0 (step_tested p ts)
   where
-    go : (b : Bool) → step_of ts p ≡ after p (tested_as ts) → cond b (only (refused t.1)) (step_of ts p) ≡ after p (cond b (tested.Refused t.1) (tested_as ts))
+    go : (b : Bool) → step_of ts p ≡ after p (tested_as ts) → cond b (only (refused t.1)) (step_of ts p) ≡ after p (cond b (Err t.1) (tested_as ts))
     go true e = refl
     go false e = e
 
 -- what holds of a refusal, and of what is performed where no test holds, holds of a load
-pub load_cases : (s : State) (file : List ℕ) (P : Result → Type 0) → ((why : Refusal) → P (only (refused why)))
-    → (tested.Fine ≡ tested_as (load_tests s.contacts (length s.carried_cells) s.tombstone_rows file) → P (load_held_rows s file)) → P (load_step s file)
+pub load_cases : (s : State) (file : List ℕ) (P : Outcome → Type 0) → ((why : Refusal) → P (only (refused why)))
+    → (Ok tt ≡ tested_as (load_tests s.contacts (length s.carried_cells) s.tombstone_rows file) → P (load_held_rows s file)) → P (load_step s file)
 unfolding load_step
 load_cases s file P f g = subst P (sym (step_tested (load_held_rows s file) ts)) (go (tested_as ts) refl)
   where
     ts : List (Bool × Refusal)
     ts = load_tests s.contacts (length s.carried_cells) s.tombstone_rows file
 
-    go : (r : Tested) → tested_as ts ≡ r → P (after (load_held_rows s file) r)
-    go (tested.Refused why) e = f why
-    go tested.Fine e = g (sym e)
+    go : (r : Result (Unit {0}) Refusal) → tested_as ts ≡ r → P (after (load_held_rows s file) r)
+    go (Err why) e = f why
+    go (Ok u) e = g (sym e)
 
 pub not_done : (why : Refusal) → refused why ≡ done → ⊥
 not_done why e = let z : ◌≡◌ {A = ℕ} 0 1 = cc in omega arith
 
 -- a file that is fine, and room for it in the areas
 module _ (cs : List Contact) (file : List ℕ) where
-  pub fine_ten : (c r : ℕ) → tested.Fine ≡ tested_as (load_tests cs c r file) → 10 ≤ length file
+  pub fine_ten : (c r : ℕ) → Ok tt ≡ tested_as (load_tests cs c r file) → 10 ≤ length file
   fine_ten c r e = fine_long cs file (fine_none cs file c r e).0
 
-  pub fine_areas : (carried tombs cells : List ℕ) → length carried ≡ 14592 → tested.Fine ≡ tested_as (load_tests cs (length cells) (length tombs / 44) file)
+  pub fine_areas : (carried tombs cells : List ℕ) → length carried ≡ 14592 → Ok tt ≡ tested_as (load_tests cs (length cells) (length tombs / 44) file)
       → Fine file carried tombs cells
   unfolding cell_count
   fine_areas carried tombs cells s e =
@@ -64,8 +61,6 @@ module _ (cs : List Contact) (file : List ℕ) where
       let c : carried_count file ≤ min 256 (length cells / 2064) = ltb-false (cell_count (length cells)) (carried_count file) n.1.0 in
       let t : tombstone_count file ≤ length tombs / 44 = ltb-false (length tombs / 44) (tombstone_count file) n.1.1 in
       record {
-        long = fine_ten (length cells) (length tombs / 44) e;
-        whole = fine_whole cs file n.0;
         kinds = fine_kinds cs file n.0;
         few = omega arith;
         carried = omega arith;
@@ -77,25 +72,24 @@ module _ (d : Device) (contacts carried tombs cells file : List ℕ) where
   abbrev cs : List Contact
   cs = table_of contact_codec d.contacts contacts
 
-  abbrev Says : Tested → Type 0
+  abbrev Says : Result (Unit {0}) Refusal → Type 0
   Says r = r ≡ tested_as (load_tests cs (length cells) (length tombs / 44) file)
 
   module _ (a : Areas) where
     abbrev B : Areas
     B = load_lent d contacts carried tombs cells a
 
-    step_of_lem : (r : Tested) → Says r → load_step (view B) file ≡ after (load_held_rows (view B) file) r
+    step_of_lem : (r : Result (Unit {0}) Refusal) → Says r → load_step (view B) file ≡ after (load_held_rows (view B) file) r
     unfolding load_step view
     step_of_lem r e = step_tested (load_held_rows (view B) file) (load_tests cs (length cells) (length tombs / 44) file) ∙ ap (after (load_held_rows (view B) file)) (sym e)
 
-    pub load_refused : (why : Refusal) → Says (tested.Refused why) → Written says (load_step (view B) file) (said.Refused why) B B no_answers no_answers
-    load_refused why e = refused_call why (step_of_lem (tested.Refused why) e) refl refl
+    pub load_refused : (why : Refusal) → Says (Err why) → Written says (load_step (view B) file) (Err why) B B no_answers no_answers
+    load_refused why e = refused_call why (step_of_lem (Err why) e) refl refl
 
-    pub load_performed : Says tested.Fine → {h : Have} {x y z : List ℕ} {next : ℕ} {r : Device} → Laid carried tombs (loaded cells file) h x y z → next ≡ next_in file
-        → r ≡ device_with h.carried h.tombstones next d
-        → Written says (load_step (view B) file) said.Done B (load_lent r contacts x y z a) no_answers no_answers
+    pub load_performed : Says (Ok tt) → {h : Have} {x y z : List ℕ} {next : ℕ} → Laid carried tombs (loaded cells file) h x y z → next ≡ next_in file
+        → Written says (load_step (view B) file) (Ok tt) B
+        (load_lent (record d { carried = h.carried; tombstones = h.tombstones; next_slot = next }) contacts x y z a) no_answers no_answers
     unfolding load_held_rows view store store_device store_session
-    load_performed e {x = x} {y} {z} L en er =
-        quiet_call done (held_now (loaded cells file) (next_in file)) (step_of_lem tested.Fine e) refl
-        (ap (λ (k : Device). load_lent k contacts x y z a) er
-        ∙ (λ j. load_lent (device_with (L.carried.count j) (L.tombstones.count j) (en j) d) contacts (L.carried.area j) (L.tombstones.area j) (L.cells j) a))
+    load_performed e L en =
+        quiet_call done (held_now (loaded cells file) (next_in file)) (step_of_lem (Ok tt) e) refl
+        (λ j. load_lent (record d { carried = L.carried.count j; tombstones = L.tombstones.count j; next_slot = en j }) contacts (L.carried.area j) (L.tombstones.area j) (L.cells j) a)

@@ -1,9 +1,8 @@
 -- Conditions of number 8 that do not hold of a saved file: length, place of `HN`, mark, blob and kind, slot past the next or twice, carried
 -- tag twice, unknown depositor, over 32 of one.
 -- Assumes nothing.
-use Rattle.std.proofs.Common.{◌≡◌, ℕ, suc, ◌+◌, ◌<◌, ◌≤◌, Bool, true, false, cond, not, ◌&&◌, ◌||◌, eqb, leb, List, [], ◌∷◌, ◌++◌, map, length, take, drop, sym, refl, ap, ◌∙◌, subst, ap₂, append-nil, arith, length-append, drop-drop, le-ltb, eq-eqb}
+use Rattle.std.proofs.Common.{◌≡◌, ℕ, suc, ◌+◌, ◌<◌, ◌≤◌, Bool, true, false, cond, not, ◌&&◌, ◌||◌, eqb, leb, List, [], ◌∷◌, ◌++◌, map, length, take, drop, sym, refl, ap, ◌∙◌, subst, ap₂, append-nil, arith, length-append, drop-drop, le-ltb, eq-eqb, Some}
 use mathlib.Core.Bool.{false≢true}
-use mathlib.Core.Option.{some}
 use borrow.Author.Tests.{lt-leb}
 use Rattle.octets.specs.Bytes.{part, num, be, same_bytes}
 use Rattle.octets.proofs.Compare.{same_eq}
@@ -77,7 +76,7 @@ module _ (h : Slotted) (B : Back h) where
   unfolding fails any strange_mark refused_blob other_kind is_carried is_tombstone has_key same_bytes
   kind_saved = go h.held (mark_saved h) (ap held_decode (blob_saved h) ∙ B.read)
     where
-      go : (x : Held) → part (saved_record h) 0 2 ≡ held_mark x → held_decode (drop 12 (saved_record h)) ≡ some x
+      go : (x : Held) → part (saved_record h) 0 2 ≡ held_mark x → held_decode (drop 12 (saved_record h)) ≡ Some x
           → (not (same_bytes (part (saved_record h) 0 2) (72 ∷ 67 ∷ []) || same_bytes (part (saved_record h) 0 2) (72 ∷ 84 ∷ []))
           || (match_some (held_decode (drop 12 (saved_record h))) (λ (k : Held). false) true
           || (match_some (held_decode (drop 12 (saved_record h))) (λ (k : Held). not (has_key 0 (held_mark k) (saved_record h))) false || false))) ≡ false
@@ -194,8 +193,8 @@ module _ (h : Slotted) (B : Back h) where
   -- what is read of its blob is the row
   seen : (r : HeldCarried) (ct : List ℕ) → h.held ≡ held.carried r ct → (carried_of (drop 12 b) ≡ r) × (58 ≤ length b)
   seen r ct e =
-      let D : Decoded (held_row h.held) (some (held.carried r ct)) =
-      subst (Decoded (held_row h.held)) (B.read ∙ ap (λ (x : Held). some x) e) (decoded (held_row h.held)) in
+      let D : Decoded (held_row h.held) (Some (held.carried r ct)) =
+      subst (Decoded (held_row h.held)) (B.read ∙ ap (λ (x : Held). Some x) e) (decoded (held_row h.held)) in
       (ap carried_of (blob_saved h) ∙ sym D.0, omega (arith, D.1.1.0, length_saved h))
 
   depositor_saved : of_carried h ≡ true → num (depositor_in b) ≡ depositor_of h.held

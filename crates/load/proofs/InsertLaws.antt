@@ -1,9 +1,8 @@
 -- Laws of a row that is put in by its slot.
 -- Assumes nothing.
-use Rattle.std.proofs.Common.{◌≡◌, ℕ, ◌+◌, ◌-◌, ◌*◌, ◌<◌, ◌≤◌, Bool, cond, ltb, List, map, length, take, drop, sym, refl, ap, ◌∙◌, subst, ap₂, add-zero, arith}
+use Rattle.std.proofs.Common.{◌≡◌, ℕ, ◌+◌, ◌-◌, ◌*◌, ◌<◌, ◌≤◌, Bool, cond, ltb, List, map, length, take, drop, sym, refl, ap, ◌∙◌, subst, ap₂, add-zero, arith, Some, None}
 use Rattle.octets.specs.Bytes.{part, splice, num}
 use Rattle.octets.proofs.Parts.{part_part}
-use Rattle.table.specs.declared.Found.TheVariants.{At, Nothing}
 use Rattle.table.specs.Lists.{All, position_from, position, unwrap_or, insert_at}
 use Rattle.table.specs.Rows.{held, rows, RowsNow}
 use Rattle.table.specs.Codec.{Codec, CodecLaws, table_of, TableNow}
@@ -15,20 +14,20 @@ use Rattle.rows.specs.Rows.{carried_codec, carried_of, tombstone_codec, tombston
 use Rattle.state.specs.declared.Carried.{Carried as HeldCarried}
 use Rattle.rows.specs.declared.Carried.{Carried}
 use Rattle.rows.specs.Proper.{ProperCarried}
-use Rattle.load_tests.proofs.BlobLaws.{rest_here}
+use Rattle.load_tests.proofs.RecordLaws.{lent_tail}
 use Rattle.load.specs.Load.{insert_by, carried_slot, carried_row}
 use Rattle.load.specs.Laying.{higher, Inserted, Carries}
 
 module _ (w n : ℕ) (a : List ℕ) (slot : ℕ) where
   pub slot_next : (i v : ℕ) (b : Bool) → 8 ≤ w → i < n → v ≡ num (part a (i * w) 8) → ltb slot v ≡ b
-      → position_from i (higher slot) (drop i (rows w n a)) ≡ cond b (At i) (position_from (i + 1) (higher slot) (drop (i + 1) (rows w n a)))
+      → position_from i (higher slot) (drop i (rows w n a)) ≡ cond b (Some i) (position_from (i + 1) (higher slot) (drop (i + 1) (rows w n a)))
   unfolding higher
   slot_next i v b h k e t =
       position_next (higher slot) (rows w n a) i (part a (i * w) w) b (rows_next w i n a k)
       (ap (λ (x : List ℕ). ltb slot (num x)) (part_part a (i * w) w 0 8 (omega arith) ∙ ap (λ (j : ℕ). part a j 8) (add-zero (i * w)))
       ∙ ap (ltb slot) (sym e) ∙ t)
 
-  pub slot_end : (i : ℕ) → n ≤ i → position_from i (higher slot) (drop i (rows w n a)) ≡ Nothing
+  pub slot_end : (i : ℕ) → n ≤ i → position_from i (higher slot) (drop i (rows w n a)) ≡ None
   slot_end i h = position_end (higher slot) (rows w n a) i (omega (arith, length_rows w n a))
 
   pub place_le : {i : ℕ} → i ≡ unwrap_or n (position (higher slot) (rows w n a)) → i ≤ n
@@ -80,10 +79,10 @@ unfolding tombstone_of
 tombstone_starts b = refl
 
 -- a carried record: its row among the others, its ciphertext in its cell
-pub carries : (file : List ℕ) (at n : ℕ) (row : HeldCarried) (p : ℕ) (x z : List ℕ) (p' : ℕ) (x' z' : List ℕ) {slot : ℕ} {new : Carried} → 58 ≤ n
-    → slot ≡ num (part file (at + 2) 8) → new ≡ carried_row slot (n - 58) p row → z' ≡ splice z (p * 2064) (take (at + n - (at + 58)) (drop (at + 58) file))
-    → Inserted carried_codec ProperCarried carried_slot new p x p' x' → Carries file at n row p x z p' x' z'
-carries file at n row p x z p' x' z' h es en ez I = record {
-  table = subst (λ (r : Carried). Inserted carried_codec ProperCarried carried_slot r p x p' x') (en ∙ ap (λ (s : ℕ). carried_row s (n - 58) p row) es) I;
-  cells = ez ∙ ap (splice z (p * 2064)) (sym (rest_here file at n 58 h));
+pub carries : (b : List ℕ) (row : HeldCarried) (p : ℕ) (x z : List ℕ) (p' : ℕ) (x' z' : List ℕ) {slot : ℕ} {new : Carried}
+    → slot ≡ num (part b 2 8) → new ≡ carried_row slot (length b - 58) p row → z' ≡ splice z (p * 2064) (take (length b - 58) (drop 58 b))
+    → Inserted carried_codec ProperCarried carried_slot new p x p' x' → Carries b row p x z p' x' z'
+carries b row p x z p' x' z' es en ez I = record {
+  table = subst (λ (r : Carried). Inserted carried_codec ProperCarried carried_slot r p x p' x') (en ∙ ap (λ (s : ℕ). carried_row s (length b - 58) p row) es) I;
+  cells = ez ∙ ap (splice z (p * 2064)) (lent_tail 58 b);
 }

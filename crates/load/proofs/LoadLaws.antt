@@ -1,12 +1,10 @@
 -- Laws of the records, loaded one by one.
 -- Assumes nothing.
-use Rattle.std.proofs.Common.{◌≡◌, ℕ, ◌+◌, ◌-◌, ◌*◌, ◌<◌, ◌≤◌, Bool, true, false, cond, ◌||◌, List, [], ◌∷◌, length, drop, sym, refl, ap, ◌∙◌, subst, zero-add, arith, length-drop, drop-drop}
-use mathlib.Core.Option.{Option, none, some}
+use Rattle.std.proofs.Common.{◌≡◌, ℕ, ◌+◌, ◌-◌, ◌*◌, ◌<◌, ◌≤◌, Bool, true, false, cond, List, [], ◌∷◌, length, drop, sym, refl, ap, ◌∙◌, subst, ap₂, zero-add, arith, length-drop, drop-drop, Option, Some, None}
 use borrow.Author.Tests.{not-false}
 use Rattle.octets.specs.Bytes.{part, splice, num, same_bytes}
-use Rattle.octets.proofs.Parts.{part_part, length_part}
 use Rattle.octets.proofs.Compare.{same_eq}
-use Rattle.table.specs.Lists.{any, count_by}
+use Rattle.table.specs.Lists.{count_by}
 use Rattle.table.specs.Rows.{has_key}
 use Rattle.table.specs.Codec.{Codec, with_table, TableNow}
 use Rattle.table.proofs.ListLaws.{count_append}
@@ -14,8 +12,7 @@ use Rattle.table.proofs.RowLaws.{mul_le, next_row, written_none, held_all}
 use Rattle.table.proofs.TableLaws.{table_then, table_none}
 use Rattle.state.specs.declared.Carried.{Carried as HeldCarried}
 use Rattle.state.specs.declared.Tombstone.{Tombstone as HeldTombstone}
-use Rattle.state.specs.declared.HeldRead.{HeldRead}
-use Rattle.state.specs.declared.HeldKind.TheVariants as kind
+use Rattle.state.specs.declared.Held.TheVariants as read
 use Rattle.state.specs.Held.{Held, held_decode, held_read}
 use Rattle.state.specs.Held as held
 use Rattle.rows.specs.declared.Carried.{Carried}
@@ -25,11 +22,10 @@ use Rattle.rows.specs.Proper.{ProperTombstone}
 use Rattle.rows.proofs.Laws.{carried_laws, tombstone_laws}
 use Rattle.model.specs.Basics.{match_some}
 use Rattle.history.specs.Order.{empty}
-use Rattle.load_tests.specs.Records.{record_size, records, records_at, WholeAt, is_carried, is_tombstone}
+use Rattle.load_tests.specs.Records.{records, is_carried, is_tombstone}
 use Rattle.load_tests.specs.Tests.{kind_tests, fails}
-use Rattle.load_tests.proofs.RecordLaws.{record_here, whole_here, whole_next, whole_end, size_least}
 use Rattle.load_tests.proofs.BlobLaws.{Decoded, decoded, kind_tested}
-use Rattle.load_tests.proofs.TestLaws.{left_no, right_no}
+use Rattle.load_tests.proofs.TestLaws.{none_here, none_next}
 use Rattle.load.specs.declared.Have.{Have}
 use Rattle.load.specs.Load.{insert_by, carried_slot, tombstone_slot, carried_row, tombstone_row, Rows, load_held, load_record, load_records, no_rows, loaded}
 use Rattle.load.specs.Laying.{Rise, Inserted, Carries, Laid, Room, Loads, Fine, Loading}
@@ -38,16 +34,18 @@ use Rattle.load.proofs.PlaceLaws.{rise_table, by_slot_lem}
 
 -- ---- what a record's kind says
 
-as_carried : (b : List ℕ) (d : Option Held) → Decoded b d → kind.Carried ≡ (held_read d).kind
-    → (d ≡ some (held.carried (held_read d).carried (drop 46 b))) × ((46 ≤ length b) × (length b ≤ 2110))
-as_carried b none D e = let z : ◌≡◌ {A = ℕ} 0 1 = cc in absurd (omega arith)
-as_carried b (some (held.carried r ct)) D e = (ap (λ (x : List ℕ). some (held.carried r x)) D.1.0, D.1.1)
-as_carried b (some (held.tombstone t)) D e = let z : ◌≡◌ {A = ℕ} 0 1 = cc in absurd (omega arith)
+as_carried : (b : List ℕ) (d : Option Held) → Decoded b d → {r : HeldCarried} → Some (read.Carried r) ≡ held_read d
+    → (d ≡ Some (held.carried r (drop 46 b))) × ((46 ≤ length b) × (length b ≤ 2110))
+as_carried b None D e = let z : ◌≡◌ {A = ℕ} 0 1 = cc in absurd (omega arith)
+as_carried b (Some (held.carried q ct)) D {r} e =
+    let z : q ≡ r = cc in
+    (ap₂ (λ (u : HeldCarried) (x : List ℕ). Some (held.carried u x)) z D.1.0, D.1.1)
+as_carried b (Some (held.tombstone t)) D e = let z : ◌≡◌ {A = ℕ} 0 1 = cc in absurd (omega arith)
 
-as_tombstone : (d : Option Held) → kind.Tombstone ≡ (held_read d).kind → d ≡ some (held.tombstone (held_read d).tombstone)
-as_tombstone none e = let z : ◌≡◌ {A = ℕ} 0 1 = cc in absurd (omega arith)
-as_tombstone (some (held.carried r ct)) e = let z : ◌≡◌ {A = ℕ} 0 1 = cc in absurd (omega arith)
-as_tombstone (some (held.tombstone t)) e = refl
+as_tombstone : (d : Option Held) {r : HeldTombstone} → Some (read.Tombstone r) ≡ held_read d → d ≡ Some (held.tombstone r)
+as_tombstone None e = let z : ◌≡◌ {A = ℕ} 0 1 = cc in absurd (omega arith)
+as_tombstone (Some (held.carried r ct)) e = let z : ◌≡◌ {A = ℕ} 0 1 = cc in absurd (omega arith)
+as_tombstone (Some (held.tombstone t)) {r} e = let z : t ≡ r = cc in ap (λ (u : HeldTombstone). Some (held.tombstone u)) z
 
 module _ (b : List ℕ) where
   -- no record has both marks
@@ -60,16 +58,16 @@ module _ (b : List ℕ) where
   tombstone_alone e = ap (λ (l : List ℕ). same_bytes l (72 ∷ 67 ∷ [])) (same_eq (part b 0 2) (72 ∷ 84 ∷ []) e)
 
   module _ (f : fails kind_tests b ≡ false) where
-    pub marked_carried : kind.Carried ≡ (held_read (held_decode (drop 12 b))).kind → is_carried b ≡ true
+    pub marked_carried : {r : HeldCarried} → Some (read.Carried r) ≡ held_read (held_decode (drop 12 b)) → is_carried b ≡ true
     unfolding is_carried
-    marked_carried e = not-false (has_key 0 (72 ∷ 67 ∷ []) b) (kind_tested b kind.Carried e ∙ f)
+    marked_carried e = not-false (has_key 0 (72 ∷ 67 ∷ []) b) (kind_tested b _ e ∙ f)
 
-    pub marked_tombstone : kind.Tombstone ≡ (held_read (held_decode (drop 12 b))).kind → is_tombstone b ≡ true
+    pub marked_tombstone : {r : HeldTombstone} → Some (read.Tombstone r) ≡ held_read (held_decode (drop 12 b)) → is_tombstone b ≡ true
     unfolding is_tombstone
-    marked_tombstone e = not-false (has_key 0 (72 ∷ 84 ∷ []) b) (kind_tested b kind.Tombstone e ∙ f)
+    marked_tombstone e = not-false (has_key 0 (72 ∷ 84 ∷ []) b) (kind_tested b _ e ∙ f)
 
-    pub some_kind : kind.None ≡ (held_read (held_decode (drop 12 b))).kind → ⊥
-    some_kind e = let q : true ≡ false = kind_tested b kind.None e ∙ f in let z : ◌≡◌ {A = ℕ} 0 1 = cc in omega arith
+    pub some_kind : None ≡ held_read (held_decode (drop 12 b)) → ⊥
+    some_kind e = let q : true ≡ false = kind_tested b None e ∙ f in let z : ◌≡◌ {A = ℕ} 0 1 = cc in omega arith
 
   pub one : (p : List ℕ → Bool) (x : Bool) → p b ≡ x → count_by p (b ∷ []) ≡ cond x 1 0
   unfolding count_by
@@ -82,47 +80,40 @@ none_laid c a w = record { count = refl; area = sym (written_none a); table = ta
 
 -- ---- a record more
 
-module _ (file : List ℕ) (at n : ℕ) (hn : at + n ≤ length file) (h : Have) (x y z : List ℕ) (R : Room (part file at n) h x y z) (row : HeldRead)
-    (q : row ≡ held_read (held_decode (drop 12 (part file at n)))) where
-  abbrev b : List ℕ
-  b = part file at n
-
-  module _ (e : kind.Carried ≡ row.kind) where
+module _ (b : List ℕ) (h : Have) (x y z : List ℕ) (R : Room b h x y z) where
+  module _ {row : HeldCarried} (q : Some (read.Carried row) ≡ held_read (held_decode (drop 12 b))) where
     is_carried_lem : is_carried b ≡ true
-    is_carried_lem = marked_carried b R.kind (e ∙ ap (λ (r : HeldRead). r.kind) q)
+    is_carried_lem = marked_carried b R.kind q
 
-    abbrev seen : (held_decode (drop 12 b) ≡ some (held.carried (held_read (held_decode (drop 12 b))).carried (drop 46 (drop 12 b)))) × ((46 ≤ length (drop 12 b)) × (length (drop 12 b) ≤ 2110))
-    seen = as_carried (drop 12 b) (held_decode (drop 12 b)) (decoded (drop 12 b)) (e ∙ ap (λ (r : HeldRead). r.kind) q)
+    abbrev seen : (held_decode (drop 12 b) ≡ Some (held.carried row (drop 46 (drop 12 b)))) × ((46 ≤ length (drop 12 b)) × (length (drop 12 b) ≤ 2110))
+    seen = as_carried (drop 12 b) (held_decode (drop 12 b)) (decoded (drop 12 b)) q
 
-    pub carried_room : ((at + n ≤ length file) × ((58 ≤ n) × (n ≤ 2122))) × ((h.carried < 65536) × (((h.carried * 57 + 57 ≤ length x) × (h.carried * 2064 + 2064 ≤ length z)) × Rise 57 h.carried x))
+    pub carried_room : ((58 ≤ length b) × (length b ≤ 2122)) × ((h.carried < 65536) × (((h.carried * 57 + 57 ≤ length x) × (h.carried * 2064 + 2064 ≤ length z)) × Rise 57 h.carried x))
     carried_room =
         let s = seen in
-        ((hn, (omega (arith, s.1.0, length-drop 12 b, length_part file at n hn), omega (arith, s.1.1, length-drop 12 b, length_part file at n hn))), (R.few, (R.carried is_carried_lem, R.carried_rise)))
+        ((omega (arith, s.1.0, length-drop 12 b), omega (arith, s.1.1, length-drop 12 b)), (R.few, (R.carried is_carried_lem, R.carried_rise)))
 
-    module _ (p : ℕ) (x' z' : List ℕ) (C : Carries file at n row.carried h.carried x z p x' z') where
+    module _ (p : ℕ) (x' z' : List ℕ) (C : Carries b row h.carried x z p x' z') where
       carried_laid : (a t : List ℕ) (l : Rows) → Laid a t l h x y z → Laid a t (load_record l b) (record { carried = p; tombstones = h.tombstones }) x' y z'
       unfolding load_record load_held
       carried_laid a t l L =
-          let r : HeldCarried = row.carried in
           let ct : List ℕ = drop 46 (drop 12 b) in
           let s = seen in
-          let er : (held_read (held_decode (drop 12 b))).carried ≡ r = ap (λ (u : HeldRead). u.carried) (sym q) in
-          let ed : held_decode (drop 12 b) ≡ some (held.carried r ct) = s.0 ∙ ap (λ (u : HeldCarried). some (held.carried u ct)) er in
           let ec : drop 58 b ≡ ct = sym (drop-drop 46 12 b) in
-          let el : n - 58 ≡ length ct = omega (arith, ap length ec, length-drop 58 b, length_part file at n hn) in
+          let el : length b - 58 ≡ length ct = omega (arith, ap length ec, length-drop 58 b) in
           let ep : h.carried ≡ length l.carried = L.carried.count in
-          let en : carried_row (num (part file (at + 2) 8)) (n - 58) h.carried r ≡ carried_row (num (part b 2 8)) (length ct) (length l.carried) r =
-          λ j. carried_row (num (sym (part_part file at n 2 8 (omega (arith, s.1.0, length-drop 12 b, length_part file at n hn))) j)) (el j) (ep j) r in
-          let N : Carried = carried_row (num (part file (at + 2) 8)) (n - 58) h.carried r in
+          let N : Carried = carried_row (num (part b 2 8)) (length b - 58) h.carried row in
+          let en : N ≡ carried_row (num (part b 2 8)) (length ct) (length l.carried) row =
+          ap₂ (λ (n k : ℕ). carried_row (num (part b 2 8)) n k row) el ep in
           let T : TableNow carried_codec a (insert_by carried_slot N l.carried) p x' =
           table_then carried_laws (insert_by carried_slot N) (λ k. insert_proper carried_slot N l.carried C.table.proper k) C.table.bytes
           (omega (arith, C.table.more)) L.carried C.table.table in
-          let M : Laid a t (load_held l (num (part b 2 8)) (held.carried r ct)) (record { carried = p; tombstones = h.tombstones }) x' y z' = record {
+          let M : Laid a t (load_held l (num (part b 2 8)) (held.carried row ct)) (record { carried = p; tombstones = h.tombstones }) x' y z' = record {
             carried = subst (λ (u : Carried). TableNow carried_codec a (insert_by carried_slot u l.carried) p x') en T;
             tombstones = L.tombstones;
             cells = C.cells ∙ (λ j. splice (L.cells j) (ep j * 2064) (ec j));
           } in
-          subst (λ (d : Option Held). Laid a t (match_some d (λ (k : Held). load_held l (num (part b 2 8)) k) l) (record { carried = p; tombstones = h.tombstones }) x' y z') (sym ed) M
+          subst (λ (d : Option Held). Laid a t (match_some d (λ (k : Held). load_held l (num (part b 2 8)) k) l) (record { carried = p; tombstones = h.tombstones }) x' y z') (sym s.0) M
 
       pub loads_carried : length x' ≡ length x → length z' ≡ length z → Loads b h x y z (record { carried = p; tombstones = h.tombstones }) x' y z'
       loads_carried sx sz = record {
@@ -134,27 +125,24 @@ module _ (file : List ℕ) (at n : ℕ) (hn : at + n ≤ length file) (h : Have)
         tombstones = omega (arith, one b is_tombstone false (carried_alone b is_carried_lem));
       }
 
-  module _ (e : kind.Tombstone ≡ row.kind) where
+  module _ {row : HeldTombstone} (q : Some (read.Tombstone row) ≡ held_read (held_decode (drop 12 b))) where
     is_tombstone_lem : is_tombstone b ≡ true
-    is_tombstone_lem = marked_tombstone b R.kind (e ∙ ap (λ (r : HeldRead). r.kind) q)
+    is_tombstone_lem = marked_tombstone b R.kind q
 
     pub tombstone_room : (h.tombstones * 44 + 44 ≤ length y) × Rise 44 h.tombstones y
     tombstone_room = (R.tombstone is_tombstone_lem, R.tombstones_rise)
 
-    module _ (m : ℕ) (y' : List ℕ) (new : Tombstone) (slot : ℕ) (long : 12 ≤ n) (es : slot ≡ num (part file (at + 2) 8)) (et : new ≡ tombstone_row slot row.tombstone)
+    module _ (m : ℕ) (y' : List ℕ) (new : Tombstone) (slot : ℕ) (es : slot ≡ num (part b 2 8)) (et : new ≡ tombstone_row slot row)
         (I : Inserted tombstone_codec ProperTombstone tombstone_slot new h.tombstones y m y') where
       tombstone_laid : (a t : List ℕ) (l : Rows) → Laid a t l h x y z → Laid a t (load_record l b) (record { carried = h.carried; tombstones = m }) x y' z
       unfolding load_record load_held
       tombstone_laid a t l L =
-          let r : HeldTombstone = row.tombstone in
-          let er : (held_read (held_decode (drop 12 b))).tombstone ≡ r = ap (λ (u : HeldRead). u.tombstone) (sym q) in
-          let ed : held_decode (drop 12 b) ≡ some (held.tombstone r) =
-          as_tombstone (held_decode (drop 12 b)) (e ∙ ap (λ (u : HeldRead). u.kind) q) ∙ ap (λ (u : HeldTombstone). some (held.tombstone u)) er in
-          let en : new ≡ tombstone_row (num (part b 2 8)) r = et ∙ ap (λ (k : ℕ). tombstone_row k r) (es ∙ ap num (sym (part_part file at n 2 8 (omega arith)))) in
+          let ed : held_decode (drop 12 b) ≡ Some (held.tombstone row) = as_tombstone (held_decode (drop 12 b)) q in
+          let en : new ≡ tombstone_row (num (part b 2 8)) row = et ∙ ap (λ (k : ℕ). tombstone_row k row) es in
           let T : TableNow tombstone_codec t (insert_by tombstone_slot new l.tombstones) m y' =
           table_then tombstone_laws (insert_by tombstone_slot new) (λ k. insert_proper tombstone_slot new l.tombstones I.proper k) I.bytes
           (omega (arith, I.more)) L.tombstones I.table in
-          let M : Laid a t (load_held l (num (part b 2 8)) (held.tombstone r)) (record { carried = h.carried; tombstones = m }) x y' z = record {
+          let M : Laid a t (load_held l (num (part b 2 8)) (held.tombstone row)) (record { carried = h.carried; tombstones = m }) x y' z = record {
             carried = L.carried;
             tombstones = subst (λ (u : Tombstone). TableNow tombstone_codec t (insert_by tombstone_slot u l.tombstones) m y') en T;
             cells = L.cells;
@@ -173,77 +161,56 @@ module _ (file : List ℕ) (at n : ℕ) (hn : at + n ≤ length file) (h : Have)
 
 -- ---- all of them
 
-module _ (file a t c : List ℕ) (F : Fine file a t c) where
-  pub loading_start : Loading file a t c 10 (record { carried = 0; tombstones = 0 }) a t c
+module _ {file a t c : List ℕ} (F : Fine file a t c) where
+  pub loading_start : {rs : List (List ℕ)} → rs ≡ records file → Loading file a t c rs (record { carried = 0; tombstones = 0 }) a t c
   unfolding loaded
-  loading_start = record {
+  loading_start e = rw e (record {
     rows = no_rows c;
     laid = record { carried = none_laid carried_codec a (omega arith); tombstones = none_laid tombstone_codec t (omega arith); cells = refl };
     by_slot = record { carried = empty; tombstones = empty };
     left = refl;
-    within = F.long;
-    whole = F.whole;
     kinds = F.kinds;
     carried = zero-add (count_by is_carried (records file));
     tombstones = zero-add (count_by is_tombstone (records file));
     carried_size = refl;
     tombstone_size = refl;
     cell_size = refl;
-  }
+  })
 
-  module _ {at : ℕ} {h : Have} {x y z : List ℕ} (S : Loading file a t c at h x y z) (k : at < length file) where
-    pub head_within : at + 12 ≤ length file
-    head_within = omega (arith, whole_here file at k S.whole, size_least (drop at file))
+  module _ {rs rest : List (List ℕ)} {b : List ℕ} {h : Have} {x y z : List ℕ} (S : Loading file a t c rs h x y z) (e : rs ≡ b ∷ rest) where
+    count_split : (p : List ℕ → Bool) → count_by p rs ≡ count_by p (b ∷ []) + count_by p rest
+    count_split p = ap (count_by p) e ∙ count_append p (b ∷ []) rest
 
-    module _ {n : ℕ} (e : n ≡ record_size (drop at file)) where
-      pub record_within : at + n ≤ length file
-      record_within = omega (arith, e, whole_here file at k S.whole)
+    pub record_room : Room b h x y z
+    record_room = record {
+      kind = none_here (fails kind_tests) S.kinds e;
+      few = omega (arith, S.carried, F.few);
+      carried = λ m.
+          let o : h.carried + 1 ≤ count_by is_carried (records file) = omega (arith, S.carried, count_split is_carried, one b is_carried true m) in
+          (omega (arith, mul_le 57 o, next_row h.carried 57, F.carried, S.carried_size), omega (arith, mul_le 2064 o, next_row h.carried 2064, F.cells, S.cell_size));
+      tombstone = λ m.
+          let o : h.tombstones + 1 ≤ count_by is_tombstone (records file) = omega (arith, S.tombstones, count_split is_tombstone, one b is_tombstone true m) in
+          omega (arith, mul_le 44 o, next_row h.tombstones 44, F.tombstones, S.tombstone_size);
+      carried_rise = rise_table carried_slot carried_starts (omega arith) S.laid.carried S.by_slot.carried;
+      tombstones_rise = rise_table tombstone_slot tombstone_starts (omega arith) S.laid.tombstones S.by_slot.tombstones;
+    }
 
-      abbrev B : List ℕ
-      B = part file at n
+    pub loading_next : {h' : Have} {x' y' z' : List ℕ} → Loads b h x y z h' x' y' z' → Loading file a t c rest h' x' y' z'
+    unfolding load_records
+    loading_next D = record {
+      rows = load_record S.rows b;
+      laid = D.laid a t S.rows S.laid;
+      by_slot = by_slot_lem S.rows b S.by_slot;
+      left = ap (load_records S.rows) (sym e) ∙ S.left;
+      kinds = none_next (fails kind_tests) S.kinds e;
+      carried = omega (arith, D.carried, count_split is_carried, S.carried);
+      tombstones = omega (arith, D.tombstones, count_split is_tombstone, S.tombstones);
+      carried_size = D.carried_size ∙ S.carried_size;
+      tombstone_size = D.tombstone_size ∙ S.tombstone_size;
+      cell_size = D.cell_size ∙ S.cell_size;
+    }
 
-      split : records_at file at ≡ B ∷ records_at file (at + n)
-      split = record_here file at n e record_within
-
-      kinds_split : (fails kind_tests B || any (fails kind_tests) (records_at file (at + n))) ≡ false
-      unfolding any
-      kinds_split = ap (any (fails kind_tests)) (sym split) ∙ S.kinds
-
-      count_split : (p : List ℕ → Bool) → count_by p (records_at file at) ≡ count_by p (B ∷ []) + count_by p (records_at file (at + n))
-      count_split p = ap (count_by p) split ∙ count_append p (B ∷ []) (records_at file (at + n))
-
-      pub record_room : Room B h x y z
-      record_room = record {
-        kind = left_no (fails kind_tests B) (any (fails kind_tests) (records_at file (at + n))) kinds_split;
-        few = omega (arith, S.carried, F.few);
-        carried = λ m.
-            let o : h.carried + 1 ≤ count_by is_carried (records file) = omega (arith, S.carried, count_split is_carried, one B is_carried true m) in
-            (omega (arith, mul_le 57 o, next_row h.carried 57, F.carried, S.carried_size), omega (arith, mul_le 2064 o, next_row h.carried 2064, F.cells, S.cell_size));
-        tombstone = λ m.
-            let o : h.tombstones + 1 ≤ count_by is_tombstone (records file) = omega (arith, S.tombstones, count_split is_tombstone, one B is_tombstone true m) in
-            omega (arith, mul_le 44 o, next_row h.tombstones 44, F.tombstones, S.tombstone_size);
-        carried_rise = rise_table carried_slot carried_starts (omega arith) S.laid.carried S.by_slot.carried;
-        tombstones_rise = rise_table tombstone_slot tombstone_starts (omega arith) S.laid.tombstones S.by_slot.tombstones;
-      }
-
-      pub loading_next : {h' : Have} {x' y' z' : List ℕ} → Loads B h x y z h' x' y' z' → Loading file a t c (at + n) h' x' y' z'
-      unfolding load_records
-      loading_next D = record {
-        rows = load_record S.rows B;
-        laid = D.laid a t S.rows S.laid;
-        by_slot = by_slot_lem S.rows B S.by_slot;
-        left = ap (load_records S.rows) (sym split) ∙ S.left;
-        within = record_within;
-        whole = subst (λ (m : ℕ). WholeAt file (at + m)) (sym e) (whole_next file at (omega (arith, e, record_within)) S.whole);
-        kinds = right_no (fails kind_tests B) (any (fails kind_tests) (records_at file (at + n))) kinds_split;
-        carried = omega (arith, D.carried, count_split is_carried, S.carried);
-        tombstones = omega (arith, D.tombstones, count_split is_tombstone, S.tombstones);
-        carried_size = D.carried_size ∙ S.carried_size;
-        tombstone_size = D.tombstone_size ∙ S.tombstone_size;
-        cell_size = D.cell_size ∙ S.cell_size;
-      }
-
-  pub loading_end : {at : ℕ} {h : Have} {x y z : List ℕ} → Loading file a t c at h x y z → length file ≤ at → Laid a t (loaded c file) h x y z
-  unfolding load_records
-  loading_end {at} {h} {x} {y} {z} S k =
-      subst (λ (l : Rows). Laid a t l h x y z) (ap (load_records S.rows) (sym (whole_end file at k)) ∙ S.left) S.laid
+pub loading_end : {file a t c : List ℕ} {rs : List (List ℕ)} {h : Have} {x y z : List ℕ} → Loading file a t c rs h x y z → rs ≡ [] → Laid a t (loaded c file) h x y z
+unfolding load_records
+loading_end {a = a} {t} {h = h} {x} {y} {z} S e =
+    subst (λ (l : Rows). Laid a t l h x y z) (ap (load_records S.rows) (sym e) ∙ S.left) S.laid

@@ -1,7 +1,6 @@
 -- After a load the tables are in order, whatever the order in the file.
 -- Assumes nothing.
-use Rattle.std.proofs.Common.{◌≡◌, ℕ, zero, suc, ◌+◌, ◌-◌, ◌*◌, ◌/◌, ◌<◌, ◌≤◌, min, Bool, true, false, cond, ◌||◌, ltb, leb, List, [], ◌∷◌, length, take, drop, sym, refl, ap, ◌∙◌, subst, ap₂, zero-add, arith, length-drop, length-take-le, ltb-false, ltb-true, leb-false, leb-true}
-use mathlib.Core.Option.{Option, none, some}
+use Rattle.std.proofs.Common.{◌≡◌, ℕ, zero, suc, ◌+◌, ◌-◌, ◌*◌, ◌/◌, ◌<◌, ◌≤◌, min, Bool, true, false, cond, ◌||◌, ltb, leb, List, [], ◌∷◌, length, take, drop, sym, refl, ap, ◌∙◌, subst, ap₂, zero-add, arith, length-drop, length-take-le, ltb-false, ltb-true, leb-false, leb-true, Option, Some, None, Ok}
 use Rattle.octets.specs.Bytes.{Bytes, part, num, be, same_bytes}
 use Rattle.octets.proofs.Parts.{length_part, length_splice}
 use Rattle.octets.proofs.Compare.{same_refl}
@@ -27,7 +26,6 @@ use Rattle.load_tests.specs.Tests.{strange_mark, refused_blob, other_kind, slot_
 use Rattle.load_tests.proofs.BlobLaws.{Decoded, decoded}
 use Rattle.load_tests.proofs.TestLaws.{left_no, right_no, fine_records, fine_none}
 use Rattle.load_tests.proofs.RecordLaws.{size_least}
-use Rattle.load_tests.specs.declared.Tested.TheVariants as tested
 use Rattle.load.specs.Load.{insert_by, carried_slot, tombstone_slot, carried_row, tombstone_row, Rows, load_held, load_record, load_records, no_rows, loaded, load_held_rows, load_step}
 use Rattle.load.proofs.CallLaws.{load_cases, not_done}
 use Rattle.load.proofs.LoadLaws.{some_kind, marked_carried, marked_tombstone, tombstone_alone}
@@ -273,13 +271,13 @@ module _ (limit size total : ℕ) (room : total * 2064 ≤ size) (l : Rows) (b :
     where
       go : (d : Option Held) → held_decode (drop 12 b) ≡ d → Decoded (drop 12 b) (held_decode (drop 12 b))
           → Ordered limit size total (match_some d (λ (h : Held). load_held l (slot_of b) h) l) rs
-      go none e D = absurd (some_kind b (head_of O.kinds) (ap (λ (d : Option Held). (held_read d).kind) (sym e)))
-      go (some (held.carried r ct)) e D =
-          let v : Decoded (drop 12 b) (some (held.carried r ct)) = subst (Decoded (drop 12 b)) e D in
-          ordered_carried r ct (marked_carried b (head_of O.kinds) (ap (λ (d : Option Held). (held_read d).kind) (sym e)))
+      go None e D = absurd (some_kind b (head_of O.kinds) (ap held_read (sym e)))
+      go (Some (held.carried r ct)) e D =
+          let v : Decoded (drop 12 b) (Some (held.carried r ct)) = subst (Decoded (drop 12 b)) e D in
+          ordered_carried r ct (marked_carried b (head_of O.kinds) (ap held_read (sym e)))
           (omega (arith, ap length v.1.0, length-drop 46 (drop 12 b), v.1.1.1))
-      go (some (held.tombstone t)) e D =
-          ordered_tombstone t (tombstone_alone b (marked_tombstone b (head_of O.kinds) (ap (λ (d : Option Held). (held_read d).kind) (sym e))))
+      go (Some (held.tombstone t)) e D =
+          ordered_tombstone t (tombstone_alone b (marked_tombstone b (head_of O.kinds) (ap held_read (sym e))))
 
 pub ordered_all : (limit size total : ℕ) → total * 2064 ≤ size → (l : Rows) (rs : List (List ℕ)) → Ordered limit size total l rs → Ordered limit size total (load_records l rs) []
 unfolding load_records
@@ -303,7 +301,7 @@ pub records_whole : (file : List ℕ) → Bytes file → All Whole (records file
 unfolding records_at
 records_whole file w = whole_in (length file - 10) (drop 10 file) (bytes_drop 10 file w)
 
-module _ (cs : List Contact) (cells : List ℕ) (room : ℕ) (file : List ℕ) (e : tested.Fine ≡ tested_as (load_tests cs (length cells) room file)) where
+module _ (cs : List Contact) (cells : List ℕ) (room : ℕ) (file : List ℕ) (e : Ok tt ≡ tested_as (load_tests cs (length cells) room file)) where
   pub fine_cells : carried_count file ≤ cell_count (length cells)
   fine_cells = ltb-false (cell_count (length cells)) (carried_count file) (fine_none cs file (length cells) room e).1.0
 

@@ -1,7 +1,6 @@
 -- Laws of rows that stand by slot: the place of one more is found from the end, and they stand so with it.
 -- Assumes nothing.
-use Rattle.std.proofs.Common.{◌≡◌, ℕ, zero, suc, ◌-◌, ◌*◌, ◌<◌, ◌≤◌, Bool, true, false, ltb, List, [], ◌∷◌, length, get_or, drop, sym, refl, ap, ◌∙◌, subst, add-zero, add-one, arith, ltb-false, ltb-true, le-ltb, lt-ltb}
-use mathlib.Core.Option.{Option, none, some}
+use Rattle.std.proofs.Common.{◌≡◌, ℕ, zero, suc, ◌-◌, ◌*◌, ◌<◌, ◌≤◌, Bool, true, false, ltb, List, [], ◌∷◌, length, get_or, drop, sym, refl, ap, ◌∙◌, subst, add-zero, add-one, arith, ltb-false, ltb-true, le-ltb, lt-ltb, Option, Some, None}
 use Rattle.octets.specs.Bytes.{part, num}
 use Rattle.octets.proofs.Parts.{part_part}
 use Rattle.table.specs.Lists.{position_from, position, unwrap_or}
@@ -101,6 +100,6 @@ unfolding load_record load_held
 by_slot_lem l b S = go (held_decode (drop 12 b))
   where
     go : (d : Option Held) → BySlot (match_some d (λ (h : Held). load_held l (num (part b 2 8)) h) l)
-    go none = S
-    go (some (held.carried r ct)) = record { carried = by_insert carried_slot (carried_row (num (part b 2 8)) (length ct) (length l.carried) r) l.carried S.carried; tombstones = S.tombstones }
-    go (some (held.tombstone t)) = record { carried = S.carried; tombstones = by_insert tombstone_slot (tombstone_row (num (part b 2 8)) t) l.tombstones S.tombstones }
+    go None = S
+    go (Some (held.carried r ct)) = record { carried = by_insert carried_slot (carried_row (num (part b 2 8)) (length ct) (length l.carried) r) l.carried S.carried; tombstones = S.tombstones }
+    go (Some (held.tombstone t)) = record { carried = S.carried; tombstones = by_insert tombstone_slot (tombstone_row (num (part b 2 8)) t) l.tombstones S.tombstones }

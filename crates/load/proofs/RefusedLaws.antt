@@ -1,15 +1,13 @@
 -- A carried row that is not read back is saved all the same, and its file is refused by number 8.
 -- Assumes nothing.
-use Rattle.std.proofs.Common.{◌≡◌, ℕ, ◌<◌, ◌≤◌, Bool, true, false, cond, ◌||◌, leb, List, [], ◌∷◌, map, length, take, sym, refl, ap, ◌∙◌, subst}
-use mathlib.Core.Option.{Option, none}
+use Rattle.std.proofs.Common.{◌≡◌, ℕ, ◌<◌, ◌≤◌, Bool, true, false, cond, ◌||◌, leb, List, [], ◌∷◌, map, length, take, sym, refl, ap, ◌∙◌, subst, None}
 use Rattle.courier_core.specs.declared.Refusal.{Refusal}
 use Rattle.courier_core.specs.declared.Refusal.TheVariants as refusal
 use Rattle.table.specs.Lists.{All, any}
 use Rattle.table.proofs.ListLaws.{all_imp, all_map}
 use Rattle.courier.proofs.Laws.{not_valid}
-use Rattle.state.specs.Held.{Held, held_row, held_decode, held_read}
+use Rattle.state.specs.Held.{held_row, held_decode, held_read}
 use Rattle.state.specs.declared.Carried.{Carried as HeldCarried}
-use Rattle.state.specs.declared.HeldKind.TheVariants as kind
 use Rattle.state.proofs.HeldLaws.{carried_refused}
 use Rattle.rows.specs.declared.Contact.{Contact}
 use Rattle.rows.specs.declared.Carried.{Carried}
@@ -81,7 +79,7 @@ module _ (s : State) (C : All ProperCarried s.carried) (T : All ProperTombstone 
       (all_map _ s.tombstones (all_imp tombstone_short s.tombstones T))
 
   -- `decode` refuses its blob
-  blob_refused : held_decode (held_row row.held) ≡ none
+  blob_refused : held_decode (held_row row.held) ≡ None
   unfolding carried_held
   blob_refused =
       let ct : List ℕ = ciphertext s.carried_cells r.cell r.len in
@@ -89,7 +87,7 @@ module _ (s : State) (C : All ProperCarried s.carried) (T : All ProperTombstone 
       carried_refused c (proper_held r (all_in C m)) ct (not_valid (length (take 2064 ct)) r.copies r.expiry_min 0 lost)
 
   kind_fails : true ≡ fails kind_tests (saved_record row)
-  kind_fails = kind_tested (saved_record row) kind.None (sym (ap (λ (d : Option Held). (held_read d).kind) (ap held_decode (blob_saved row) ∙ blob_refused)))
+  kind_fails = kind_tested (saved_record row) None (sym (ap held_read (ap held_decode (blob_saved row) ∙ blob_refused)))
 
   module _ (cs : List Contact) where
     records_wrong : any (fails (record_tests (next_in file) cs (records file))) (records file) ≡ true

@@ -1,6 +1,6 @@
 -- The file of a state that is `Savable` is never refused by a post that takes its rows, and gives it the same held rows and next slot.
 -- Assumes nothing.
-use Rattle.std.proofs.Common.{◌≡◌, ℕ, ◌<◌, ◌≤◌, Bool, true, false, ◌||◌, List, [], ◌∷◌, map, length, sym, refl, ap, ◌∙◌, subst, ap₂, arith, le-ltb}
+use Rattle.std.proofs.Common.{◌≡◌, ℕ, ◌<◌, ◌≤◌, Bool, true, false, ◌||◌, List, [], ◌∷◌, map, length, sym, refl, ap, ◌∙◌, subst, ap₂, arith, le-ltb, Ok}
 use mathlib.Core.Bool.{false≢true}
 use lib.ListN.{length-map}
 use Rattle.courier_core.specs.declared.Refusal.{Refusal}
@@ -20,7 +20,6 @@ use Rattle.model.specs.Saved.{Slotted, carried_held, tombstone_held, saved_recor
 use Rattle.history.specs.Order.{Sorted}
 use Rattle.model.proofs.Laws.{all_merge}
 use Rattle.load_tests.specs.Records.{records, is_carried, is_tombstone}
-use Rattle.load_tests.specs.declared.Tested.TheVariants as tested
 use Rattle.load_tests.specs.Tests.{record_tests, row_tests, fails, next_in, carried_count, tombstone_count, wrongs, holds, load_tests, tested_as}
 use Rattle.load_tests.proofs.TestLaws.{fails_row, file_many, tested_fine}
 use Rattle.load.specs.Reload.{Savable, Takes, Reloaded}
@@ -167,7 +166,7 @@ module _ (s : State) (W : Savable s) where
         file_many cs file false B.long B.mark refl B.whole (sym records_fine) refl
         (sym (le-ltb 256 (carried_count file) (omega (arith, carried_counted, W.fits))))
 
-    tested_saved : (cells room : ℕ) → length s.carried ≤ cell_count cells → length s.tombstones ≤ room → tested.Fine ≡ tested_as (load_tests cs cells room file)
+    tested_saved : (cells room : ℕ) → length s.carried ≤ cell_count cells → length s.tombstones ≤ room → Ok tt ≡ tested_as (load_tests cs cells room file)
     unfolding cell_count is_carried is_tombstone
     tested_saved cells room h k =
         tested_fine cs file cells room saved_fine refl refl refl (omega (arith, carried_counted, h)) refl (omega (arith, tombstones_counted, k))

@@ -1,15 +1,12 @@
 -- What a post saves and then loads: the file read back record by record, and the same held rows.
 -- Assumes nothing.
-use Rattle.std.proofs.Common.{◌≡◌, ℕ, zero, suc, ◌+◌, ◌-◌, ◌*◌, ◌^◌, ◌<◌, ◌≤◌, Bool, true, false, cond, not, ltb, leb, List, [], ◌∷◌, ◌++◌, map, length, take, drop, sym, refl, ap, ◌∙◌, subst, ap₂, append_assoc, append-nil, arith, length-append, drop_of_length-le, length-take, take_all, take_at, drop_at, le-ltb, le-leb}
+use Rattle.std.proofs.Common.{◌≡◌, ℕ, zero, suc, ◌+◌, ◌-◌, ◌*◌, ◌^◌, ◌<◌, ◌≤◌, Bool, true, false, cond, not, ltb, leb, List, [], ◌∷◌, ◌++◌, map, length, take, drop, sym, refl, ap, ◌∙◌, subst, ap₂, append_assoc, append-nil, arith, length-append, drop_of_length-le, length-take, take_all, take_at, drop_at, le-ltb, le-leb, Option, Some, None}
 use mathlib.Core.List.{map-append}
-use mathlib.Core.Option.{Option, some}
 use lib.ListN.{length-map}
 use borrow.Author.Tests.{lt-leb}
 use Rattle.octets.specs.Bytes.{part, splice, num, be}
 use Rattle.octets.proofs.Parts.{part_left, part_hit, part_whole, length_part}
 use Rattle.octets.proofs.Numbers.{length_be, num_be}
-use Rattle.table.specs.declared.Found.{Found}
-use Rattle.table.specs.declared.Found.TheVariants.{At, Nothing}
 use Rattle.table.specs.Lists.{All, filter, insert_at, position_from, position, unwrap_or}
 use Rattle.table.specs.Lists as lists
 use Rattle.table.specs.Rows.{join}
@@ -46,7 +43,7 @@ use Rattle.load.specs.Load.{insert_by, carried_slot, tombstone_slot, carried_row
 pub record Back (h : Slotted) : Type 0 where
   pub slot : h.slot < 2 ^ 64
   pub short : length (held_row h.held) < 65536
-  pub read : held_decode (held_row h.held) ≡ some h.held
+  pub read : held_decode (held_row h.held) ≡ Some h.held
 
 length_mark : (h : Held) → length (held_mark h) ≡ 2
 length_mark (held.carried r ct) = refl
@@ -148,17 +145,17 @@ loaded_saved cells slot hs a = ap (load_records (no_rows cells)) (records_saved 
 
 -- ---- rows that come by slot are put in at the end
 
-not_found : {A : Type 0} (p : A → Bool) (i : ℕ) (xs : List A) → All (λ (x : A). p x ≡ false) xs → position_from i p xs ≡ Nothing
+not_found : {A : Type 0} (p : A → Bool) (i : ℕ) (xs : List A) → All (λ (x : A). p x ≡ false) xs → position_from i p xs ≡ None
 unfolding position_from
 not_found p i [] a = refl
-not_found p i (x ∷ xs) (lists.more e a) = ap (λ (t : Bool). cond t (At i) (position_from (suc i) p xs)) e ∙ not_found p (suc i) xs a
+not_found p i (x ∷ xs) (lists.more e a) = ap (λ (t : Bool). cond t (Some i) (position_from (suc i) p xs)) e ∙ not_found p (suc i) xs a
 
 insert_last : {A : Type 0} (key : A → ℕ) (t : A) (ts : List A) → All (λ (r : A). key r < key t) ts → insert_by key t ts ≡ ts ++ (t ∷ [])
 unfolding insert_by insert_at
 insert_last key t ts a =
-    let e : position (λ (r : _). ltb (key t) (key r)) ts ≡ Nothing =
+    let e : position (λ (r : _). ltb (key t) (key r)) ts ≡ None =
     not_found (λ (r : _). ltb (key t) (key r)) 0 ts (all_imp (λ r k. le-ltb (key t) (key r) (omega (arith, k))) ts a) in
-    ap (λ (f : Found). take (unwrap_or (length ts) f) ts ++ (t ∷ drop (unwrap_or (length ts) f) ts)) e
+    ap (λ (f : Option ℕ). take (unwrap_or (length ts) f) ts ++ (t ∷ drop (unwrap_or (length ts) f) ts)) e
     ∙ ap₂ (λ (x y : List _). x ++ (t ∷ y)) (take_all (length ts) ts (omega arith)) (drop_of_length-le ts {i = length ts} (omega arith))
 
 map_same : {A B : Type 0} (f g : A → B) (xs : List A) → All (λ (x : A). f x ≡ g x) xs → map f xs ≡ map g xs

@@ -1,7 +1,8 @@
 -- What the functions of a load say of the areas, and what the call says.
 -- Assumes nothing.
-use Rattle.std.specs.Prelude.{◌≡◌, ℕ, ◌+◌, ◌-◌, ◌*◌, ◌<◌, ◌≤◌, Bool, true, false, List, [], ◌∷◌, length, drop, nat_lt}
+use Rattle.std.specs.Prelude.{◌≡◌, ℕ, ◌+◌, ◌-◌, ◌*◌, ◌<◌, ◌≤◌, Bool, true, false, List, [], ◌∷◌, length, drop, nat_lt, Result, Ok, Err}
 use Rattle.octets.specs.Bytes.{Bytes, part, splice, num}
+use Rattle.courier_core.specs.declared.Refusal.{Refusal}
 use Rattle.table.specs.Lists.{any, count_by}
 use Rattle.table.specs.Codec.{Codec, table_of, TableNow}
 use Rattle.rows.specs.declared.Device.{Device}
@@ -10,15 +11,13 @@ use Rattle.rows.specs.declared.Carried.{Carried}
 use Rattle.rows.specs.declared.Tombstone.{Tombstone}
 use Rattle.rows.specs.Proper.{ProperCarried}
 use Rattle.rows.specs.Rows.{carried_codec, tombstone_codec}
-use Rattle.model.specs.Calls.{Result}
+use Rattle.model.specs.Calls.{Result as Outcome}
 use Rattle.model.specs.Areas.{Areas, Written, view}
 use Rattle.model.specs.Lent.{no_answers, refused_or, device_in, contacts_in, carried_in, tombstones_in, carried_cells_in}
 use Rattle.history.specs.Order.{Sorted}
-use Rattle.load_tests.specs.Records.{records, records_at, WholeAt, is_carried, is_tombstone}
+use Rattle.load_tests.specs.Records.{records, is_carried, is_tombstone}
 use Rattle.load_tests.specs.Tests.{kind_tests, fails}
 use Rattle.load.specs.declared.Have.{Have}
-use Rattle.load.specs.declared.Said.{Said}
-use Rattle.load.specs.declared.Said.TheVariants as said
 use Rattle.load.specs.Load.{insert_by, carried_slot, carried_row, Rows, load_record, load_records, loaded, load_step}
 
 -- every row starts with its slot
@@ -66,56 +65,40 @@ pub record Loads (b : List ℕ) (h : Have) (x y z : List ℕ) (h' : Have) (x' y'
   pub tombstones : h'.tombstones ≡ h.tombstones + count_by is_tombstone (b ∷ [])
 
 -- the row of a carried record, and its ciphertext in its cell
-pub record Carries (file : List ℕ) (at n : ℕ) (row : HeldCarried) (p : ℕ) (x z : List ℕ) (p' : ℕ) (x' z' : List ℕ) : Type 0 where
-  pub table : Inserted carried_codec ProperCarried carried_slot (carried_row (num (part file (at + 2) 8)) (n - 58) p row) p x p' x'
-  pub cells : z' ≡ splice z (p * 2064) (drop 58 (part file at n))
+pub record Carries (b : List ℕ) (row : HeldCarried) (p : ℕ) (x z : List ℕ) (p' : ℕ) (x' z' : List ℕ) : Type 0 where
+  pub table : Inserted carried_codec ProperCarried carried_slot (carried_row (num (part b 2 8)) (length b - 58) p row) p x p' x'
+  pub cells : z' ≡ splice z (p * 2064) (drop 58 b)
 
 -- the areas have room for all rows of a file that is fine
 pub record Fine (file x y z : List ℕ) : Type 0 where
-  pub long : 10 ≤ length file
-  pub whole : WholeAt file 10
   pub kinds : any (fails kind_tests) (records file) ≡ false
   pub few : count_by is_carried (records file) < 65536
   pub carried : count_by is_carried (records file) * 57 ≤ length x
   pub cells : count_by is_carried (records file) * 2064 ≤ length z
   pub tombstones : count_by is_tombstone (records file) * 44 ≤ length y
 
--- the records before at are loaded
-pub record Loading (file a t c : List ℕ) (at : ℕ) (h : Have) (x y z : List ℕ) : Type 0 where
+-- the records before those that are left are loaded
+pub record Loading (file a t c : List ℕ) (rest : List (List ℕ)) (h : Have) (x y z : List ℕ) : Type 0 where
   pub rows : Rows
   pub laid : Laid a t rows h x y z
   pub by_slot : BySlot rows
-  pub left : load_records rows (records_at file at) ≡ loaded c file
-  pub within : at ≤ length file
-  pub whole : WholeAt file at
-  pub kinds : any (fails kind_tests) (records_at file at) ≡ false
-  pub carried : h.carried + count_by is_carried (records_at file at) ≡ count_by is_carried (records file)
-  pub tombstones : h.tombstones + count_by is_tombstone (records_at file at) ≡ count_by is_tombstone (records file)
+  pub left : load_records rows rest ≡ loaded c file
+  pub kinds : any (fails kind_tests) rest ≡ false
+  pub carried : h.carried + count_by is_carried rest ≡ count_by is_carried (records file)
+  pub tombstones : h.tombstones + count_by is_tombstone rest ≡ count_by is_tombstone (records file)
   pub carried_size : length x ≡ length a
   pub tombstone_size : length y ≡ length t
   pub cell_size : length z ≡ length c
 
 -- ---- the call
 
-abbrev pub says : Result → Said
-says o = refused_or said.Refused said.Done o.answer
+-- a refusal, or no more
+abbrev pub says : Outcome → Result (Unit {0}) Refusal
+says o = refused_or Err (Ok tt) o.answer
 
 abbrev pub load_lent : Device → (contacts carried tombstones cells : List ℕ) → Areas → Areas
 load_lent d contacts carried tombstones cells a = device_in d (contacts_in contacts (carried_in carried (tombstones_in tombstones (carried_cells_in cells a))))
 
--- the device with other counts of held rows and another next slot
-abbrev pub device_with : (carried tombstones next : ℕ) → Device → Device
-device_with carried tombstones next d = record {
-  courier = d.courier;
-  now_s = d.now_s;
-  contacts = d.contacts;
-  own = d.own;
-  carried = carried;
-  tombstones = tombstones;
-  bad_tags = d.bad_tags;
-  next_slot = next;
-}
-
 -- What the contract of the call says: of any areas, those that it is lent set into them, it answers and leaves what `load_step` gives.
-abbrev pub DoesLoad : List ℕ → Said → (Areas → Areas) → (Areas → Areas) → Type 0
+abbrev pub DoesLoad : List ℕ → Result (Unit {0}) Refusal → (Areas → Areas) → (Areas → Areas) → Type 0
 DoesLoad file r before after = (a : Areas) → Written says (load_step (view (before a)) file) r (before a) (after a) no_answers no_answers

@@ -1,27 +1,24 @@
 -- Laws of the blob in a record: what `held_decode` takes, and how long it is.
 -- Assumes nothing.
-use Rattle.std.proofs.Common.{◌≡◌, ℕ, zero, suc, ◌+◌, ◌-◌, ◌≤◌, Bool, true, false, cond, not, ◌&&◌, ◌||◌, eqb, leb, List, [], ◌∷◌, length, get_or, take, drop, sym, refl, ap, ◌∙◌, arith, length-drop, drop-drop, eqb-true, leb-true}
-use mathlib.Core.Option.{Option, none, some}
-use Rattle.octets.specs.Bytes.{part}
-use Rattle.octets.proofs.Parts.{length_part}
+use Rattle.std.proofs.Common.{◌≡◌, ℕ, ◌-◌, ◌≤◌, Bool, true, false, cond, not, ◌&&◌, ◌||◌, eqb, leb, List, [], ◌∷◌, length, get_or, take, drop, sym, refl, ap, ◌∙◌, arith, length-drop, eqb-true, leb-true, Option, Some, None}
 use Rattle.courier.specs.Courier.{envelope_valid}
 use Rattle.courier.proofs.Laws.{both, carried_fits, valid_parts}
 use Rattle.table.specs.Lists.{any}
 use Rattle.table.specs.Rows.{has_key}
 use Rattle.state.specs.Held.{Held, carried, tombstone, carried_of, tombstone_of, carried_in, tombstone_in, held_decode, held_read}
-use Rattle.state.specs.declared.HeldRead.{HeldRead}
-use Rattle.state.specs.declared.HeldKind.{HeldKind}
-use Rattle.state.specs.declared.HeldKind.TheVariants as kind
+use Rattle.state.specs.declared.Held.{Held as Read}
+use Rattle.state.specs.declared.Held.TheVariants as read
 use Rattle.model.specs.Basics.{match_some}
 use Rattle.model.specs.Saved.{held_mark}
 use Rattle.load_tests.specs.Records.{is_carried, is_tombstone}
+use Rattle.load_tests.proofs.RecordLaws.{lent_tail}
 use Rattle.load_tests.specs.Tests.{strange_mark, refused_blob, other_kind, kind_tests, fails}
 
 -- what a blob has that is taken
 abbrev pub Decoded : List ℕ → Option Held → Type 0
-Decoded b none = Unit {0}
-Decoded b (some (carried r ct)) = (r ≡ carried_of b) × ((ct ≡ drop 46 b) × ((46 ≤ length b) × (length b ≤ 2110)))
-Decoded b (some (tombstone t)) = (t ≡ tombstone_of b) × (length b ≡ 37)
+Decoded b None = Unit {0}
+Decoded b (Some (carried r ct)) = (r ≡ carried_of b) × ((ct ≡ drop 46 b) × ((46 ≤ length b) × (length b ≤ 2110)))
+Decoded b (Some (tombstone t)) = (t ≡ tombstone_of b) × (length b ≡ 37)
 
 abbrev valid_in : List ℕ → Bool
 valid_in b = envelope_valid (length b - 46) (carried_of b).header.copies (carried_of b).header.expiry_min 0
@@ -30,46 +27,27 @@ pub decoded : (b : List ℕ) → Decoded b (held_decode b)
 unfolding held_decode carried_in tombstone_in
 decoded b = by_kind (eqb (get_or b 0 0) 0) (eqb (get_or b 0 0) 1)
   where
-    by_carried : (t : Bool) → (leb 46 (length b) && (valid_in b)) ≡ t → Decoded b (cond t (some (carried (carried_of b) (drop 46 b))) none)
+    by_carried : (t : Bool) → (leb 46 (length b) && (valid_in b)) ≡ t → Decoded b (cond t (Some (carried (carried_of b) (drop 46 b))) None)
     by_carried false e = tt
     by_carried true e =
         let f = both (leb 46 (length b)) (valid_in b) e in
         let h : 46 ≤ length b = leb-true 46 (length b) f.0 in
         (refl, (refl, (h, omega (arith, carried_fits (length b - 46) (valid_parts _ _ _ _ f.1).0))))
 
-    by_tombstone : (t : Bool) → eqb (length b) 37 ≡ t → Decoded b (cond t (some (tombstone (tombstone_of b))) none)
+    by_tombstone : (t : Bool) → eqb (length b) 37 ≡ t → Decoded b (cond t (Some (tombstone (tombstone_of b))) None)
     by_tombstone false e = tt
     by_tombstone true e = (refl, eqb-true (length b) 37 e)
 
-    by_kind : (s t : Bool) → Decoded b (cond s (carried_in b) (cond t (tombstone_in b) none))
+    by_kind : (s t : Bool) → Decoded b (cond s (carried_in b) (cond t (tombstone_in b) None))
     by_kind true t = by_carried (leb 46 (length b) && (valid_in b)) refl
     by_kind false true = by_tombstone (eqb (length b) 37) refl
     by_kind false false = tt
 
 -- a blob that is not refused has 37 bytes or more
 decoded_long : (b : List ℕ) (d : Option Held) → Decoded b d → match_some d (λ (h : Held). false) true ≡ false → 37 ≤ length b
-decoded_long b none D e = let z : ◌≡◌ {A = ℕ} 0 1 = cc in absurd (omega arith)
-decoded_long b (some (carried r ct)) D e = omega (arith, D.1.1.0)
-decoded_long b (some (tombstone t)) D e = omega (arith, D.1)
-
--- ---- the blob of the record at a place
-
-drop_take : {A : Type 0} (o n : ℕ) (l : List A) → o ≤ n → drop o (take n l) ≡ take (n - o) (drop o l)
-drop_take zero n l h = let e : n ≡ n - 0 = omega arith in ap (λ (k : ℕ). take k l) e
-drop_take (suc o) zero l h = absurd (omega arith)
-drop_take {A} (suc o) (suc n) [] h = empty (suc n - suc o)
-  where
-    empty : (k : ℕ) → ◌≡◌ {A = List A} [] (take k [])
-    empty zero = refl
-    empty (suc k) = refl
-drop_take (suc o) (suc n) (x ∷ l) h = let e : n - o ≡ suc n - suc o = omega arith in drop_take o n l (omega arith) ∙ ap (λ (k : ℕ). take k (drop o l)) e
-
--- what stands from an offset on
-pub rest_here : (file : List ℕ) (at n o : ℕ) → o ≤ n → drop o (part file at n) ≡ take (at + n - (at + o)) (drop (at + o) file)
-unfolding part
-rest_here file at n o h =
-    let e : n - o ≡ at + n - (at + o) = omega arith in
-    drop_take o n (drop at file) h ∙ ap (λ (k : ℕ). take k (drop o (drop at file))) e ∙ ap (take (at + n - (at + o))) (drop-drop o at file)
+decoded_long b None D e = let z : ◌≡◌ {A = ℕ} 0 1 = cc in absurd (omega arith)
+decoded_long b (Some (carried r ct)) D e = omega (arith, D.1.1.0)
+decoded_long b (Some (tombstone t)) D e = omega (arith, D.1)
 
 -- ---- mark, blob and kind
 
@@ -95,10 +73,10 @@ module _ (b : List ℕ) where
       || (match_some d (λ (h : Held). false) true || (match_some d (λ (h : Held). not (has_key 0 (held_mark h) b)) false || false))
 
   -- what `decode` says of the blob is the kind that it is tested for
-  abbrev pub ByKind : HeldKind → Bool → Type 0
-  ByKind kind.None r = true ≡ r
-  ByKind kind.Carried r = not (has_key 0 (72 ∷ 67 ∷ []) b) ≡ r
-  ByKind kind.Tombstone r = not (has_key 0 (72 ∷ 84 ∷ []) b) ≡ r
+  abbrev pub ByKind : Option Read → Bool → Type 0
+  ByKind None r = true ≡ r
+  ByKind (Some (read.Carried c)) r = not (has_key 0 (72 ∷ 67 ∷ []) b) ≡ r
+  ByKind (Some (read.Tombstone t)) r = not (has_key 0 (72 ∷ 84 ∷ []) b) ≡ r
 
   or_true : (x : Bool) → true ≡ (x || true)
   or_true true = refl
@@ -115,23 +93,15 @@ module _ (b : List ℕ) where
   by_tombstone false true = refl
   by_tombstone false false = refl
 
-  by_kind : (d : Option Held) → ByKind (held_read d).kind (tests d (has_key 0 (72 ∷ 67 ∷ []) b) (has_key 0 (72 ∷ 84 ∷ []) b))
-  by_kind none = or_true (not (has_key 0 (72 ∷ 67 ∷ []) b || has_key 0 (72 ∷ 84 ∷ []) b))
-  by_kind (some (carried r ct)) = by_carried (has_key 0 (72 ∷ 67 ∷ []) b) (has_key 0 (72 ∷ 84 ∷ []) b)
-  by_kind (some (tombstone t)) = by_tombstone (has_key 0 (72 ∷ 67 ∷ []) b) (has_key 0 (72 ∷ 84 ∷ []) b)
+  by_kind : (d : Option Held) → ByKind (held_read d) (tests d (has_key 0 (72 ∷ 67 ∷ []) b) (has_key 0 (72 ∷ 84 ∷ []) b))
+  by_kind None = or_true (not (has_key 0 (72 ∷ 67 ∷ []) b || has_key 0 (72 ∷ 84 ∷ []) b))
+  by_kind (Some (carried r ct)) = by_carried (has_key 0 (72 ∷ 67 ∷ []) b) (has_key 0 (72 ∷ 84 ∷ []) b)
+  by_kind (Some (tombstone t)) = by_tombstone (has_key 0 (72 ∷ 67 ∷ []) b) (has_key 0 (72 ∷ 84 ∷ []) b)
 
-  pub kind_tested : (k : HeldKind) → k ≡ (held_read (held_decode (drop 12 b))).kind → ByKind k (fails kind_tests b)
+  pub kind_tested : (d : Option Read) → d ≡ held_read (held_decode (drop 12 b)) → ByKind d (fails kind_tests b)
   unfolding fails any strange_mark refused_blob other_kind is_carried is_tombstone
-  kind_tested k e = rw e (by_kind (held_decode (drop 12 b)))
+  kind_tested d e = rw e (by_kind (held_decode (drop 12 b)))
 
-pub kind_size : (file : List ℕ) (at n : ℕ) → at + n ≤ length file → fails kind_tests (part file at n) ≡ false → 49 ≤ n
-kind_size file at n h e = omega (arith, kind_long (part file at n) e, length_part file at n h)
-
--- what `decode` says of the blob of the record at a place
-pub read_here : (file : List ℕ) (at n : ℕ) → 12 ≤ n → {row : HeldRead} → row ≡ held_read (held_decode (take (at + n - (at + 12)) (drop (at + 12) file)))
-    → row ≡ held_read (held_decode (drop 12 (part file at n)))
-read_here file at n h e = e ∙ ap (λ (x : List ℕ). held_read (held_decode x)) (sym (rest_here file at n 12 h))
-
-pub kind_here : (file : List ℕ) (at n : ℕ) → 12 ≤ n → {row : HeldRead} → row ≡ held_read (held_decode (take (at + n - (at + 12)) (drop (at + 12) file)))
-    → row.kind ≡ (held_read (held_decode (drop 12 (part file at n)))).kind
-kind_here file at n h e = ap (λ (x : HeldRead). x.kind) (read_here file at n h e)
+-- what `decode` says of the blob of a record, as it is lent
+pub read_lent : (b : List ℕ) {r e : Option Read} → r ≡ held_read (held_decode (take (length b - 12) (drop 12 b))) → r ≡ e → e ≡ held_read (held_decode (drop 12 b))
+read_lent b q f = sym f ∙ q ∙ ap (λ (l : List ℕ). held_read (held_decode l)) (lent_tail 12 b)

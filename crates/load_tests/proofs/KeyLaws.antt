@@ -1,17 +1,17 @@
 -- Laws of the depositors and tags of the carried records: gathered in rows, and counted there.
 -- Assumes nothing.
-use Rattle.std.proofs.Common.{◌≡◌, ℕ, suc, ◌+◌, ◌-◌, ◌*◌, ◌<◌, ◌≤◌, Bool, true, false, cond, ◌&&◌, List, [], ◌∷◌, ◌++◌, map, length, take, drop, sym, refl, ap, ◌∙◌, subst, ap₂, append_assoc, append-nil, zero-add, arith, length-append}
+use Rattle.std.proofs.Common.{◌≡◌, ℕ, suc, ◌+◌, ◌*◌, ◌<◌, ◌≤◌, Bool, true, false, cond, ◌&&◌, List, [], ◌∷◌, ◌++◌, map, length, drop, sym, refl, ap, ◌∙◌, subst, ap₂, append_assoc, append-nil, arith, length-append}
 use Rattle.octets.specs.Bytes.{part, same_bytes}
-use Rattle.octets.proofs.Parts.{part_part, length_part}
+use Rattle.octets.proofs.Parts.{part_part, part_whole}
 use Rattle.table.specs.Lists.{any, count_by, filter}
 use Rattle.table.specs.Rows.{rows, has_key, RowsNow}
 use Rattle.table.proofs.RowLaws.{rows_next, length_rows, length_join, length_written, Wide, wide_rows}
-use Rattle.table.proofs.FindLaws.{count_next, count_end, key_run}
-use Rattle.load_tests.specs.Records.{record_size, records, records_at, WholeAt, is_carried, counted, carried_keys, Gathered}
-use Rattle.load_tests.specs.Tests.{kind_tests, fails, carried_count}
-use Rattle.load_tests.proofs.RecordLaws.{record_here, whole_end}
-use Rattle.load_tests.proofs.BlobLaws.{kind_size}
-use Rattle.load_tests.proofs.TestLaws.{Asking, asking_start, asked_inside, asked_none, asking_next}
+use Rattle.table.proofs.FindLaws.{count_next, count_end}
+use Rattle.load_tests.specs.Records.{records, is_carried, counted, carried_keys, Gathered}
+use Rattle.load_tests.specs.Tests.{kind_tests, fails}
+use Rattle.load_tests.proofs.RecordLaws.{turn_count}
+use Rattle.load_tests.proofs.BlobLaws.{kind_long}
+use Rattle.load_tests.proofs.TestLaws.{none_here, none_next}
 
 -- ---- gathered
 
@@ -22,90 +22,63 @@ length_pushed r k {a} {x} {j} R h =
     ap length R.area
     ∙ length_written a rs (omega (arith, length_join rs (subst (Wide 24) R.rows (wide_rows 24 j x R.inside)), length-append (rows 24 k a) (r ∷ []), length_rows 24 k a))
 
--- a walk: the k rows are those of the records before the place
-pub record Gathering (file : List ℕ) (size at k : ℕ) (keys : List ℕ) : Type 0 where
-  pub asking : Asking (fails kind_tests) file at
+-- a walk: the k rows are those of the records so far
+pub record Gathering (all rs : List (List ℕ)) (size k : ℕ) (keys : List ℕ) : Type 0 where
+  pub kinds : any (fails kind_tests) rs ≡ false
   pub same : length keys ≡ size
-  pub room : (k + count_by is_carried (records_at file at)) * 24 ≤ size
-  pub are : rows 24 k keys ++ carried_keys (records_at file at) ≡ carried_keys (records file)
+  pub room : (k + count_by is_carried rs) * 24 ≤ size
+  pub are : rows 24 k keys ++ carried_keys rs ≡ carried_keys all
 
-module _ (file : List ℕ) where
-  pub gathering_start : (keys : List ℕ) → 10 ≤ length file → WholeAt file 10 → carried_count file * 24 ≤ length keys → Gathering file (length keys) 10 0 keys
-  unfolding rows
-  gathering_start keys h w r = record { asking = asking_start _ _ h w; same = refl; room = omega arith; are = refl }
+pub gathering_start : {all rs : List (List ℕ)} (keys : List ℕ) → rs ≡ all → any (fails kind_tests) all ≡ false → count_by is_carried all * 24 ≤ length keys
+    → Gathering all rs (length keys) 0 keys
+unfolding rows
+gathering_start keys e h r = rw e (record { kinds = h; same = refl; room = omega arith; are = refl })
 
-  pub gathering_end : {size at k : ℕ} {keys : List ℕ} → Gathering file size at k keys → length file ≤ at → Gathered file keys k
-  unfolding carried_keys filter count_by
-  gathering_end {size} {at} {k} {keys} G h = record {
-    inside = omega (arith, G.room, G.same);
-    are = sym (append-nil (rows 24 k keys)) ∙ ap (λ (rs : List (List ℕ)). rows 24 k keys ++ carried_keys rs) (sym (whole_end file at h)) ∙ G.are;
-  }
+pub gathering_end : {file : List ℕ} {rs : List (List ℕ)} {size k : ℕ} {keys : List ℕ} → Gathering (records file) rs size k keys → rs ≡ [] → Gathered file keys k
+unfolding carried_keys filter count_by
+gathering_end {rs = rs} {size} {k} {keys} G e = record {
+  inside = omega (arith, G.room, G.same);
+  are = sym (append-nil (rows 24 k keys)) ∙ ap (λ (l : List (List ℕ)). rows 24 k keys ++ carried_keys l) (sym e) ∙ G.are;
+}
 
-  module _ (kinds : any (fails kind_tests) (records file) ≡ false) {size at k n : ℕ} {keys : List ℕ} (G : Gathering file size at k keys)
-      (e : n ≡ record_size (drop at file)) (h : at < length file) where
-    next_asking : Asking (fails kind_tests) file (at + n)
-    next_asking = asking_next _ _ G.asking e h (sym (asked_none _ _ G.asking e h kinds))
+module _ {all : List (List ℕ)} {size k : ℕ} {keys : List ℕ} {b : List ℕ} {left rest : List (List ℕ)} (G : Gathering all left size k keys) (e : left ≡ b ∷ rest) where
+  keys_here : (x : Bool) → is_carried b ≡ x → carried_keys left ≡ cond x (part b 13 24 ∷ carried_keys rest) (carried_keys rest)
+  unfolding carried_keys filter
+  keys_here x t = ap carried_keys e ∙ ap (λ (y : Bool). map (λ (r : List ℕ). part r 13 24) (cond y (b ∷ filter is_carried rest) (filter is_carried rest))) t ∙ out x
+    where
+      out : (y : Bool) → map (λ (r : List ℕ). part r 13 24) (cond y (b ∷ filter is_carried rest) (filter is_carried rest)) ≡ cond y (part b 13 24 ∷ carried_keys rest) (carried_keys rest)
+      out true = refl
+      out false = refl
 
-    abbrev b : List ℕ
-    b = part file at n
+  pub row_long : 49 ≤ length b
+  row_long = kind_long b (none_here (fails kind_tests) G.kinds e)
 
-    abbrev rest : List (List ℕ)
-    rest = records_at file (at + n)
+  module _ {m : Bool} (em : m ≡ has_key 0 (72 ∷ 67 ∷ []) b) where
+    pub gather_room : m ≡ true → k * 24 + 24 ≤ length keys
+    unfolding is_carried
+    gather_room t = omega (arith, G.room, G.same, turn_count e is_carried true (sym em ∙ t))
 
-    here : records_at file at ≡ b ∷ rest
-    here = record_here file at n e (asked_inside _ _ G.asking e h)
+    pub gather_next : m ≡ true → {j : ℕ} {x : List ℕ} → RowsNow 24 keys (rows 24 k keys ++ (part b 13 24 ∷ [])) j x → Gathering all rest size j x
+    unfolding is_carried
+    gather_next t {j} {x} R =
+        let l = R.count ∙ length-append (rows 24 k keys) (part b 13 24 ∷ []) in
+        record {
+          kinds = none_next (fails kind_tests) G.kinds e;
+          same = length_pushed (part b 13 24) k R (gather_room t) ∙ G.same;
+          room = omega (arith, G.room, l, length_rows 24 k keys, turn_count e is_carried true (sym em ∙ t));
+          are =
+              ap (λ (rs : List (List ℕ)). rs ++ carried_keys rest) R.rows ∙ append_assoc (rows 24 k keys) (part b 13 24 ∷ []) (carried_keys rest)
+              ∙ ap (λ (rs : List (List ℕ)). rows 24 k keys ++ rs) (sym (keys_here true (sym em ∙ t))) ∙ G.are;
+        }
 
-    count_here : (x : Bool) → is_carried b ≡ x → count_by is_carried (records_at file at) ≡ cond x (suc (count_by is_carried rest)) (count_by is_carried rest)
-    unfolding count_by
-    count_here x t = ap (count_by is_carried) here ∙ ap (λ (y : Bool). cond y (suc (count_by is_carried rest)) (count_by is_carried rest)) t
-
-    keys_here : (x : Bool) → is_carried b ≡ x → carried_keys (records_at file at) ≡ cond x (part b 13 24 ∷ carried_keys rest) (carried_keys rest)
-    unfolding carried_keys filter
-    keys_here x t = ap carried_keys here ∙ ap (λ (y : Bool). map (λ (r : List ℕ). part r 13 24) (cond y (b ∷ filter is_carried rest) (filter is_carried rest))) t ∙ out x
-      where
-        out : (y : Bool) → map (λ (r : List ℕ). part r 13 24) (cond y (b ∷ filter is_carried rest) (filter is_carried rest)) ≡ cond y (part b 13 24 ∷ carried_keys rest) (carried_keys rest)
-        out true = refl
-        out false = refl
-
-    row_long : 49 ≤ n
-    row_long = kind_size file at n (asked_inside _ _ G.asking e h) (asked_none _ _ G.asking e h kinds)
-
-    pub gather_inside : (at + n ≤ length file) × (at + 49 ≤ length file)
-    gather_inside = (asked_inside _ _ G.asking e h, omega (arith, asked_inside _ _ G.asking e h, row_long))
-
-    -- the depositor and the tag, as they are lent
-    abbrev lent : List ℕ
-    lent = take (at + 37 - (at + 13)) (drop (at + 13) file)
-
-    module _ {m : Bool} (em : m ≡ has_key 0 (72 ∷ 67 ∷ []) b) where
-      pub gather_room : m ≡ true → k * 24 + 24 ≤ length keys
-      unfolding is_carried
-      gather_room t = omega (arith, G.room, G.same, count_here true (sym em ∙ t))
-
-      pub gather_next : m ≡ true → {j : ℕ} {x : List ℕ} → RowsNow 24 keys (rows 24 k keys ++ (lent ∷ [])) j x → Gathering file size (at + n) j x
-      unfolding is_carried part
-      gather_next t {j} {x} R =
-          let c = count_here true (sym em ∙ t) in
-          let l = R.count ∙ length-append (rows 24 k keys) (lent ∷ []) in
-          let v : at + 37 - (at + 13) ≡ 24 = omega arith in
-          record {
-            asking = next_asking;
-            same = length_pushed lent k R (gather_room t) ∙ G.same;
-            room = omega (arith, G.room, l, length_rows 24 k keys);
-            are =
-                ap (λ (rs : List (List ℕ)). rs ++ carried_keys rest) R.rows ∙ append_assoc (rows 24 k keys) (lent ∷ []) (carried_keys rest)
-                ∙ ap (λ (r : List ℕ). rows 24 k keys ++ (r ∷ carried_keys rest)) (ap (λ (z : ℕ). take z (drop (at + 13) file)) v ∙ sym (part_part file at n 13 24 (omega (arith, row_long))))
-                ∙ ap (λ (rs : List (List ℕ)). rows 24 k keys ++ rs) (sym (keys_here true (sym em ∙ t))) ∙ G.are;
-          }
-
-      pub gather_past : m ≡ false → Gathering file size (at + n) k keys
-      unfolding is_carried
-      gather_past t = record {
-        asking = next_asking;
-        same = G.same;
-        room = omega (arith, G.room, count_here false (sym em ∙ t));
-        are = ap (λ (rs : List (List ℕ)). rows 24 k keys ++ rs) (sym (keys_here false (sym em ∙ t))) ∙ G.are;
-      }
+    pub gather_past : m ≡ false → Gathering all rest size k keys
+    unfolding is_carried
+    gather_past t = record {
+      kinds = none_next (fails kind_tests) G.kinds e;
+      same = G.same;
+      room = omega (arith, G.room, turn_count e is_carried false (sym em ∙ t));
+      are = ap (λ (rs : List (List ℕ)). rows 24 k keys ++ rs) (sym (keys_here false (sym em ∙ t))) ∙ G.are;
+    }
 
 -- ---- counted
 
@@ -133,9 +106,6 @@ pub record Tally (p : List ℕ → Bool) (keys : List ℕ) (k i found : ℕ) : T
   pub count : count_by p (rows 24 k keys) ≡ found + count_by p (drop i (rows 24 k keys))
 
 module _ (p : List ℕ → Bool) (keys : List ℕ) (k : ℕ) where
-  pub tally_start : Tally p keys k 0 0
-  tally_start = record { within = omega arith; below = omega arith; count = sym (zero-add (count_by p (rows 24 k keys))) }
-
   pub tally_end : {i found : ℕ} → Tally p keys k i found → k ≤ i → found ≡ count_by p (rows 24 k keys)
   tally_end {i} T h = omega (arith, T.count, count_end p (rows 24 k keys) i (omega (arith, length_rows 24 k keys)))
 
@@ -149,18 +119,8 @@ module _ (p : List ℕ → Bool) (keys : List ℕ) (k : ℕ) where
       go false q c = record { within = omega arith; below = omega (arith, T.below); count = omega (arith, T.count) }
 
 -- what a comparison says of row i
-pub key_in_row : (keys file : List ℕ) (i o at n : ℕ) {r x : Bool} → o + n ≤ 24 → at + n ≤ length file
-    → r ≡ same_bytes (part keys (i * 24 + o) n) (part file at n) → r ≡ x → has_key o (part file at n) (part keys (i * 24) 24) ≡ x
-key_in_row keys file i o at n h l e t =
-    key_run o n (part file at n) (part keys (i * 24) 24) (length_part file at n l)
-    ∙ ap (λ (y : List ℕ). same_bytes y (part file at n)) (part_part keys (i * 24) 24 o n h) ∙ sym e ∙ t
-
--- the tag of a place, and its depositor, counted in the rows
-module _ (file : List ℕ) (at : ℕ) {keys : List ℕ} {k r : ℕ} where
-  pub tags_in_file : at + 16 ≤ length file → Gathered file keys k → r ≡ count_by (has_key 8 (part file at 16)) (rows 24 k keys)
-      → r ≡ count_by (counted true 21 (part file at 16)) (records file)
-  tags_in_file h G e = in_file 8 (part file at 16) (omega (arith, length_part file at 16 h)) G e
-
-  pub depositors_in_file : at + 8 ≤ length file → Gathered file keys k → r ≡ count_by (has_key 0 (part file at 8)) (rows 24 k keys)
-      → r ≡ count_by (counted true 13 (part file at 8)) (records file)
-  depositors_in_file h G e = in_file 0 (part file at 8) (omega (arith, length_part file at 8 h)) G e
+pub key_in_row : (keys key : List ℕ) (i o : ℕ) {r x : Bool} → o + length key ≤ 24
+    → r ≡ same_bytes (part keys (i * 24 + o) (length key)) (part key 0 (length key)) → r ≡ x → has_key o key (part keys (i * 24) 24) ≡ x
+unfolding has_key
+key_in_row keys key i o h e t =
+    ap₂ same_bytes (part_part keys (i * 24) 24 o (length key) h) (sym (part_whole key (length key) refl)) ∙ sym e ∙ t

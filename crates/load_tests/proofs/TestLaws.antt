@@ -1,10 +1,12 @@
 -- Laws of the tests of a load: of a record, of the records one by one, and of a file.
 -- Assumes nothing.
-use Rattle.std.proofs.Common.{◌≡◌, ℕ, ◌+◌, ◌/◌, ◌<◌, ◌≤◌, min, Bool, true, false, cond, not, ◌&&◌, ◌||◌, ltb, leb, List, [], ◌∷◌, map, length, drop, sym, refl, ap, ◌∙◌, subst, ap₂, arith, ltb-false, le-ltb, lt-ltb, le-leb}
+use Rattle.std.proofs.Common.{◌≡◌, ℕ, ◌/◌, ◌<◌, ◌≤◌, min, Bool, true, false, cond, not, ◌&&◌, ◌||◌, ltb, leb, List, [], ◌∷◌, map, length, sym, refl, ap, ◌∙◌, ap₂, arith, ltb-false, le-ltb, lt-ltb, le-leb, Result, Ok, Err}
+use Rattle.std.proofs.Math.Nat.{min_comm}
 use borrow.Author.Tests.{lt-leb}
 use Rattle.octets.specs.Bytes.{part, num, same_bytes}
-use Rattle.octets.proofs.Parts.{part_part, part_whole}
+use Rattle.octets.proofs.Parts.{part_whole}
 use Rattle.courier_core.specs.declared.ContactId.{ContactId}
+use Rattle.courier_core.specs.declared.Refusal.{Refusal}
 use Rattle.courier_core.specs.declared.Refusal.TheVariants as refusal
 use Rattle.table.specs.Lists.{any, count_by}
 use Rattle.table.specs.Rows.{has_key}
@@ -12,11 +14,8 @@ use Rattle.table.proofs.ListLaws.{any_append}
 use Rattle.rows.specs.declared.Contact.{Contact}
 use Rattle.model.specs.Contacts.{known}
 use Rattle.model.specs.Cells.{cell_count}
-use Rattle.load_tests.specs.declared.Tested.{Tested}
-use Rattle.load_tests.specs.declared.Tested.TheVariants as tested
-use Rattle.load_tests.specs.Records.{record_size, records, records_at, WholeAt, depositor_in, tag_in, is_carried, is_tombstone, counted}
+use Rattle.load_tests.specs.Records.{records, depositor_in, tag_in, is_carried, is_tombstone, counted}
 use Rattle.load_tests.specs.Tests.{slot_past, slot_twice, unknown_depositor, tag_twice, many_of_one, kind_tests, row_tests, record_tests, fails, carried_fails, short_next, next_not_first, cut_short, many_carried, carried_count, tombstone_count, wrongs, holds, of_records, next_in, load_tests, tested_as}
-use Rattle.load_tests.proofs.RecordLaws.{record_here, whole_here, whole_next, whole_end, size_least, not_cut_whole}
 
 -- ---- no one of two
 
@@ -30,51 +29,43 @@ right_no false y e = e
 
 -- ---- of a record
 
-module _ (file : List ℕ) (at n : ℕ) (cs : List Contact) (rs : List (List ℕ)) where
-  abbrev b : List ℕ
-  b = part file at n
-
+module _ (b : List ℕ) (cs : List Contact) (rs : List (List ℕ)) where
   abbrev of_tag : ℕ
-  of_tag = count_by (counted true 21 (part file (at + 21) 16)) rs
+  of_tag = count_by (counted true 21 (part b 21 16)) rs
 
   abbrev of_one : ℕ
-  of_one = count_by (counted true 13 (part file (at + 13) 8)) rs
+  of_one = count_by (counted true 13 (part b 13 8)) rs
 
   abbrev of_slot : ℕ
-  of_slot = count_by (counted false 2 (part file (at + 2) 8)) rs
+  of_slot = count_by (counted false 2 (part b 2 8)) rs
 
   abbrev contact_of : ℕ → ContactId
   contact_of i = record { 0 = i }
 
-  -- the three tests of a carried record, read off the file
-  module _ (h : 37 ≤ n) where
-    carried_read : carried_fails cs rs b ≡ (not (known cs (contact_of (num (part file (at + 13) 8)))) || (ltb 1 of_tag || ltb 32 of_one))
+  -- the three tests of a carried record
+  module _ {k : Bool} {id : ℕ} (e : k ≡ known cs (contact_of id)) (q : id ≡ num (part b 13 8)) where
+    known_read : (x : Bool) → k ≡ x → known cs (contact_of (num (part b 13 8))) ≡ x
+    known_read x t = ap (λ (i : ℕ). known cs (contact_of i)) (sym q) ∙ sym e ∙ t
+
+    pub carried_unknown : k ≡ false → true ≡ carried_fails cs rs b
     unfolding carried_fails
-    carried_read =
-        ap₂ (λ (x y : List ℕ). not (known cs (contact_of (num x))) || (ltb 1 (count_by (counted true 21 y) rs) || ltb 32 (count_by (counted true 13 x) rs)))
-        (part_part file at n 13 8 (omega arith)) (part_part file at n 21 16 (omega arith))
+    carried_unknown t = sym (ap (λ (x : Bool). not x || (ltb 1 of_tag || ltb 32 of_one)) (known_read false t))
 
-    module _ {k : Bool} {id : ℕ} (e : k ≡ known cs (contact_of id)) (q : id ≡ num (part file (at + 13) 8)) where
-      known_read : (x : Bool) → k ≡ x → known cs (contact_of (num (part file (at + 13) 8))) ≡ x
-      known_read x t = ap (λ (i : ℕ). known cs (contact_of i)) (sym q) ∙ sym e ∙ t
+    module _ (t : k ≡ true) {m : ℕ} (em : m ≡ of_tag) where
+      carried_tags : (x : Bool) → ltb 1 m ≡ x → carried_fails cs rs b ≡ (x || ltb 32 of_one)
+      unfolding carried_fails
+      carried_tags x f =
+          ap (λ (y : Bool). not y || (ltb 1 of_tag || ltb 32 of_one)) (known_read true t)
+          ∙ ap (λ (y : Bool). y || ltb 32 of_one) (ap (ltb 1) (sym em) ∙ f)
 
-      pub carried_unknown : k ≡ false → true ≡ carried_fails cs rs b
-      carried_unknown t = sym (carried_read ∙ ap (λ (x : Bool). not x || (ltb 1 of_tag || ltb 32 of_one)) (known_read false t))
+      pub carried_twice : 1 < m → true ≡ carried_fails cs rs b
+      carried_twice f = sym (carried_tags true (lt-ltb 1 m f))
 
-      module _ (t : k ≡ true) {m : ℕ} (em : m ≡ of_tag) where
-        carried_tags : (x : Bool) → ltb 1 m ≡ x → carried_fails cs rs b ≡ (x || ltb 32 of_one)
-        carried_tags x f =
-            carried_read ∙ ap (λ (y : Bool). not y || (ltb 1 of_tag || ltb 32 of_one)) (known_read true t)
-            ∙ ap (λ (y : Bool). y || ltb 32 of_one) (ap (ltb 1) (sym em) ∙ f)
-
-        pub carried_twice : 1 < m → true ≡ carried_fails cs rs b
-        carried_twice f = sym (carried_tags true (lt-ltb 1 m f))
-
-        pub carried_many : {j : ℕ} → m ≤ 1 → j ≡ of_one → ltb 32 j ≡ carried_fails cs rs b
-        carried_many f ej = ap (ltb 32) ej ∙ sym (carried_tags false (le-ltb 1 m f))
+      pub carried_many : {j : ℕ} → m ≤ 1 → j ≡ of_one → ltb 32 j ≡ carried_fails cs rs b
+      carried_many f ej = ap (ltb 32) ej ∙ sym (carried_tags false (le-ltb 1 m f))
 
   -- the tests of any record
-  module _ (next : ℕ) (h : 10 ≤ n) where
+  module _ (next : ℕ) where
     abbrev Fails : Bool
     Fails = fails (row_tests next cs rs) b
 
@@ -83,14 +74,12 @@ module _ (file : List ℕ) (at n : ℕ) (cs : List Contact) (rs : List (List ℕ
         (c && not (known cs (contact_of (num (depositor_in b)))))
         || ((c && ltb 1 (count_by (counted true 21 (tag_in b)) rs)) || ((c && ltb 32 (count_by (counted true 13 (depositor_in b)) rs)) || false))
 
-    row_read : Fails ≡ (leb next (num (part file (at + 2) 8)) || (ltb 1 of_slot || for_carried (is_carried b)))
+    row_read : Fails ≡ (leb next (num (part b 2 8)) || (ltb 1 of_slot || for_carried (is_carried b)))
     unfolding fails any slot_past slot_twice unknown_depositor tag_twice many_of_one
-    row_read =
-        ap (λ (x : List ℕ). leb next (num x) || (ltb 1 (count_by (counted false 2 x) rs) || for_carried (is_carried b)))
-        (part_part file at n 2 8 (omega arith))
+    row_read = refl
 
-    module _ {slot : ℕ} (e : slot ≡ num (part file (at + 2) 8)) where
-      past_read : (x : Bool) → leb next slot ≡ x → leb next (num (part file (at + 2) 8)) ≡ x
+    module _ {slot : ℕ} (e : slot ≡ num (part b 2 8)) where
+      past_read : (x : Bool) → leb next slot ≡ x → leb next (num (part b 2 8)) ≡ x
       past_read x t = ap (leb next) (sym e) ∙ t
 
       pub row_past : next ≤ slot → true ≡ Fails
@@ -121,46 +110,33 @@ module _ (file : List ℕ) (at n : ℕ) (cs : List Contact) (rs : List (List ℕ
               ends x y true = refl
               ends x y false = refl
 
--- ---- the records, one by one
+-- ---- the records, one by one: those that are left decide
 
-module _ (p : List ℕ → Bool) (file : List ℕ) where
-  pub record Asking (at : ℕ) : Type 0 where
-    pub within : at ≤ length file
-    pub whole : WholeAt file at
-    pub left : any p (records file) ≡ any p (records_at file at)
-
-  pub asking_start : 10 ≤ length file → WholeAt file 10 → Asking 10
-  asking_start h w = record { within = h; whole = w; left = refl }
-
-  module _ {at n : ℕ} (A : Asking at) (e : n ≡ record_size (drop at file)) (h : at < length file) where
-    pub asked_inside : at + n ≤ length file
-    asked_inside = omega (arith, e, whole_here file at h A.whole)
-
-    pub asked_head : at + 12 ≤ length file
-    asked_head = omega (arith, e, asked_inside, size_least (drop at file))
-
-    asked : (x : Bool) → p (part file at n) ≡ x → any p (records file) ≡ (x || any p (records_at file (at + n)))
+module _ (p : List ℕ → Bool) (all : List (List ℕ)) where
+  module _ {rs ts : List (List ℕ)} {b : List ℕ} (left : any p all ≡ any p rs) (e : rs ≡ b ∷ ts) where
+    asked : (x : Bool) → p b ≡ x → any p all ≡ (x || any p ts)
     unfolding any
-    asked x t =
-        A.left ∙ ap (any p) (record_here file at n e asked_inside)
-        ∙ ap (λ (y : Bool). y || any p (records_at file (at + n))) t
+    asked x t = left ∙ ap (any p) e ∙ ap (λ (y : Bool). y || any p ts) t
 
-    pub asked_found : true ≡ p (part file at n) → true ≡ any p (records file)
+    pub asked_found : true ≡ p b → true ≡ any p all
     asked_found t = sym (asked true (sym t))
 
-    pub asked_none : any p (records file) ≡ false → p (part file at n) ≡ false
-    asked_none f = left_no (p (part file at n)) (any p (records_at file (at + n))) (sym (asked (p (part file at n)) refl) ∙ f)
+    pub asked_next : false ≡ p b → any p all ≡ any p ts
+    asked_next t = asked false (sym t)
 
-    pub asking_next : false ≡ p (part file at n) → Asking (at + n)
-    asking_next t = record {
-      within = asked_inside;
-      whole = subst (λ (m : ℕ). WholeAt file (at + m)) (sym e) (whole_next file at (omega (arith, e, asked_inside)) A.whole);
-      left = asked false (sym t);
-    }
-
-  pub asking_end : {at : ℕ} → Asking at → length file ≤ at → false ≡ any p (records file)
+  pub asked_end : {rs : List (List ℕ)} → any p all ≡ any p rs → rs ≡ [] → false ≡ any p all
   unfolding any
-  asking_end {at} A h = sym (A.left ∙ ap (any p) (whole_end file at h))
+  asked_end left e = sym (left ∙ ap (any p) e)
+
+-- no one of those that are left
+module _ (p : List ℕ → Bool) {rs ts : List (List ℕ)} {b : List ℕ} (none : any p rs ≡ false) (e : rs ≡ b ∷ ts) where
+  pub none_here : p b ≡ false
+  unfolding any
+  none_here = left_no (p b) (any p ts) (sym (ap (any p) e) ∙ none)
+
+  pub none_next : any p ts ≡ false
+  unfolding any
+  none_next = right_no (p b) (any p ts) (sym (ap (any p) e) ∙ none)
 
 -- a record that fails the tests of its kind, or those of its row
 module _ (next : ℕ) (cs : List Contact) (rs : List (List ℕ)) (b : List ℕ) where
@@ -295,34 +271,31 @@ module _ (cs : List Contact) (file : List ℕ) where
   fine_cut : holds (wrongs cs file) ≡ false → (cut_short file || from_records) ≡ false
   fine_cut e = right_no (next_not_first file) (cut_short file || from_records) (right_no (short_next file) from_mark (sym file_read ∙ e))
 
-  pub fine_whole : holds (wrongs cs file) ≡ false → WholeAt file 10
-  fine_whole e = not_cut_whole file (fine_long e) (left_no (cut_short file) from_records (fine_cut e))
-
   pub fine_records : holds (wrongs cs file) ≡ false → wrong ≡ false
   fine_records e = left_no wrong (many_carried file || false) (right_no (cut_short file) from_records (fine_cut e))
 
   -- then 4 and 5
   module _ (cells room : ℕ) where
-    abbrev Says : Tested → Type 0
+    abbrev Says : Result (Unit {0}) Refusal → Type 0
     Says r = r ≡ tested_as (load_tests cs cells room file)
 
-    abbrev fours : Bool → Bool → Bool → Tested
-    fours x y z = cond x (tested.Refused refusal.SavedFile) (cond y (tested.Refused refusal.NoCell) (cond z (tested.Refused refusal.NoTombstoneRow) tested.Fine))
+    abbrev fours : Bool → Bool → Bool → Result (Unit {0}) Refusal
+    fours x y z = cond x (Err refusal.SavedFile) (cond y (Err refusal.NoCell) (cond z (Err refusal.NoTombstoneRow) (Ok tt)))
 
-    abbrev rest : Bool → Tested
+    abbrev rest : Bool → Result (Unit {0}) Refusal
     rest x = fours x (ltb (cell_count cells) (carried_count file)) (ltb room (tombstone_count file))
 
     module _ {w : Bool} (e : w ≡ holds (wrongs cs file)) where
-      pub tested_wrong : w ≡ true → Says (tested.Refused refusal.SavedFile)
+      pub tested_wrong : w ≡ true → Says (Err refusal.SavedFile)
       unfolding load_tests tested_as
       tested_wrong t = ap rest (sym t ∙ e)
 
-      module _ (t : w ≡ false) {c n : ℕ} (ec : c ≡ min 256 (cells / 2064)) (en : n ≡ count_by (has_key 0 (72 ∷ 67 ∷ [])) (records file)) where
+      module _ (t : w ≡ false) {c n : ℕ} (ec : c ≡ min (cells / 2064) 256) (en : n ≡ count_by (has_key 0 (72 ∷ 67 ∷ [])) (records file)) where
         cells_read : (x : Bool) → ltb c n ≡ x → fours false x (ltb room (tombstone_count file)) ≡ tested_as (load_tests cs cells room file)
         unfolding load_tests tested_as cell_count is_carried
-        cells_read x f = ap₂ (λ (y z : Bool). fours y z (ltb room (tombstone_count file))) (sym t ∙ e) (sym f ∙ ap₂ ltb ec en)
+        cells_read x f = ap₂ (λ (y z : Bool). fours y z (ltb room (tombstone_count file))) (sym t ∙ e) (sym f ∙ ap₂ ltb (ec ∙ min_comm (cells / 2064) 256) en)
 
-        pub tested_cells : c < n → Says (tested.Refused refusal.NoCell)
+        pub tested_cells : c < n → Says (Err refusal.NoCell)
         tested_cells f = cells_read true (lt-ltb c n f)
 
         module _ (f : n ≤ c) {m : ℕ} (em : m ≡ count_by (has_key 0 (72 ∷ 84 ∷ [])) (records file)) where
@@ -330,15 +303,15 @@ module _ (cs : List Contact) (file : List ℕ) where
           unfolding is_tombstone
           rooms_read x g = ap (fours false false) (sym g ∙ ap (ltb room) em) ∙ cells_read false (le-ltb c n f)
 
-          pub tested_rooms : room < m → Says (tested.Refused refusal.NoTombstoneRow)
+          pub tested_rooms : room < m → Says (Err refusal.NoTombstoneRow)
           tested_rooms g = rooms_read true (lt-ltb room m g)
 
-          pub tested_fine : m ≤ room → Says tested.Fine
+          pub tested_fine : m ≤ room → Says (Ok tt)
           tested_fine g = rooms_read false (le-ltb room m g)
 
     -- where nothing is refused, no test holds
-    module _ (e : Says tested.Fine) where
-      none_of : (x y z : Bool) → tested.Fine ≡ fours x y z → (x ≡ false) × ((y ≡ false) × (z ≡ false))
+    module _ (e : Says (Ok tt)) where
+      none_of : (x y z : Bool) → Ok tt ≡ fours x y z → (x ≡ false) × ((y ≡ false) × (z ≡ false))
       none_of true y z f = let k : ◌≡◌ {A = ℕ} 0 1 = cc in absurd (omega arith)
       none_of false true z f = let k : ◌≡◌ {A = ℕ} 0 1 = cc in absurd (omega arith)
       none_of false false true f = let k : ◌≡◌ {A = ℕ} 0 1 = cc in absurd (omega arith)

@@ -3,7 +3,8 @@
 use Rattle.std.specs.Prelude.{◌≡◌, ℕ, zero, suc, ◌+◌, ◌-◌, ◌*◌, ◌≤◌, Bool, false, cond, ◌&&◌, List, [], ◌∷◌, map, length, take, drop, nat_le}
 use Rattle.octets.specs.Bytes.{part, num}
 use Rattle.table.specs.Lists.{count_by, filter}
-use Rattle.table.specs.Rows.{join, rows, has_key}
+use Rattle.table.specs.Rows.{rows, has_key}
+use Rattle.load_tests.specs.declared.RecordIter.{RecordIter}
 
 -- the bytes of the record at the front, by its length
 unfoldable pub record_size : List ℕ → ℕ
@@ -21,9 +22,9 @@ records_at file at = records_in (length file - at) (drop at file)
 abbrev pub records : List ℕ → List (List ℕ)
 records file = records_at file 10
 
--- from a place on, a file is whole records
-unfoldable pub WholeAt : List ℕ → ℕ → Type 0
-WholeAt file at = at + length (join (records_at file at)) ≡ length file
+-- those that are still to come
+unfoldable pub left : RecordIter → List (List ℕ)
+left walk = records_in (length walk.rest.now) walk.rest.now
 
 -- ---- what stands in a record; a carried blob has its depositor behind its kind, and then its tag
 
@@ -51,7 +52,7 @@ unfoldable pub counted : Bool → ℕ → List ℕ → List ℕ → Bool
 counted carried_only offset key b = cond carried_only (is_carried b && has_key offset key b) (has_key offset key b)
 
 -- no slot is that of two records
-unfoldable pub SlotsOnce : List (List ℕ) → Type 0
+abbrev pub SlotsOnce : List (List ℕ) → Type 0
 SlotsOnce rs = (slot : List ℕ) → length slot ≡ 8 → count_by (counted false 2 slot) rs ≤ 1
 
 -- the depositor and the tag of each carried record
@@ -62,10 +63,3 @@ carried_keys rs = map (λ (b : List ℕ). part b 13 24) (filter is_carried rs)
 pub record Gathered (file keys : List ℕ) (k : ℕ) : Type 0 where
   pub inside : k * 24 ≤ length keys
   pub are : rows 24 k keys ≡ carried_keys (records file)
-
--- some records are counted: k before the place at
-pub record Counting (p : List ℕ → Bool) (file : List ℕ) (at k : ℕ) : Type 0 where
-  pub within : at ≤ length file
-  pub below : k ≤ at
-  pub whole : WholeAt file at
-  pub count : count_by p (records file) ≡ k + count_by p (records_at file at)

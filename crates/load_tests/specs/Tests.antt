@@ -1,6 +1,6 @@
 -- Number 8 of a load, condition by condition; then 4 and 5.
 -- Assumes nothing.
-use Rattle.std.specs.Prelude.{◌≡◌, ℕ, ◌+◌, ◌≤◌, Bool, true, false, not, ◌&&◌, ◌||◌, List, [], ◌∷◌, ◌++◌, map, length, nat_le, nat_lt}
+use Rattle.std.specs.Prelude.{ℕ, ◌+◌, Bool, true, false, not, ◌&&◌, ◌||◌, List, [], ◌∷◌, ◌++◌, map, length, nat_le, nat_lt, Result, Ok, Err}
 use Rattle.octets.specs.Bytes.{part, num, same_bytes}
 use Rattle.courier_core.specs.Core.{first_of}
 use Rattle.courier_core.specs.declared.Refusal.{Refusal}
@@ -13,9 +13,7 @@ use Rattle.model.specs.Basics.{match_some}
 use Rattle.model.specs.Contacts.{known}
 use Rattle.model.specs.Cells.{cell_count}
 use Rattle.model.specs.Saved.{held_mark}
-use Rattle.load_tests.specs.declared.Tested.{Tested}
-use Rattle.load_tests.specs.declared.Tested.TheVariants as tested
-use Rattle.load_tests.specs.Records.{records, WholeAt, slot_in, blob_in, depositor_in, tag_in, is_carried, is_tombstone, counted, SlotsOnce, Gathered}
+use Rattle.load_tests.specs.Records.{records, slot_in, blob_in, depositor_in, tag_in, is_carried, is_tombstone, counted}
 
 -- ---- of a record
 
@@ -80,15 +78,6 @@ carried_fails contacts rs b =
     not (known contacts (record { 0 = num (depositor_in b) }))
     || (nat_lt 1 (count_by (counted true 21 (tag_in b)) rs) || nat_lt 32 (count_by (counted true 13 (depositor_in b)) rs))
 
--- the record of n bytes at a place, of the right kind, is asked for its row: where rise is true no slot is there twice
-pub record RowAsked (file : List ℕ) (at n : ℕ) (rise : Bool) (keys : List ℕ) (k : ℕ) : Type 0 where
-  pub start : 10 ≤ length file
-  pub whole : WholeAt file 10
-  pub inside : at + n ≤ length file
-  pub kind : fails kind_tests (part file at n) ≡ false
-  pub once : rise ≡ true → SlotsOnce (records file)
-  pub gathered : Gathered file keys k
-
 -- ---- of a file
 
 -- `HN` and the next slot are not there whole
@@ -140,5 +129,5 @@ load_tests contacts cells tombstone_rows file =
     ∷ (nat_lt tombstone_rows (tombstone_count file), refusal.NoTombstoneRow)
     ∷ []
 
-unfoldable pub tested_as : List (Bool × Refusal) → Tested
-tested_as ts = first_of ts tested.Refused tested.Fine
+unfoldable pub tested_as : List (Bool × Refusal) → Result (Unit {0}) Refusal
+tested_as ts = first_of ts Err (Ok tt)

@@ -1,6 +1,6 @@
 -- Laws of the call maintenance: refused, or performed.
 -- Assumes nothing.
-use Rattle.std.proofs.Common.{◌≡◌, ℕ, ◌+◌, ◌*◌, ◌/◌, ◌<◌, ◌≤◌, not, List, [], ◌++◌, map, length, sym, refl, ap, ◌∙◌, ap₂, arith, le-ltb, lt-ltb}
+use Rattle.std.proofs.Common.{◌≡◌, ℕ, ◌+◌, ◌*◌, ◌/◌, ◌<◌, ◌≤◌, not, List, [], ◌++◌, map, length, sym, refl, ap, ◌∙◌, ap₂, Ok, Err, arith, le-ltb, lt-ltb}
 use lib.ListN.{length-map}
 use Rattle.octets.specs.Bytes.{splice}
 use Rattle.courier_core.specs.declared.Refusal.TheVariants as refusal
@@ -17,15 +17,14 @@ use Rattle.rows.specs.declared.Tombstone.{Tombstone}
 use Rattle.rows.specs.declared.Action.{Action}
 use Rattle.rows.specs.Rows.{own_codec, carried_codec, tombstone_codec}
 use Rattle.model.specs.State.{own_now, carried_now, tombstones_now, ◌and◌}
-use Rattle.model.specs.Calls.{Call, Result, result, done, maintenance, delete_courier}
+use Rattle.model.specs.Calls.{Call, Result as Outcome, result, done, maintenance, delete_courier}
 use Rattle.model.specs.Contacts.{now_min, lifetime_end}
 use Rattle.model.specs.Maintenance.{own_expired, carried_expired, tombstone_expired, maintain_own, own_puts, expired_slots, maintenance_tests, maintain_couriers}
 use Rattle.model.specs.Step.{tests, perform, step}
 use Rattle.model.specs.Areas.{Areas, Written, view, store, store_device, store_session, answer_areas}
 use Rattle.model.proofs.CallLaws.{refused_here, not_here, no_test, refused_call, answering_call}
 use Rattle.model.specs.Lent.{actions_lent}
-use Rattle.maintenance.specs.declared.Maintained.TheVariants as maintained
-use Rattle.maintenance.specs.Expiry.{Listed, own_put, Rewritten, maintained_device, maintained_of, lent_tables}
+use Rattle.maintenance.specs.Expiry.{Listed, own_put, Rewritten, maintained_of, lent_tables}
 use Rattle.maintenance.proofs.ListedLaws.{listed_then, listed_front}
 use Rattle.maintenance.proofs.MergeLaws.{length_expired}
 
@@ -79,7 +78,7 @@ module _ (d : Device) (own carried tombstones ac : List ℕ) (a : Areas) where
   R = length tombstones / 44
 
   pub says_short : length ac < 13 * (512 + R)
-      → Written maintained_of (step (view B) C) (maintained.Refused refusal.ShortArea) B B (actions_lent ac) (actions_lent ac)
+      → Written maintained_of (step (view B) C) (Err refusal.ShortArea) B B (actions_lent ac) (actions_lent ac)
   unfolding step tests perform maintenance_tests view
   says_short h = refused_call refusal.ShortArea (refused_here _ _ _ (lt-ltb (length ac) (13 * (512 + R)) h)) refl refl
 
@@ -106,7 +105,7 @@ module _ (d : Device) (own carried tombstones ac : List ℕ) (a : Areas) where
     abbrev acts : List Action
     acts = own_puts minute To ++ map delete_courier (expired_slots minute Tc Tt)
 
-    abbrev performed : Result
+    abbrev performed : Outcome
     performed = result done [] acts (own_now own' and carried_now carried' and tombstones_now tombstones')
 
   module _ (long : 13 * (512 + R) ≤ length ac) {minute end : ℕ} (em : minute ≡ now_min d.now_s) (ee : end ≡ lifetime_end d.now_s d.courier) where
@@ -114,16 +113,15 @@ module _ (d : Device) (own carried tombstones ac : List ℕ) (a : Areas) where
     unfolding step tests perform maintenance_tests maintain_couriers view
     stepped = not_here _ _ _ (le-ltb (length ac) (13 * (512 + R)) long) (no_test _) ∙ ap₂ performed (sym em) (sym ee)
 
-    pub says_done : length own ≡ 13824 → length carried ≡ 14592 → {k listed n m o : ℕ} {x y u v w : List ℕ} {d' : Device} → Listed ac 0 (own_puts minute To) k x
+    pub says_done : length own ≡ 13824 → length carried ≡ 14592 → {k listed n m o : ℕ} {x y u v w : List ℕ} → Listed ac 0 (own_puts minute To) k x
         → Listed x k (map delete_courier (expired_slots minute Tc Tt)) listed y
         → Rewritten own_codec own (own' minute end) n u → TableNow carried_codec carried (carried' minute end) m v
-        → TableNow tombstone_codec tombstones (tombstones' minute end) o w → d' ≡ maintained_device d n m o
-        → Written maintained_of (step (view B) C) (maintained.Done listed) B (lent_tables d' u v w a) (actions_lent ac) (actions_lent y)
+        → TableNow tombstone_codec tombstones (tombstones' minute end) o w
+        → Written maintained_of (step (view B) C) (Ok listed) B (lent_tables (record d { own = n; carried = m; tombstones = o }) u v w a) (actions_lent ac) (actions_lent y)
     unfolding store store_device store_session answer_areas with_table written join splice
-    says_done lo lc {listed = listed} {y = y} {u = u} {v = v} {w = w} L M O N Q ed =
+    says_done lo lc {listed = listed} {y = y} {u = u} {v = v} {w = w} L M O N Q =
         let A : Listed ac 0 (acts minute end) listed y = listed_then (own_puts minute To) (map delete_courier (expired_slots minute Tc Tt)) L M
         (listed_room own tombstones d.own (length ac) lo long carried d.carried d.tombstones minute lc L M) in
-        answering_call (performed minute end) stepped (ap maintained.Done (omega (arith, A.count)))
-        (ap (λ (d' : Device). lent_tables d' u v w a) ed
-        ∙ (λ j. lent_tables (maintained_device d (O.count j) (N.count j) (Q.count j)) (O.area j) (N.area j) (Q.area j) a))
+        answering_call (performed minute end) stepped (ap Ok (omega (arith, A.count)))
+        (λ j. lent_tables (record d { own = O.count j; carried = N.count j; tombstones = Q.count j }) (O.area j) (N.area j) (Q.area j) a)
         (ap actions_lent (listed_front (acts minute end) A))

@@ -1,12 +1,20 @@
 -- Laws of the tests: a row that lives, one that stays, one that is renewed.
 -- Assumes nothing.
-use Rattle.std.proofs.Common.{◌≡◌, ℕ, ◌+◌, ◌*◌, ◌^◌, ◌<◌, ◌≤◌, Bool, true, false, cond, not, ◌&&◌, eqb, ltb, leb, List, sym, refl, ap, ◌∙◌, arith, ltb-false, ltb-true, le-ltb, lt-ltb, le-leb}
+use Rattle.std.proofs.Common.{◌≡◌, ℕ, ◌+◌, ◌*◌, ◌^◌, ◌<◌, ◌≤◌, Bool, true, false, cond, not, ◌&&◌, ltb, leb, List, length, sym, refl, ap, ◌∙◌, arith, ltb-false, ltb-true, lt-ltb, le-leb}
 use borrow.Author.Tests.{lt-leb, not-false}
 use Rattle.octets.specs.Bytes.{part, num}
 use Rattle.octets.proofs.Parts.{part_part}
+use Rattle.table.specs.Lists.{filter}
+use Rattle.table.specs.Rows.{held, rows, RowsNow}
+use Rattle.table.specs.Codec.{table_of, TableNow}
+use Rattle.table.proofs.TableLaws.{table_retain}
 use Rattle.rows.specs.declared.Own.{Own}
+use Rattle.rows.specs.declared.Carried.{Carried}
+use Rattle.rows.specs.declared.Tombstone.{Tombstone}
+use Rattle.rows.specs.Rows.{carried_of, carried_codec, tombstone_of, tombstone_codec}
+use Rattle.rows.proofs.Laws.{carried_laws, tombstone_laws}
 use Rattle.rows.specs.Proper.{ProperOwn}
-use Rattle.model.specs.Maintenance.{own_expired, is_renewed, renewed, renew_expired}
+use Rattle.model.specs.Maintenance.{own_expired, carried_expired, tombstone_expired, renewed, renew_expired}
 use Rattle.maintenance.specs.Expiry.{live_row}
 
 after_is : (minute e : ℕ) → ltb minute e ≡ not (leb e minute)
@@ -19,13 +27,6 @@ after_is minute e = go (ltb minute e) refl
 -- the expiry of row i, in the area and in the row
 pub live_row_lem : (x : List ℕ) (i w o minute : ℕ) {e : ℕ} → o + 4 ≤ w → e ≡ num (part x (i * w + o) 4) → ltb minute e ≡ live_row o minute (part x (i * w) w)
 live_row_lem x i w o minute {e} h q = after_is minute e ∙ ap (λ (z : ℕ). not (leb z minute)) (q ∙ sym (ap num (part_part x (i * w) w o 4 h)))
-
--- a row that is there, and one that is not
-pub lives_in : {i n : ℕ} {r : Bool} (b : Bool) → i < n → r ≡ b → r ≡ (ltb i n && b)
-lives_in {i} {n} b h e = e ∙ ap (λ (t : Bool). t && b) (sym (lt-ltb i n h))
-
-pub lives_out : (i n : ℕ) (b : Bool) → n ≤ i → false ≡ (ltb i n && b)
-lives_out i n b h = ap (λ (t : Bool). t && b) (sym (le-ltb i n h))
 
 -- what it says of the row at i
 pub lives_yes : (i n e minute : ℕ) {r : Bool} → r ≡ (ltb i n && not (leb e minute)) → r ≡ true → (i < n) × (leb e minute ≡ false)
@@ -40,16 +41,6 @@ pub lives_no : (i n e minute : ℕ) {r : Bool} → r ≡ (ltb i n && not (leb e 
 lives_no i n e minute f t h = not-false (leb e minute) (sym (sym t ∙ f ∙ ap (λ (a : Bool). a && not (leb e minute)) (lt-ltb i n h)))
 
 module _ (minute : ℕ) (o : Own) where
-  pub stays_expired : o.expiry_min ≤ minute → eqb o.renewed 0 ≡ not (own_expired minute o && is_renewed o)
-  stays_expired h = go (eqb o.renewed 0) ∙ sym (ap (λ (b : Bool). not (b && is_renewed o)) (le-leb o.expiry_min minute h))
-    where
-      go : (b : Bool) → b ≡ not (not b)
-      go true = refl
-      go false = refl
-
-  pub stays_live : minute < o.expiry_min → true ≡ not (own_expired minute o && is_renewed o)
-  stays_live h = sym (ap (λ (b : Bool). not (b && is_renewed o)) (lt-leb o.expiry_min minute h))
-
   pub renewed_live : (copies end : ℕ) → minute < o.expiry_min → o ≡ renew_expired minute copies end o
   unfolding renew_expired
   renewed_live copies end h = sym (ap (λ (b : Bool). cond b (renewed copies end o) o) (lt-leb o.expiry_min minute h))
@@ -75,3 +66,15 @@ module _ (minute : ℕ) (o : Own) where
         cell = p.cell;
       }
       go false = p
+
+-- held rows that live are kept: the expiry of carried rows is at offset 48, that of tombstones at 40
+module _ (minute count : ℕ) (a : List ℕ) {m : ℕ} {x : List ℕ} where
+  pub carried_kept : RowsNow 57 a (filter (live_row 48 minute) (rows 57 (held (length a) 57 count) a)) m x
+      → TableNow carried_codec a (filter (λ (r : Carried). not (carried_expired minute r)) (table_of carried_codec count a)) m x
+  unfolding carried_of
+  carried_kept N = table_retain carried_laws _ _ _ _ _ refl (live_row 48 minute) _ (λ b. refl) N
+
+  pub tombstones_kept : RowsNow 44 a (filter (live_row 40 minute) (rows 44 (held (length a) 44 count) a)) m x
+      → TableNow tombstone_codec a (filter (λ (t : Tombstone). not (tombstone_expired minute t)) (table_of tombstone_codec count a)) m x
+  unfolding tombstone_of
+  tombstones_kept N = table_retain tombstone_laws _ _ _ _ _ refl (live_row 40 minute) _ (λ b. refl) N

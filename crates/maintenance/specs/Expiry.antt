@@ -1,7 +1,8 @@
 -- What maintenance leaves in each area, how far its lists are, and what the call answers and is lent.
 -- Assumes nothing.
-use Rattle.std.specs.Prelude.{◌≡◌, ℕ, ◌+◌, ◌*◌, ◌<◌, ◌≤◌, Bool, not, ◌&&◌, List, ◌++◌, map, length, take, drop, nat_le}
+use Rattle.std.specs.Prelude.{◌≡◌, ℕ, ◌+◌, ◌*◌, ◌<◌, ◌≤◌, Bool, not, ◌&&◌, List, ◌++◌, map, length, take, drop, nat_le, Result, Ok, Err}
 use Rattle.octets.specs.Bytes.{splice, part, num}
+use Rattle.courier_core.specs.declared.Refusal.{Refusal}
 use Rattle.table.specs.Lists.{filter}
 use Rattle.table.specs.Rows.{join}
 use Rattle.table.specs.Codec.{Codec, table_of, with_table}
@@ -11,14 +12,12 @@ use Rattle.rows.specs.declared.Carried.{Carried}
 use Rattle.rows.specs.declared.Tombstone.{Tombstone}
 use Rattle.rows.specs.declared.Action.{Action}
 use Rattle.rows.specs.Rows.{carried_codec, tombstone_codec, action_bytes}
-use Rattle.model.specs.Calls.{Result, delete_courier, put_queued}
+use Rattle.model.specs.Calls.{Result as Outcome, delete_courier, put_queued}
 use Rattle.model.specs.Maintenance.{own_expired, is_renewed, expired_slots}
 use Rattle.model.specs.Areas.{Areas}
 use Rattle.by_slot.specs.BySlot.{Reached}
 use Rattle.model.specs.Lent.{refused_or, device_in, own_in, carried_in, tombstones_in}
 use Rattle.maintenance.specs.declared.Turn.{Turn}
-use Rattle.maintenance.specs.declared.Maintained.{Maintained}
-use Rattle.maintenance.specs.declared.Maintained.TheVariants as maintained
 
 -- does a row, whose expiry is at an offset, stay at the minute
 abbrev pub live_row : ℕ → ℕ → List ℕ → Bool
@@ -82,22 +81,9 @@ pub record Rewriting {A : Type 0} (c : Codec A) (f : A → A) (p : A → Bool) (
 
 -- ---- the call
 
--- the device with other counts of own rows, carried rows and tombstones
-abbrev pub maintained_device : Device → (own carried tombstones : ℕ) → Device
-maintained_device d own carried tombstones = record {
-  courier = d.courier;
-  now_s = d.now_s;
-  contacts = d.contacts;
-  own = own;
-  carried = carried;
-  tombstones = tombstones;
-  bad_tags = d.bad_tags;
-  next_slot = d.next_slot;
-}
-
 -- a refusal, or how many actions are listed
-abbrev pub maintained_of : Result → Maintained
-maintained_of o = refused_or maintained.Refused (maintained.Done (length o.actions)) o.answer
+abbrev pub maintained_of : Outcome → Result ℕ Refusal
+maintained_of o = refused_or Err (Ok (length o.actions)) o.answer
 
 -- what the call is lent, set into areas that are anything otherwise; the action area alone is for an answer
 abbrev pub lent_tables : Device → (own carried tombstones : List ℕ) → Areas → Areas

@@ -1,15 +1,12 @@
 -- Laws on which the corners stand: what a list has, its first row with a tag, Duplicate, Full, offers, tombstones by slot.
 -- Assumes nothing.
-use Rattle.std.proofs.Common.{◌≡◌, ℕ, suc, ◌+◌, ◌/◌, ◌^◌, ◌<◌, ◌≤◌, Bool, true, false, cond, ◌&&◌, ◌||◌, ltb, leb, ◌⊎◌, ◌↔◌, List, [], ◌∷◌, ◌++◌, map, length, get_or, take, drop, sym, refl, ap, ◌∙◌, subst, ap₂, inl, inr, ⊎_elim, append-nil, arith, take-append-drop, ltb-false, ltb-true, le-ltb, lt-ltb, leb-false}
+use Rattle.std.proofs.Common.{◌≡◌, ℕ, suc, ◌+◌, ◌/◌, ◌^◌, ◌<◌, ◌≤◌, Bool, true, false, cond, ◌&&◌, ◌||◌, ltb, leb, ◌⊎◌, ◌↔◌, List, [], ◌∷◌, ◌++◌, map, length, get_or, take, drop, sym, refl, ap, ◌∙◌, subst, ap₂, inl, inr, ⊎_elim, append-nil, arith, take-append-drop, ltb-false, ltb-true, le-ltb, lt-ltb, leb-false, Option, Some, None}
 use mathlib.Core.Bool.{or-true, false≢true}
 use mathlib.Core.List.{map-append, flat_map, Perm, perm_middle}
-use mathlib.Core.Option.{Option, some}
 use lib.Seq.{take-append_seam, drop-append-add, get_or-append_seam}
 use Rattle.octets.specs.Bytes.{be, same_bytes}
 use Rattle.octets.proofs.Compare.{same_refl, same_eq}
 use Rattle.courier_core.specs.declared.ContactId.{ContactId}
-use Rattle.table.specs.declared.Found.{Found}
-use Rattle.table.specs.declared.Found.TheVariants.{At, Nothing}
 use Rattle.table.specs.Lists.{All, more, any, filter, position, position_from, is_at, insert_at, remove_at, replace_at, unwrap_or}
 use Rattle.table.proofs.ListLaws.{drop_next, filter_append, all_filter, all_map}
 use Rattle.table.proofs.FindLaws.{position_any, position_first, any_none}
@@ -104,20 +101,20 @@ pub record FirstOf {A : Type 0} (f : A → List ℕ) (tag : List ℕ) (rows befo
   pub tagged : f row ≡ tag
   pub none : Has f tag before → ⊥
 
-place_from : {A : Type 0} (p : A → Bool) (x y : List A) (a : A) (j : ℕ) → p a ≡ true → any p x ≡ false → position_from j p (x ++ (a ∷ y)) ≡ At (j + length x)
+place_from : {A : Type 0} (p : A → Bool) (x y : List A) (a : A) (j : ℕ) → p a ≡ true → any p x ≡ false → position_from j p (x ++ (a ∷ y)) ≡ Some (j + length x)
 unfolding position_from any
-place_from p [] y a j t n = rw t (ap At (omega arith))
+place_from p [] y a j t n = rw t (ap Some (omega arith))
 place_from p (b ∷ x) y a j t n =
     let h = or_false (p b) (any p x) n in
-    rw h.0 (place_from p x y a (suc j) t h.1 ∙ ap At (omega arith))
+    rw h.0 (place_from p x y a (suc j) t h.1 ∙ ap Some (omega arith))
 
 module _ {A : Type 0} {f : A → List ℕ} {tag : List ℕ} {rows x y : List A} {a : A} (h : FirstOf f tag rows x a y) where
   -- where it stands, and what stands there
-  pub first_place : position (same f tag) rows ≡ At (length x)
+  pub first_place : position (same f tag) rows ≡ Some (length x)
   first_place =
       ap (position (same f tag)) h.all
       ∙ place_from (same f tag) x y a 0 (ap (λ (b : List ℕ). same_bytes b tag) h.tagged ∙ same_refl tag) (has_none f tag x h.none)
-      ∙ ap At (omega arith)
+      ∙ ap Some (omega arith)
 
   pub first_row : (d : A) → get_or rows (length x) d ≡ a
   first_row d = ap (λ (l : List A). get_or l (length x) d) h.all ∙ get_or-append_seam x a y d
@@ -133,7 +130,7 @@ module _ {A : Type 0} {f : A → List ℕ} {tag : List ℕ} {rows x y : List A} 
       ap (replace_at (length x) b) h.all ∙ ap₂ (λ (u v : List A). u ++ (b ∷ v)) (take-append_seam x (a ∷ y)) (drop-append-add x (a ∷ y) 1)
 
 -- the place that is found has the first row with the tag
-pub place_first : {A : Type 0} (f : A → List ℕ) (tag : List ℕ) (rows : List A) (d : A) (i : ℕ) → position (same f tag) rows ≡ At i
+pub place_first : {A : Type 0} (f : A → List ℕ) (tag : List ℕ) (rows : List A) (d : A) (i : ℕ) → position (same f tag) rows ≡ Some i
     → FirstOf f tag rows (take i rows) (get_or rows i d) (drop (i + 1) rows)
 place_first f tag rows d i e =
     let p = position_first (same f tag) rows d i e in
@@ -144,12 +141,12 @@ place_first f tag rows d i e =
     }
 
 -- no row has the tag
-pub no_place : {A : Type 0} (f : A → List ℕ) (tag : List ℕ) (rows : List A) → (Has f tag rows → ⊥) → position (same f tag) rows ≡ Nothing
+pub no_place : {A : Type 0} (f : A → List ℕ) (tag : List ℕ) (rows : List A) → (Has f tag rows → ⊥) → position (same f tag) rows ≡ None
 no_place f tag rows k = go (position (same f tag) rows) refl
   where
-    go : (z : Found) → position (same f tag) rows ≡ z → z ≡ Nothing
-    go (At i) e = absurd (false≢true (sym (has_none f tag rows k) ∙ sym (position_any (same f tag) 0 rows) ∙ ap is_at e))
-    go Nothing e = refl
+    go : (z : Option ℕ) → position (same f tag) rows ≡ z → z ≡ None
+    go (Some i) e = absurd (false≢true (sym (has_none f tag rows k) ∙ sym (position_any (same f tag) 0 rows) ∙ ap is_at e))
+    go None e = refl
 
 -- ---- Duplicate
 
@@ -209,13 +206,13 @@ module _ {A : Type 0} (p : A → Bool) where
   find_without : (x y : List A) (a : A) → p a ≡ false → find p (x ++ (a ∷ y)) ≡ find p (x ++ y)
   unfolding find
   find_without [] y a e = rw e
-  find_without (b ∷ x) y a e = ap (λ (o : Option A). cond (p b) (some b) o) (find_without x y a e)
+  find_without (b ∷ x) y a e = ap (λ (o : Option A). cond (p b) (Some b) o) (find_without x y a e)
 
 abbrev offer_for : Envelope → Offer
 offer_for e = record { tag = e.head.tag; copies = e.head.copies }
 
 -- the offer of an envelope is found by its tag
-offer_found : (e : Envelope) (os : List Offer) → find (offer_of_tag e.head.tag) (insert_offer e os) ≡ some (offer_for e)
+offer_found : (e : Envelope) (os : List Offer) → find (offer_of_tag e.head.tag) (insert_offer e os) ≡ Some (offer_for e)
 unfolding insert_offer find replace_at
 offer_found e os = go (position p os) refl
   where
@@ -225,12 +222,12 @@ offer_found e os = go (position p os) refl
     o : Offer
     o = offer_for e
 
-    first : (y : List Offer) → find p (o ∷ y) ≡ some o
+    first : (y : List Offer) → find p (o ∷ y) ≡ Some o
     first y = rw (same_refl e.head.tag)
 
-    go : (f : Found) → position p os ≡ f → find p (match_found f (λ i. replace_at i o os) (os ++ (o ∷ []))) ≡ some o
-    go (At i) k = find_behind p (take i os) (o ∷ drop (i + 1) os) (position_first p os no_offer i k).before ∙ first (drop (i + 1) os)
-    go Nothing k = find_behind p os (o ∷ []) (sym (position_any p 0 os) ∙ ap is_at k) ∙ first []
+    go : (f : Option ℕ) → position p os ≡ f → find p (match_found f (λ i. replace_at i o os) (os ++ (o ∷ []))) ≡ Some o
+    go (Some i) k = find_behind p (take i os) (o ∷ drop (i + 1) os) (position_first p os no_offer i k).before ∙ first (drop (i + 1) os)
+    go None k = find_behind p os (o ∷ []) (sym (position_any p 0 os) ∙ ap is_at k) ∙ first []
 
 -- and another tag's stays what it was
 offer_kept : (tag : List ℕ) (e : Envelope) (os : List Offer) → same_bytes e.head.tag tag ≡ false
@@ -247,13 +244,13 @@ offer_kept tag e os h = go (position p os) refl
     o : Offer
     o = offer_for e
 
-    go : (f : Found) → position p os ≡ f → find q (match_found f (λ i. replace_at i o os) (os ++ (o ∷ []))) ≡ find q os
-    go (At i) k =
+    go : (f : Option ℕ) → position p os ≡ f → find q (match_found f (λ i. replace_at i o os) (os ++ (o ∷ []))) ≡ find q os
+    go (Some i) k =
         let r = position_first p os no_offer i k in
         find_without q (take i os) (drop (i + 1) os) o h
         ∙ sym (find_without q (take i os) (drop (i + 1) os) (get_or os i no_offer) (ap (λ (t : List ℕ). same_bytes t tag) (same_eq (get_or os i no_offer).tag e.head.tag r.holds) ∙ h))
         ∙ ap (find q) (ap (λ (l : List Offer). take i os ++ l) (sym (drop_next os i no_offer r.inside)) ∙ take-append-drop i os)
-    go Nothing k = find_without q os [] o h ∙ ap (find q) (append-nil os)
+    go None k = find_without q os [] o h ∙ ap (find q) (append-nil os)
 
 offers_kept : (tag : List ℕ) (es : List Envelope) (os : List Offer) → All (λ (e : Envelope). same_bytes e.head.tag tag ≡ false) es
     → find (offer_of_tag tag) (insert_offers es os) ≡ find (offer_of_tag tag) os
@@ -293,7 +290,7 @@ pub record OffersCopies (s : State) (window : List Reachable) (peer : ContactId)
       (record { kind = 1; cell = (reply_for e).cell; body = e.head.tag ++ e.head.c ++ be 4 e.head.expiry_min ++ (n ∷ []) })
       (answer_inventory s window peer).replies
   pub row : (Has (λ (z : Envelope). z.head.tag) e.head.tag y → ⊥)
-      → find (offer_of_tag e.head.tag) (upd [] (answer_inventory s window peer).change.offered) ≡ some (record { tag = e.head.tag; copies = n })
+      → find (offer_of_tag e.head.tag) (upd [] (answer_inventory s window peer).change.offered) ≡ Some (record { tag = e.head.tag; copies = n })
 
 -- the offers that envelopes give
 unfoldable pub offers_of : State → List Envelope → List Envelope

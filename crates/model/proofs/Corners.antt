@@ -1,11 +1,9 @@
 -- Document 01's marked corners of couriering.rs, about the definitions that the contracts cite.
 -- Assumes nothing.
-use Rattle.std.proofs.Common.{◌≡◌, ℕ, ◌+◌, ◌*◌, ◌/◌, ◌^◌, ◌<◌, ◌≤◌, true, false, ◌||◌, ltb, leb, ◌⊎◌, ◌↔◌, List, [], ◌∷◌, ◌++◌, length, refl, ap, subst, arith, le-ltb, lt-ltb, ne_eqb, le-leb}
+use Rattle.std.proofs.Common.{◌≡◌, ℕ, ◌+◌, ◌*◌, ◌/◌, ◌^◌, ◌<◌, ◌≤◌, true, false, ◌||◌, ltb, leb, ◌⊎◌, ◌↔◌, List, [], ◌∷◌, ◌++◌, length, refl, ap, subst, arith, le-ltb, lt-ltb, ne_eqb, le-leb, Option, Some, None}
 use mathlib.Core.List.{Perm}
 use borrow.Author.Tests.{lt-leb}
 use Rattle.courier_core.specs.declared.ContactId.{ContactId}
-use Rattle.table.specs.declared.Found.{Found}
-use Rattle.table.specs.declared.Found.TheVariants.{At, Nothing}
 use Rattle.table.specs.Lists.{All, position, remove_at}
 use Rattle.courier.specs.declared.Header.{Header}
 use Rattle.courier.specs.declared.Custody.{Custody}
@@ -126,7 +124,7 @@ pub record CourieringCorners : Type 0 where
   pub code_accepted : (s : State) (peer : ContactId) (head : Header) (len : ℕ) → Valid s head len → duplicate s head.tag ≡ false
       → full s peer len ≡ false → custody_of s peer head len ≡ custody.Accepted
   -- and that code is the reply
-  pub code_replied : (s : State) (window : List Reachable) (peer : ContactId) (head : Header) (ct : List ℕ) → lookup window head.tag ≡ Nothing
+  pub code_replied : (s : State) (window : List Reachable) (peer : ContactId) (head : Header) (ct : List ℕ) → lookup window head.tag ≡ None
       → (receive_envelope s window peer head ct).replies ≡ custody_reply head.tag (custody_of s peer head (length ct)) ∷ []
   -- Duplicate looks at own rows and at every held row: it applies exactly if one of them has the tag
   pub duplicate_exactly : (s : State) (tag : List ℕ)
@@ -178,11 +176,11 @@ another_code custody.Duplicate k = refl
 another_code custody.Off k = refl
 another_code custody.Invalid k = refl
 
-untaken : (s : State) (tag : List ℕ) (code : Custody) (f : Found) → is_accepted code ≡ false
+untaken : (s : State) (tag : List ℕ) (code : Custody) (f : Option ℕ) → is_accepted code ≡ false
     → ((match_found f (settle s tag code) (only done)).change.carried ≡ keep) × ((match_found f (settle s tag code) (only done)).change.own ≡ keep)
 unfolding settle
-untaken s tag code (At i) h = (rw h, rw h)
-untaken s tag code Nothing h = (refl, refl)
+untaken s tag code (Some i) h = (rw h, rw h)
+untaken s tag code None h = (refl, refl)
 
 -- what is left of a row's copies
 carried_left : (r : Carried) (n : ℕ) → TakenOff r.copies n (lowered n r).copies

@@ -1,11 +1,9 @@
 -- Request Two: which answers lose a fetch, which fetches, and that nothing else of any answer is another than before.
 -- Assumes nothing.
-use Rattle.std.proofs.Common.{◌≡◌, ℕ, suc, ◌+◌, Bool, true, false, cond, not, ◌&&◌, ◌||◌, ◌↔◌, List, [], ◌∷◌, ◌++◌, map, length, get_or, take, drop, sym, refl, ap, ◌∙◌, ap₂, ⊎_elim, arith, length-append}
+use Rattle.std.proofs.Common.{◌≡◌, ℕ, suc, ◌+◌, Bool, true, false, cond, not, ◌&&◌, ◌||◌, ◌↔◌, List, [], ◌∷◌, ◌++◌, map, length, get_or, take, drop, sym, refl, ap, ◌∙◌, ap₂, ⊎_elim, arith, length-append, Option, Some, None}
 use mathlib.Core.Bool.{false≢true}
 use mathlib.Core.List.{flat_map}
 use Rattle.courier_core.specs.declared.ContactId.{ContactId}
-use Rattle.table.specs.declared.Found.{Found}
-use Rattle.table.specs.declared.Found.TheVariants.{At, Nothing}
 use Rattle.table.specs.Lists.{All, none, more, any, filter, count_by}
 use Rattle.table.proofs.ListLaws.{all_imp}
 use Rattle.rows.specs.declared.BadTag.{BadTag}
@@ -109,10 +107,10 @@ module _ (bad : List BadTag) (ts : List Tombstone) (window : List Reachable) (pe
       by false true r = (refl, refl)
       by false false r = (refl, refl)
 
-      go : (f : Found) → Less (match_found f lost_at false) (match_found f (λ i. cond (is_bad bad peer (tag_at i)) [] (fetch_reply (tag_at i) ∷ [])) [])
+      go : (f : Option ℕ) → Less (match_found f lost_at false) (match_found f (λ i. cond (is_bad bad peer (tag_at i)) [] (fetch_reply (tag_at i) ∷ [])) [])
           (match_found f (λ i. cond (not_fetched bad ts peer (tag_at i)) [] (fetch_reply (tag_at i) ∷ [])) [])
-      go (At i) = by (is_bad bad peer (tag_at i)) (any (tombstone_of_tag (tag_at i)) ts) (fetch_reply (tag_at i))
-      go Nothing = (refl, refl)
+      go (Some i) = by (is_bad bad peer (tag_at i)) (any (tombstone_of_tag (tag_at i)) ts) (fetch_reply (tag_at i))
+      go None = (refl, refl)
 
   abbrev kept : List (List ℕ) → List (List ℕ)
   kept ps = filter (λ (p : List ℕ). not (loses_fetch p)) ps
@@ -166,8 +164,8 @@ module _ (s : State) (window : List Reachable) (peer : ContactId) (prefix : List
   unfolding lookup fetch_for_before_two
   loses_told e = go (lookup window prefix) refl e
     where
-      go : (f : Found) → lookup window prefix ≡ f → match_found f loses_at false ≡ true → LosesFetch s window peer prefix
-      go (At i) q h =
+      go : (f : Option ℕ) → lookup window prefix ≡ f → match_found f loses_at false ≡ true → LosesFetch s window peer prefix
+      go (Some i) q h =
           let r : Reachable = get_or window i no_reachable in
           let b = not_and (is_bad s.bad_tags peer r.tag) (any (tombstone_of_tag r.tag) s.tombstones) h in
           record {
@@ -178,7 +176,7 @@ module _ (s : State) (window : List Reachable) (peer : ContactId) (prefix : List
             fetched = rw (q, b.0);
             tombstoned = any_has (λ (t : Tombstone). t.tag) r.tag s.tombstones b.1;
           }
-      go Nothing q h = absurd (false≢true h)
+      go None q h = absurd (false≢true h)
 
   told_loses : LosesFetch s window peer prefix → loses_it ≡ true
   unfolding lookup fetch_for_before_two
@@ -186,7 +184,7 @@ module _ (s : State) (window : List Reachable) (peer : ContactId) (prefix : List
     where
       at_row : loses_it ≡ (not (is_bad s.bad_tags peer l.row.tag) && any (tombstone_of_tag l.row.tag) s.tombstones)
       at_row =
-          ap (λ (f : Found). match_found f loses_at false) (first_place l.first)
+          ap (λ (f : Option ℕ). match_found f loses_at false) (first_place l.first)
           ∙ ap (λ (r : Reachable). not (is_bad s.bad_tags peer r.tag) && any (tombstone_of_tag r.tag) s.tombstones) (first_row l.first no_reachable)
 
       go : (b : Bool) → is_bad s.bad_tags peer l.row.tag ≡ b → loses_it ≡ true

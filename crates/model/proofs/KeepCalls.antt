@@ -1,7 +1,6 @@
 -- Every call keeps what the store needs.
 -- Assumes nothing.
-use Rattle.std.proofs.Common.{◌≡◌, ℕ, ◌/◌, ◌^◌, ◌<◌, min, Bool, true, false, cond, eqb, ltb, List, [], length, refl, arith}
-use mathlib.Core.Option as option
+use Rattle.std.proofs.Common.{◌≡◌, ℕ, ◌/◌, ◌^◌, ◌<◌, min, Bool, true, false, cond, eqb, ltb, List, [], length, refl, arith, Option, Some, None}
 use native.Mathlib.Nat.{min-le_right}
 use Rattle.octets.specs.Bytes.{Bytes}
 use Rattle.courier_core.specs.declared.ContactId.{ContactId}
@@ -54,9 +53,9 @@ module _ (s : State) where
   unfolding receive_fetch fetched
   fetch_fits peer tag = go (find (envelope_of_tag tag) (envelopes s.own s.carried peer))
     where
-      go : (o : option.Option Envelope) → Fits s (match_some o (fetched s) (only missing)).change
-      go option.none = fits_nothing s
-      go (option.some e) = fits_nothing s
+      go : (o : Option Envelope) → Fits s (match_some o (fetched s) (only missing)).change
+      go None = fits_nothing s
+      go (Some e) = fits_nothing s
 
   list_fits : (peer : ContactId) → Fits s (list_inventory s peer).change
   unfolding list_inventory
@@ -66,9 +65,9 @@ module _ (s : State) where
   unfolding row_blob_of
   blob_fits slot = go (find (λ (h : Slotted). eqb h.slot slot) (held_rows s))
     where
-      go : (o : option.Option Slotted) → Fits s (match_some o (λ h. writes (held_row h.held)) (only missing)).change
-      go option.none = fits_nothing s
-      go (option.some h) = fits_nothing s
+      go : (o : Option Slotted) → Fits s (match_some o (λ h. writes (held_row h.held)) (only missing)).change
+      go None = fits_nothing s
+      go (Some h) = fits_nothing s
 
   save_fits : Fits s (save_held s).change
   unfolding save_held

@@ -1,12 +1,10 @@
 -- What a call changes fits: carried rows, exchanges, tombstones, own rows.
 -- Assumes nothing.
-use Rattle.std.proofs.Common.{◌≡◌, ℕ, ◌+◌, ◌-◌, ◌*◌, ◌^◌, ◌<◌, ◌≤◌, Bool, true, false, cond, not, ◌&&◌, ltb, leb, List, [], ◌∷◌, ◌++◌, length, get_or, refl, arith, length-append, ltb-false, leb-false}
+use Rattle.std.proofs.Common.{◌≡◌, ℕ, ◌+◌, ◌-◌, ◌*◌, ◌^◌, ◌<◌, ◌≤◌, Bool, true, false, cond, not, ◌&&◌, ltb, leb, List, [], ◌∷◌, ◌++◌, length, get_or, refl, arith, length-append, ltb-false, leb-false, Option, Some, None}
 use native.Mathlib.Nat.{min-le_right}
 use lib.ListN.{length-map}
 use Rattle.octets.specs.Bytes.{splice}
 use Rattle.courier_core.specs.declared.ContactId.{ContactId}
-use Rattle.table.specs.declared.Found.{Found}
-use Rattle.table.specs.declared.Found.TheVariants.{At, Nothing}
 use Rattle.table.specs.Lists.{All, none, filter, position, is_at, unwrap_or, insert_at, remove_at, replace_at}
 use Rattle.table.proofs.ListLaws.{length_insert_at, length_remove_at, length_replace_at, all_push, all_get, all_insert_at, all_remove_at, all_replace_at, all_filter, length_filter, all_map, all_imp, all_append}
 use Rattle.table.proofs.FindLaws.{position_first, position_le}
@@ -58,17 +56,17 @@ module _ (s : State) (g : Good s) where
           omega (arith, length-append s.carried (new_carried s peer head (length ct) ∷ []), leb-false 256 (length s.carried) few),
         ) tt tt (next_small s.next_slot g.next_slot t) tt tt
 
-    pub fits_answer : (window : List Reachable) (f : Found) (code : Custody) → lookup window head.tag ≡ f → custody_of s peer head (length ct) ≡ code
+    pub fits_answer : (window : List Reachable) (f : Option ℕ) (code : Custody) → lookup window head.tag ≡ f → custody_of s peer head (length ct) ≡ code
         → (accepts s window peer head (length ct) && last_slot s) ≡ false
         → Fits s (match_found f (λ i. ours_at (get_or window i no_reachable)) (answer_custody s peer head ct code)).change
     unfolding ours_at answer_custody accepts
-    fits_answer window (At i) code e k t = fits_nothing s
-    fits_answer window Nothing custody.Accepted e k t = fits_carry k
+    fits_answer window (Some i) code e k t = fits_nothing s
+    fits_answer window None custody.Accepted e k t = fits_carry k
         (and_false (not (is_at (lookup window head.tag)) && is_accepted (custody_of s peer head (length ct))) (last_slot s) (rw (e, k)) t)
-    fits_answer window Nothing custody.Full e k t = fits_nothing s
-    fits_answer window Nothing custody.Duplicate e k t = fits_nothing s
-    fits_answer window Nothing custody.Off e k t = fits_nothing s
-    fits_answer window Nothing custody.Invalid e k t = fits_nothing s
+    fits_answer window None custody.Full e k t = fits_nothing s
+    fits_answer window None custody.Duplicate e k t = fits_nothing s
+    fits_answer window None custody.Off e k t = fits_nothing s
+    fits_answer window None custody.Invalid e k t = fits_nothing s
 
   -- ---- inventory
 
@@ -108,24 +106,24 @@ module _ (s : State) (g : Good s) where
   unfolding handed_over
   fits_handed tag n = go (position (carried_of_tag tag) s.carried) (position (own_of_tag tag) s.own) refl refl
     where
-      go : (f h : Found) → position (carried_of_tag tag) s.carried ≡ f → position (own_of_tag tag) s.own ≡ h
+      go : (f h : Option ℕ) → position (carried_of_tag tag) s.carried ≡ f → position (own_of_tag tag) s.own ≡ h
           → Fits s (match_found f (λ i. carried_now (replace_at i (lowered n (get_or s.carried i no_carried)) s.carried))
           (match_found h (λ i. own_now (replace_at i (own_lowered n (get_or s.own i no_own)) s.own)) nothing))
-      go (At i) h e k =
+      go (Some i) h e k =
           let b : i < length s.carried = (position_first (carried_of_tag tag) s.carried no_carried i e).inside in
           let r : Carried = lowered n (get_or s.carried i no_carried) in
           fits_carried s (replace_at i r s.carried) (
             all_replace_at i r s.carried g.carried (lowered_proper n (get_or s.carried i no_carried) (all_get i s.carried no_carried g.carried b)),
             omega (arith, length_replace_at s.carried i r b, g.carried_few),
           )
-      go Nothing (At i) e k =
+      go None (Some i) e k =
           let b : i < length s.own = (position_first (own_of_tag tag) s.own no_own i k).inside in
           let r : Own = own_lowered n (get_or s.own i no_own) in
           fits_own s (replace_at i r s.own) (
             all_replace_at i r s.own g.own (own_lowered_proper n (get_or s.own i no_own) (all_get i s.own no_own g.own b)),
             omega (arith, length_replace_at s.own i r b, g.own_few),
           )
-      go Nothing Nothing e k = fits_nothing s
+      go None None e k = fits_nothing s
 
   pub fits_custody : (tag : List ℕ) (code : Custody) → Fits s (receive_custody s tag code).change
   unfolding receive_custody settle
@@ -134,14 +132,14 @@ module _ (s : State) (g : Good s) where
       os : List Offer
       os = s.session.exchange.offered
 
-      go : (f : Found) → position (offer_of_tag tag) os ≡ f → Fits s (match_found f (settle s tag code) (only done)).change
-      go (At i) e =
+      go : (f : Option ℕ) → position (offer_of_tag tag) os ≡ f → Fits s (match_found f (settle s tag code) (only done)).change
+      go (Some i) e =
           let l : length (remove_at i os) ≡ length os - 1 = length_remove_at os i (position_first (offer_of_tag tag) os no_offer i e).inside in
           let handed : Change = handed_over s.own s.carried tag (get_or os i no_offer).copies in
           fits_and s (offered_now (remove_at i os)) (cond (is_accepted code) handed nothing)
           (fits_offered s (remove_at i os) (all_remove_at i os g.session.offered, omega (arith, g.session.offered_few), omega (arith, g.session.offered_fit)))
           (fits_if s (is_accepted code) handed nothing (fits_handed tag (get_or os i no_offer).copies) (fits_nothing s))
-      go Nothing e = fits_nothing s
+      go None e = fits_nothing s
 
   -- ---- tombstones
 
@@ -222,18 +220,18 @@ module _ (s : State) (g : Good s) where
     unfolding meets receive_tomb
     fits_tomb = go (position (carried_of_tag tag) s.carried) (position (own_of_tag tag) s.own) refl refl
       where
-        at : Found → Found → Met
+        at : Option ℕ → Option ℕ → Met
         at f h =
             match_found f (λ i. cond (tombstone_matches (get_or s.carried i no_carried).c secret) (carried_at i) wrong)
             (match_found h (λ i. cond (tombstone_matches (commitment_of (get_or s.own i no_own).s) secret) (own_at i) wrong) unknown)
 
-        go : (f h : Found) → position (carried_of_tag tag) s.carried ≡ f → position (own_of_tag tag) s.own ≡ h
+        go : (f h : Option ℕ) → position (carried_of_tag tag) s.carried ≡ f → position (own_of_tag tag) s.own ≡ h
             → no_row_to_meet s tag (at f h) ≡ false → no_slot_to_meet s tag (at f h) ≡ false → Fits s (receive_tomb s tag secret (at f h)).change
-        go (At i) h e k t u =
+        go (Some i) h e k t u =
             met_carried (tombstone_matches (get_or s.carried i no_carried).c secret) i (position_first (carried_of_tag tag) s.carried no_carried i e).inside t
-        go Nothing (At i) e k t u =
+        go None (Some i) e k t u =
             met_own (tombstone_matches (commitment_of (get_or s.own i no_own).s) secret) i (position_first (own_of_tag tag) s.own no_own i k).inside t u
-        go Nothing Nothing e k t u = fits_nothing s
+        go None None e k t u = fits_nothing s
 
   pub fits_failed : (peer : ContactId) (tag : List ℕ) → peer.0 < 2 ^ 64 → Run 16 tag
       → (not (is_bad s.bad_tags peer tag) && leb s.bad_tag_rows (length s.bad_tags)) ≡ false → Fits s (report_failed s peer tag).change

@@ -1,6 +1,6 @@
 -- Rows that a call makes are in range: small facts, contacts, cells, offers.
 -- Assumes nothing.
-use Rattle.std.proofs.Common.{◌≡◌, ℕ, zero, suc, ◌+◌, ◌-◌, ◌/◌, ◌^◌, ◌<◌, ◌≤◌, min, Bool, true, false, cond, not, ◌&&◌, ◌||◌, eqb, ltb, leb, List, [], ◌∷◌, ◌++◌, map, length, sym, refl, ap, ◌∙◌, arith, length-append, ltb-false, ltb-true, leb-false, leb-true}
+use Rattle.std.proofs.Common.{◌≡◌, ℕ, zero, suc, ◌+◌, ◌-◌, ◌/◌, ◌^◌, ◌<◌, ◌≤◌, min, Bool, true, false, cond, not, ◌&&◌, ◌||◌, eqb, ltb, leb, List, [], ◌∷◌, ◌++◌, map, length, sym, refl, ap, ◌∙◌, arith, length-append, ltb-false, ltb-true, leb-false, leb-true, Option, Some, None}
 use mathlib.Core.Bool.{false≢true}
 use native.Mathlib.Nat.{min-le_left, min-le_right}
 use lib.ListN.{length-map}
@@ -9,8 +9,6 @@ use Rattle.courier_core.specs.Core.{verification_byte}
 use Rattle.courier_core.specs.declared.ContactId.{ContactId}
 use Rattle.courier_core.specs.declared.Verification.{Verification}
 use Rattle.courier_core.specs.declared.Verification.TheVariants as verification
-use Rattle.table.specs.declared.Found.{Found}
-use Rattle.table.specs.declared.Found.TheVariants.{At, Nothing}
 use Rattle.table.specs.Lists.{All, more, any, filter, position, is_at, unwrap_or, replace_at}
 use Rattle.table.proofs.ListLaws.{length_replace_at, all_push, all_replace_at, all_filter, length_filter, all_map, all_imp, all_append}
 use Rattle.table.proofs.FindLaws.{position_any, position_first}
@@ -76,12 +74,12 @@ put_contact_lem ps id v h g t = go (position (is_contact id) ps) refl
     proper : ProperContact p
     proper = record { id = h; verification = small v }
 
-    go : (f : Found) → position (is_contact id) ps ≡ f → Few ProperContact 256 (match_found f (λ i. replace_at i p ps) (ps ++ (p ∷ [])))
-    go (At i) e = (
+    go : (f : Option ℕ) → position (is_contact id) ps ≡ f → Few ProperContact 256 (match_found f (λ i. replace_at i p ps) (ps ++ (p ∷ [])))
+    go (Some i) e = (
       all_replace_at i p ps g.0 proper,
       omega (arith, length_replace_at ps i p (position_first (is_contact id) ps no_contact i e).inside, g.1),
     )
-    go Nothing e =
+    go None e =
         let new : any (is_contact id) ps ≡ false = sym (position_any (is_contact id) 0 ps) ∙ ap is_at e in (
           all_push ps p g.0 proper,
           omega (arith, length-append ps (p ∷ []), leb-false 256 (length ps) (and_false (not (any (is_contact id) ps)) (leb 256 (length ps)) (not_is (any (is_contact id) ps) new) t)),
@@ -113,7 +111,7 @@ unfolding free_from
 free_small zero i named = omega arith
 free_small (suc n) i named = go (any (λ (m : ℕ). eqb m i) named) (free_small n (suc i) named)
   where
-    go : (b : Bool) → unwrap_or 0 (free_from n (suc i) named) ≤ suc i + n → unwrap_or 0 (cond b (free_from n (suc i) named) (At i)) ≤ i + suc n
+    go : (b : Bool) → unwrap_or 0 (free_from n (suc i) named) ≤ suc i + n → unwrap_or 0 (cond b (free_from n (suc i) named) (Some i)) ≤ i + suc n
     go true h = omega arith
     go false h = omega arith
 
@@ -175,13 +173,13 @@ insert_one e os p q = go (position (offer_of_tag e.head.tag) os) refl
     proper : ProperOffer o
     proper = record { tag = p.0; copies = p.1 }
 
-    go : (f : Found) → position (offer_of_tag e.head.tag) os ≡ f
+    go : (f : Option ℕ) → position (offer_of_tag e.head.tag) os ≡ f
         → All ProperOffer (match_found f (λ i. replace_at i o os) (os ++ (o ∷ []))) × (length (match_found f (λ i. replace_at i o os) (os ++ (o ∷ []))) ≤ length os + 1)
-    go (At i) k = (
+    go (Some i) k = (
       all_replace_at i o os q proper,
       omega (arith, length_replace_at os i o (position_first (offer_of_tag e.head.tag) os no_offer i k).inside),
     )
-    go Nothing k = (all_push os o q proper, omega (arith, length-append os (o ∷ [])))
+    go None k = (all_push os o q proper, omega (arith, length-append os (o ∷ [])))
 
 pub inserted : (es : List Envelope) (os : List Offer) → All Sound es → All ProperOffer os
     → All ProperOffer (insert_offers es os) × (length (insert_offers es os) ≤ length os + length es)

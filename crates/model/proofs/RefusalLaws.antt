@@ -1,13 +1,10 @@
 -- "Exactly if", and "Nothing changes on a refusal": a call is refused with the first of its tests that holds, and then leaves every byte.
 -- Assumes nothing.
-use Rattle.std.proofs.Common.{◌≡◌, ℕ, Bool, true, false, cond, eqb, ◌⊎◌, List, [], ◌∷◌, ◌++◌, length, sym, refl, ap, ◌∙◌, inl, inr, ⊎_elim}
+use Rattle.std.proofs.Common.{◌≡◌, ℕ, Bool, true, false, cond, eqb, ◌⊎◌, List, [], ◌∷◌, ◌++◌, length, sym, refl, ap, ◌∙◌, inl, inr, ⊎_elim, Option, Some, None}
 use mathlib.Core.Bool.{false≢true}
-use mathlib.Core.Option.{Option, none, some}
 use Rattle.courier_core.specs.declared.ContactId.{ContactId}
 use Rattle.courier_core.specs.declared.Refusal.{Refusal}
 use Rattle.octets.specs.Bytes.{splice}
-use Rattle.table.specs.declared.Found.{Found}
-use Rattle.table.specs.declared.Found.TheVariants.{At, Nothing}
 use Rattle.table.specs.Lists as lists
 use Rattle.table.specs.Lists.{All, position}
 use Rattle.table.specs.Rows.{join, written}
@@ -95,13 +92,13 @@ module _ (P : Result → Type 0) where
   by_test true p q = p
   by_test false p q = q
 
-  pub by_place : (f : Found) {at : ℕ → Result} {otherwise : Result} → ((i : ℕ) → P (at i)) → P otherwise → P (match_found f at otherwise)
-  by_place (At i) p q = p i
-  by_place Nothing p q = q
+  pub by_place : (f : Option ℕ) {at : ℕ → Result} {otherwise : Result} → ((i : ℕ) → P (at i)) → P otherwise → P (match_found f at otherwise)
+  by_place (Some i) p q = p i
+  by_place None p q = q
 
   pub by_found : {A : Type 0} (o : Option A) {is : A → Result} {otherwise : Result} → ((a : A) → P (is a)) → P otherwise → P (match_some o is otherwise)
-  by_found (some a) p q = p a
-  by_found none p q = q
+  by_found (Some a) p q = p a
+  by_found None p q = q
 
 -- ---- what every call performs
 

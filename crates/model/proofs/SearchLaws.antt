@@ -1,8 +1,6 @@
 -- Laws of `find`: where it stops in a list that is made of another, and where it goes on behind it.
 -- Assumes nothing.
-use Rattle.std.proofs.Common.{◌≡◌, ℕ, suc, ◌-◌, ◌≤◌, Bool, true, false, cond, ◌&&◌, List, [], ◌∷◌, ◌++◌, map, get_or, refl, ap, ◌∙◌, arith}
-use mathlib.Core.Option.{some}
-use Rattle.table.specs.declared.Found.TheVariants.{At, Nothing}
+use Rattle.std.proofs.Common.{◌≡◌, ℕ, suc, ◌-◌, ◌≤◌, Bool, true, false, cond, ◌&&◌, List, [], ◌∷◌, ◌++◌, map, get_or, refl, ap, ◌∙◌, arith, Some, None}
 use Rattle.table.specs.Lists.{position_from, position, filter}
 use Rattle.model.specs.Basics.{find}
 
@@ -11,29 +9,29 @@ module _ {A E : Type 0} (f : A → E) (p : E → Bool) (k : A → Bool) (ys : Li
   abbrev q : A → Bool
   q x = k x && p (f x)
 
-  find_first : (d : A) (xs : List A) (j i : ℕ) → position_from j q xs ≡ At i
-      → (j ≤ i) × (find p (map f (filter k xs) ++ ys) ≡ some (f (get_or xs (i - j) d)))
+  find_first : (d : A) (xs : List A) (j i : ℕ) → position_from j q xs ≡ Some i
+      → (j ≤ i) × (find p (map f (filter k xs) ++ ys) ≡ Some (f (get_or xs (i - j) d)))
   unfolding position_from filter find
   find_first d [] j i e = let z : ◌≡◌ {A = ℕ} 0 1 = cc in absurd (omega arith)
   find_first d (x ∷ xs) j i e = go (k x) (p (f x)) refl refl e (find_first d xs (suc j) i)
     where
-      go : (b c : Bool) → k x ≡ b → p (f x) ≡ c → cond (b && c) (At j) (position_from (suc j) q xs) ≡ At i
-          → (position_from (suc j) q xs ≡ At i → (suc j ≤ i) × (find p (map f (filter k xs) ++ ys) ≡ some (f (get_or xs (i - suc j) d))))
-          → (j ≤ i) × (find p (map f (cond b (x ∷ filter k xs) (filter k xs)) ++ ys) ≡ some (f (get_or (x ∷ xs) (i - j) d)))
+      go : (b c : Bool) → k x ≡ b → p (f x) ≡ c → cond (b && c) (Some j) (position_from (suc j) q xs) ≡ Some i
+          → (position_from (suc j) q xs ≡ Some i → (suc j ≤ i) × (find p (map f (filter k xs) ++ ys) ≡ Some (f (get_or xs (i - suc j) d))))
+          → (j ≤ i) × (find p (map f (cond b (x ∷ filter k xs) (filter k xs)) ++ ys) ≡ Some (f (get_or (x ∷ xs) (i - j) d)))
       go true true t u h rest = let z : j ≡ i = cc in let m : i - j ≡ 0 = omega arith in (omega arith, rw (u, m))
       go true false t u h rest = let y = rest h in let m : i - j ≡ suc (i - suc j) = omega (arith, y.0) in (omega (arith, y.0), rw (u, m) y.1)
       go false c t u h rest = let y = rest h in let m : i - j ≡ suc (i - suc j) = omega (arith, y.0) in (omega (arith, y.0), rw m y.1)
 
-  pub find_at : (d : A) (xs : List A) (i : ℕ) → position q xs ≡ At i → find p (map f (filter k xs) ++ ys) ≡ some (f (get_or xs i d))
-  find_at d xs i e = let z : i - 0 ≡ i = omega arith in (find_first d xs 0 i e).1 ∙ ap (λ (n : ℕ). some (f (get_or xs n d))) z
+  pub find_at : (d : A) (xs : List A) (i : ℕ) → position q xs ≡ Some i → find p (map f (filter k xs) ++ ys) ≡ Some (f (get_or xs i d))
+  find_at d xs i e = let z : i - 0 ≡ i = omega arith in (find_first d xs 0 i e).1 ∙ ap (λ (n : ℕ). Some (f (get_or xs n d))) z
 
-  pub find_past : (xs : List A) (j : ℕ) → position_from j q xs ≡ Nothing → find p (map f (filter k xs) ++ ys) ≡ find p ys
+  pub find_past : (xs : List A) (j : ℕ) → position_from j q xs ≡ None → find p (map f (filter k xs) ++ ys) ≡ find p ys
   unfolding position_from filter find
   find_past [] j e = refl
   find_past (x ∷ xs) j e = go (k x) (p (f x)) refl refl e (find_past xs (suc j))
     where
-      go : (b c : Bool) → k x ≡ b → p (f x) ≡ c → cond (b && c) (At j) (position_from (suc j) q xs) ≡ Nothing
-          → (position_from (suc j) q xs ≡ Nothing → find p (map f (filter k xs) ++ ys) ≡ find p ys)
+      go : (b c : Bool) → k x ≡ b → p (f x) ≡ c → cond (b && c) (Some j) (position_from (suc j) q xs) ≡ None
+          → (position_from (suc j) q xs ≡ None → find p (map f (filter k xs) ++ ys) ≡ find p ys)
           → find p (map f (cond b (x ∷ filter k xs) (filter k xs)) ++ ys) ≡ find p ys
       go true true t u h rest = let z : ◌≡◌ {A = ℕ} 0 1 = cc in absurd (omega arith)
       go true false t u h rest = rw u (rest h)

@@ -1,13 +1,10 @@
 -- Request Three: an answered terminator tells how many rows would be offered if no tag were tombstoned, and nothing else of any answer is another than before.
 -- Assumes nothing.
-use Rattle.std.proofs.Common.{◌≡◌, ℕ, suc, ◌+◌, ◌≤◌, Bool, true, false, cond, not, ◌&&◌, eqb, ltb, ◌⊎◌, List, [], ◌∷◌, ◌++◌, map, length, get_or, sym, refl, ap, ◌∙◌, subst, inl, inr, ⊎_elim, arith}
+use Rattle.std.proofs.Common.{◌≡◌, ℕ, suc, ◌+◌, ◌≤◌, Bool, true, false, cond, not, ◌&&◌, eqb, ltb, ◌⊎◌, List, [], ◌∷◌, ◌++◌, map, length, get_or, sym, refl, ap, ◌∙◌, subst, inl, inr, ⊎_elim, arith, Option, Some, None}
 use mathlib.Core.List.{flat_map}
-use mathlib.Core.Option.{Option, some, none}
 use lib.ListN.{length-map}
 use Rattle.octets.specs.Bytes.{same_bytes}
 use Rattle.courier_core.specs.declared.ContactId.{ContactId}
-use Rattle.table.specs.declared.Found.{Found}
-use Rattle.table.specs.declared.Found.TheVariants.{At, Nothing}
 use Rattle.table.specs.Lists.{any, filter, count_by}
 use Rattle.table.proofs.ListLaws.{count_append, length_filter}
 use Rattle.rows.specs.declared.BadTag.{BadTag}
@@ -92,18 +89,18 @@ fetch_none bad ts window peer prefix = go (lookup window prefix)
     by true tag = refl
     by false tag = refl
 
-    go : (f : Found)
+    go : (f : Option ℕ)
         → count_by is_envelope (match_found f (λ i. cond (not_fetched bad ts peer (get_or window i no_reachable).tag) [] (fetch_reply (get_or window i no_reachable).tag ∷ [])) []) ≡ 0
-    go (At i) = by (not_fetched bad ts peer (get_or window i no_reachable).tag) (get_or window i no_reachable).tag
-    go Nothing = refl
+    go (Some i) = by (not_fetched bad ts peer (get_or window i no_reachable).tag) (get_or window i no_reachable).tag
+    go None = refl
 
 tomb_none : (ts : List Tombstone) (prefix : List ℕ) → count_by is_envelope (tomb_for ts prefix) ≡ 0
 unfolding tomb_for count_by
 tomb_none ts prefix = go (find (has_prefix prefix) ts)
   where
     go : (o : Option Tombstone) → count_by is_envelope (match_some o (λ t. tomb_reply t.tag t.s ∷ []) []) ≡ 0
-    go (some t) = refl
-    go none = refl
+    go (Some t) = refl
+    go None = refl
 
 each_envelope : (es : List Envelope) → count_by is_envelope (map reply_for es) ≡ length es
 unfolding count_by

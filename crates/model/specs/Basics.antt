@@ -1,25 +1,22 @@
 -- What the definitions of the model share: what follows from a search, and two lists merged by a number.
 -- Assumes nothing.
-use Rattle.std.specs.Prelude.{ℕ, Bool, cond, List, [], ◌∷◌, take, ◌==◌, nat_le}
-use Rattle.std.proofs.Math.Option.{Option, none, some}
+use Rattle.std.specs.Prelude.{ℕ, Bool, cond, List, [], ◌∷◌, take, ◌==◌, nat_le, Option, Some, None}
 use Rattle.courier_core.specs.declared.ContactId.{ContactId}
-use Rattle.table.specs.declared.Found.{Found}
-use Rattle.table.specs.declared.Found.TheVariants.{At, Nothing}
 
 -- Rust's `match` on the place that a search answers, and on what it finds
-abbrev pub match_found : {B : Type 0} → Found → (ℕ → B) → B → B
-match_found (At i) at otherwise = at i
-match_found Nothing at otherwise = otherwise
+abbrev pub match_found : {B : Type 0} → Option ℕ → (ℕ → B) → B → B
+match_found (Some i) at otherwise = at i
+match_found None at otherwise = otherwise
 
 abbrev pub match_some : {A B : Type 0} → Option A → (A → B) → B → B
-match_some (some a) is otherwise = is a
-match_some none is otherwise = otherwise
+match_some (Some a) is otherwise = is a
+match_some None is otherwise = otherwise
 
 module _ {A : Type 0} where
   -- Rust's `find`: the first for which the test holds
   unfoldable pub find : (A → Bool) → List A → Option A
-  find p [] = none
-  find p (x ∷ xs) = cond (p x) (some x) (find p xs)
+  find p [] = None
+  find p (x ∷ xs) = cond (p x) (Some x) (find p xs)
 
   -- two lists as one, by a number of each element; of equal ones the first list's come first
   unfoldable pub merge : (A → ℕ) → List A → List A → List A

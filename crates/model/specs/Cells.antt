@@ -1,9 +1,7 @@
 -- Cells of 2,064 bytes: the ciphertext of a row, and the cell that a new row gets.
 -- Assumes nothing.
-use Rattle.std.specs.Prelude.{ℕ, zero, suc, ◌-◌, ◌*◌, ◌/◌, min, Bool, cond, not, List, length, nat_eq}
+use Rattle.std.specs.Prelude.{ℕ, zero, suc, ◌-◌, ◌*◌, ◌/◌, min, Bool, cond, not, List, length, nat_eq, Option, Some, None}
 use Rattle.octets.specs.Bytes.{part}
-use Rattle.table.specs.declared.Found.{Found}
-use Rattle.table.specs.declared.Found.TheVariants.{At, Nothing}
 use Rattle.table.specs.Lists.{any, is_at, unwrap_or}
 
 abbrev pub cell_size : ℕ
@@ -29,11 +27,11 @@ unfoldable pub cell_count : ℕ → ℕ
 cell_count size = min max_cells (size / cell_size)
 
 -- the first of n cells, from i on, that no row names
-unfoldable pub free_from : ℕ → ℕ → List ℕ → Found
-free_from zero i named = Nothing
-free_from (suc n) i named = cond (any (λ (n : ℕ). nat_eq n i) named) (free_from n (suc i) named) (At i)
+unfoldable pub free_from : ℕ → ℕ → List ℕ → Option ℕ
+free_from zero i named = None
+free_from (suc n) i named = cond (any (λ (n : ℕ). nat_eq n i) named) (free_from n (suc i) named) (Some i)
 
-unfoldable pub free_cell : ℕ → List ℕ → Found
+unfoldable pub free_cell : ℕ → List ℕ → Option ℕ
 free_cell size named = free_from (cell_count size) 0 named
 
 -- number 4: each cell that counts is named by a row

@@ -1,18 +1,15 @@
 -- The clock in minutes, contacts, and the calls that set them: contact, setting, clock, fresh exchange.
 -- Assumes nothing.
-use Rattle.std.specs.Prelude.{ℕ, ◌+◌, ◌/◌, min, Bool, false, not, ◌&&◌, List, [], ◌∷◌, ◌++◌, length, nat_eq, nat_le, slice_index_or}
+use Rattle.std.specs.Prelude.{ℕ, ◌+◌, ◌/◌, min, Bool, false, not, ◌&&◌, List, [], ◌∷◌, ◌++◌, length, nat_eq, nat_le, slice_index_or, Option, Some, None}
 use Rattle.courier_core.specs.Core.{verification_byte}
 use Rattle.courier_core.specs.declared.ContactId.{ContactId}
 use Rattle.courier_core.specs.declared.Verification.{Verification}
 use Rattle.courier_core.specs.declared.Refusal.{Refusal}
 use Rattle.courier_core.specs.declared.Refusal.TheVariants as refusal
-use Rattle.table.specs.declared.Found.{Found}
 use Rattle.table.specs.Lists.{any, position, unwrap_or, replace_at}
 use Rattle.state.specs.declared.CourierConfig.{CourierConfig}
 use Rattle.state.specs.Config.{in_range}
 use Rattle.rows.specs.declared.Contact.{Contact}
-use Rattle.rows.specs.declared.Peer.{Peer}
-use Rattle.rows.specs.declared.Peer.TheVariants as whom
 use Rattle.model.specs.Basics.{match_found, same_contact}
 use Rattle.model.specs.State.{State, Change, now_snow, courier_now, contacts_now, peer_now, complete_now, listed_now, offered_now, ◌and◌}
 use Rattle.model.specs.Calls.{Result, result, done, short_exchange}
@@ -47,7 +44,7 @@ is_contact id p = same_contact p.id id
 unfoldable pub known : List Contact → ContactId → Bool
 known ps id = any (is_contact id) ps
 
-unfoldable pub contact_place : List Contact → ContactId → Found
+unfoldable pub contact_place : List Contact → ContactId → Option ℕ
 contact_place ps id = position (is_contact id) ps
 
 -- a verification byte other than 1 is not verified
@@ -85,12 +82,12 @@ set_clock seconds = result done [] [] (now_snow seconds)
 
 -- `Exchange::default`, opened for a peer
 unfoldable pub opened_for : ContactId → Change
-opened_for peer = peer_now (whom.Is peer) and complete_now false and listed_now [] and offered_now []
+opened_for peer = peer_now (Some peer) and complete_now false and listed_now [] and offered_now []
 
 -- is the exchange opened for this peer: number 3 if not
-abbrev pub is_for : ContactId → Peer → Bool
-is_for peer (whom.Is p) = same_contact p peer
-is_for peer whom.Nobody = false
+abbrev pub is_for : ContactId → Option ContactId → Bool
+is_for peer (Some p) = same_contact p peer
+is_for peer None = false
 
 unfoldable pub open_exchange_tests : State → ContactId → List (Bool × Refusal)
 open_exchange_tests s peer = (short_exchange s, refusal.ShortArea) ∷ (not (known s.contacts peer), refusal.UnknownContact) ∷ []

@@ -1,6 +1,6 @@
 -- What a post has, and what a call may change of it. The rows are the declared structs; a row of a ciphertext names its cell.
 -- Assumes nothing.
-use Rattle.std.specs.Prelude.{ℕ, Bool, false, List, []}
+use Rattle.std.specs.Prelude.{ℕ, Bool, false, List, [], Option, None}
 use Rattle.state.specs.declared.CourierConfig.{CourierConfig}
 use Rattle.rows.specs.declared.Contact.{Contact}
 use Rattle.rows.specs.declared.Own.{Own}
@@ -8,12 +8,11 @@ use Rattle.rows.specs.declared.Carried.{Carried}
 use Rattle.rows.specs.declared.Tombstone.{Tombstone}
 use Rattle.rows.specs.declared.BadTag.{BadTag}
 use Rattle.rows.specs.declared.Offer.{Offer}
-use Rattle.rows.specs.declared.Peer.{Peer}
-use Rattle.rows.specs.declared.Peer.TheVariants as whom
+use Rattle.courier_core.specs.declared.ContactId.{ContactId}
 
 -- `Exchange`: whom it was opened for, has its terminator come, the prefixes listed (8 bytes each), the copies offered
 pub record OpenExchange : Type 0 where
-  pub peer : Peer
+  pub peer : Option ContactId
   pub complete : Bool
   pub listed : List (List ℕ)
   pub offered : List Offer
@@ -57,7 +56,7 @@ pub record Change : Type 0 where
   pub next_slot : Upd ℕ
   pub own_cells : Upd (List ℕ)
   pub carried_cells : Upd (List ℕ)
-  pub peer : Upd Peer
+  pub peer : Upd (Option ContactId)
   pub complete : Upd Bool
   pub listed : Upd (List (List ℕ))
   pub offered : Upd (List Offer)
@@ -98,7 +97,7 @@ apply s c = record {
 -- ---- the changes of one part, and two changes as one: where both change a part, it is as the first says
 
 -- a change by its parts, in the record's order
-abbrev pub change : Upd ℕ → Upd CourierConfig → Upd (List Contact) → Upd (List Own) → Upd (List Carried) → Upd (List Tombstone) → Upd (List BadTag) → Upd ℕ → Upd (List ℕ) → Upd (List ℕ) → Upd Peer → Upd Bool → Upd (List (List ℕ)) → Upd (List Offer) → Change
+abbrev pub change : Upd ℕ → Upd CourierConfig → Upd (List Contact) → Upd (List Own) → Upd (List Carried) → Upd (List Tombstone) → Upd (List BadTag) → Upd ℕ → Upd (List ℕ) → Upd (List ℕ) → Upd (Option ContactId) → Upd Bool → Upd (List (List ℕ)) → Upd (List Offer) → Change
 change a b c d e f g h i j k l m n = record { now_s = a; courier = b; contacts = c; own = d; carried = e; tombstones = f; bad_tags = g; next_slot = h; own_cells = i; carried_cells = j; peer = k; complete = l; listed = m; offered = n }
 
 abbrev pub nothing : Change
@@ -134,7 +133,7 @@ own_cells_now x = change keep keep keep keep keep keep keep keep (now x) keep ke
 abbrev pub carried_cells_now : List ℕ → Change
 carried_cells_now x = change keep keep keep keep keep keep keep keep keep (now x) keep keep keep keep
 
-abbrev pub peer_now : Peer → Change
+abbrev pub peer_now : Option ContactId → Change
 peer_now x = change keep keep keep keep keep keep keep keep keep keep (now x) keep keep keep
 
 abbrev pub complete_now : Bool → Change
@@ -172,7 +171,7 @@ abbrev pub ◌and◌ : Change → Change → Change
 -- ---- at the start
 
 abbrev pub nobody : OpenExchange
-nobody = record { peer = whom.Nobody; complete = false; listed = []; offered = [] }
+nobody = record { peer = None; complete = false; listed = []; offered = [] }
 
 abbrev pub no_session : Session
 no_session = record { exchange = nobody; prefix_area = 0; offer_area = 0 }

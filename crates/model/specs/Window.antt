@@ -1,11 +1,10 @@
 -- The window that the host lends, and the tags in it that are bad.
 -- Assumes nothing.
-use Rattle.std.specs.Prelude.{ℕ, ◌/◌, Bool, true, not, ◌&&◌, ◌||◌, List, [], ◌∷◌, length, take, ◌==◌, nat_lt}
+use Rattle.std.specs.Prelude.{ℕ, ◌/◌, Bool, true, not, ◌&&◌, ◌||◌, List, [], ◌∷◌, length, take, ◌==◌, nat_lt, Option}
 use Rattle.octets.specs.Bytes.{same_bytes}
 use Rattle.courier_core.specs.declared.ContactId.{ContactId}
 use Rattle.table.specs.Rows.{ragged}
 use Rattle.chain.specs.Chain.{dir_of, no_dir}
-use Rattle.table.specs.declared.Found.{Found}
 use Rattle.table.specs.Lists.{any, position}
 use Rattle.table.specs.Codec.{Codec, table_of}
 use Rattle.rows.specs.declared.Contact.{Contact}
@@ -53,7 +52,7 @@ unfoldable pub strangers : List Contact → List Reachable → Bool
 strangers ps rs = any (λ (r : Reachable). not (known ps r.contact)) rs
 
 -- `lookup`: the place of the first row whose tag begins with a prefix (a whole tag, or 8 bytes)
-unfoldable pub lookup : List Reachable → List ℕ → Found
+unfoldable pub lookup : List Reachable → List ℕ → Option ℕ
 lookup rs prefix = position (λ (r : Reachable). same_bytes (take (length prefix) r.tag) prefix) rs
 
 -- is a tag bad for a peer

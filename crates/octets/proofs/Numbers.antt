@@ -2,17 +2,17 @@
 -- Assumes nothing.
 use mathlib.Core.Path.{◌≡◌, refl, sym, ap, ap₂, subst, ◌∙◌}
 use mathlib.Core.List.{List, [], ◌∷◌, ◌++◌}
-use Prim.Native.Nat.{ℕ, zero, suc, ◌+◌, ◌*◌, ◌/◌, ◌%◌, ◌^◌, ◌≤◌, ◌<◌}
-use native.Mathlib.Nat.{add_assoc, add-zero, mul_assoc, add-mul, mod-one, mod-eq_of_lt, mul-le-mul_right, mul-add-div_right}
+use Prim.Native.Nat.{ℕ, zero, suc, ◌+◌, ◌-◌, ◌*◌, ◌/◌, ◌%◌, ◌^◌, ◌≤◌, ◌<◌}
+use native.Mathlib.Nat.{add_assoc, mul_assoc, add-mul, mod-one, mod-eq_of_lt, mul-le-mul_right, mul-add-div_right, div-one, pow-suc, mul_comm}
 use native.Mathlib.Omega.{arith}
 use lib.ListN.{length, take, drop, get_or, length-append}
 use lib.Seq.{get_or-drop}
 use lib.Pow.{mod-pow-add, pow-add, pow_pos, high, shr-shr, field, mod-mod-pow}
-use lib.Bits.{bit_or, or_shifted}
 use mir.Syntax.{w8}
 use mir.Val.{Fits}
-use Rattle.octets.specs.Bytes.{Bytes, part, num, be}
-use Rattle.octets.proofs.Parts.{length_part, part_add, part_cons, part_nil, part_one}
+use Rattle.std.specs.Int.{byte_at, bytes_high_first, byte_worth, sum_through}
+use Rattle.octets.specs.Bytes.{Bytes, part, num, be, low_first}
+use Rattle.octets.proofs.Parts.{length_part, part_one}
 
 -- ---- bytes
 
@@ -125,49 +125,87 @@ pub be_num_part : (a : List ℕ) (at n : ℕ) → at + n ≤ length a → Bytes 
 be_num_part a at n h b =
     ap (λ (k : ℕ). be k (num (part a at n))) (sym (length_part a at n h)) ∙ be_num (part a at n) (bytes_part a at n b)
 
--- ---- numbers as they are loaded, byte by byte
-
-num_more : (a : List ℕ) (at k n : ℕ) → at + k + suc n ≤ length a
-    → num (part a (at + k) (suc n)) ≡ get_or a (at + k) 0 * 2 ^ (8 * n) + num (part a (at + suc k) n)
-unfolding num
-num_more a at k n h =
-    let e : at + k + 1 ≡ at + suc k = omega arith in
-    let l : length (part a (at + suc k) n) ≡ n = length_part a (at + suc k) n (omega arith) in
-    ap num (part_cons a (at + k) n (omega arith) ∙ ap (λ (i : ℕ). get_or a (at + k) 0 ∷ part a i n) e)
-    ∙ ap (λ (m : ℕ). get_or a (at + k) 0 * 2 ^ (8 * m) + num (part a (at + suc k) n)) l
-
-num_first : (a : List ℕ) (at n : ℕ) → at + suc n ≤ length a
-    → num (part a at (suc n)) ≡ get_or a at 0 * 2 ^ (8 * n) + num (part a (at + 1) n)
-num_first a at n h =
-    subst (λ (i : ℕ). num (part a i (suc n)) ≡ get_or a i 0 * 2 ^ (8 * n) + num (part a (at + 1) n)) (add-zero at)
-    (num_more a at 0 n (omega arith))
-
-num_none : (a : List ℕ) (at : ℕ) → num (part a at 0) ≡ 0
-unfolding num
-num_none a at = ap num (part_nil a at)
-
 pub num_one : (a : List ℕ) (at : ℕ) → at < length a → num (part a at 1) ≡ get_or a at 0
 unfolding num
 num_one a at h = ap num (part_one a at h) ∙ omega arith
 
-pub num_2 : (a : List ℕ) (at : ℕ) → at + 2 ≤ length a → num (part a at 2) ≡ get_or a at 0 * 2 ^ 8 + get_or a (at + 1) 0
-num_2 a at h = omega (arith, num_first a at 1 h, num_more a at 1 0 (omega arith), num_none a (at + 2))
+-- ---- std's words: `to_be_bytes`, `from_be_bytes` and `from_le_bytes` at any width
 
-pub num_4 : (a : List ℕ) (at : ℕ) → at + 4 ≤ length a
-    → num (part a at 4) ≡ get_or a at 0 * 2 ^ 24 + get_or a (at + 1) 0 * 2 ^ 16 + get_or a (at + 2) 0 * 2 ^ 8 + get_or a (at + 3) 0
-num_4 a at h =
-    omega (arith, num_first a at 3 h, num_more a at 1 2 (omega arith), num_more a at 2 1 (omega arith), num_more a at 3 0 (omega arith), num_none a (at + 4))
+pow_256 : (n : ℕ) → 256 ^ n ≡ 2 ^ (8 * n)
+pow_256 zero = refl
+pow_256 (suc n) = omega (arith, pow-suc 256 n, pow_256 n, pow_step n)
 
-pub num_8 : (a : List ℕ) (at : ℕ) → at + 8 ≤ length a
-    → num (part a at 8) ≡ num (part a at 4) * 2 ^ 32 + num (part a (at + 4) 4)
-num_8 a at h =
-    ap num (part_add a at 4 4) ∙ num_append (part a at 4) (part a (at + 4) 4)
-    ∙ ap (λ (k : ℕ). num (part a at 4) * 2 ^ (8 * k) + num (part a (at + 4) 4)) (length_part a (at + 4) 4 (omega arith))
+byte_is : (n v : ℕ) → byte_at n v ≡ v / 2 ^ (8 * n) % 256
+byte_is zero v = simp div-one
+byte_is (suc n) v = ap (λ (m : ℕ). v / m % 256) (pow_256 (suc n))
 
--- two halves joined by `|`
-pub or_halves : (a : List ℕ) (at : ℕ) {x y : ℕ} → at + 8 ≤ length a → x ≡ num (part a at 4) → y ≡ num (part a (at + 4) 4) → y < 2 ^ 32
-    → bit_or (x * 2 ^ 32) y ≡ num (part a at 8)
-or_halves a at {x} {y} h p q l = or_shifted x 32 y l ∙ ap₂ (λ (m n : ℕ). m * 2 ^ 32 + n) p q ∙ sym (num_8 a at h)
+-- at any width: `to_be_bytes`
+pub high_first : (n v : ℕ) → bytes_high_first n v ≡ be n v
+unfolding be
+high_first zero v = refl
+high_first (suc n) v = ap₂ ◌∷◌ (byte_is n v) (high_first n v)
+
+-- the first term of a sum apart from the others
+sum_first : (f : ℕ → ℕ) (k : ℕ) → sum_through f (suc k) ≡ f 0 + sum_through (λ i. f (suc i)) k
+sum_first f zero = refl
+sum_first f (suc k) = omega (arith, sum_first f k)
+
+sum_same : (f g : ℕ → ℕ) (k : ℕ) → ((i : ℕ) → f i ≡ g i) → sum_through f k ≡ sum_through g k
+sum_same f g zero e = e 0
+sum_same f g (suc k) e = ap₂ ◌+◌ (sum_same f g k e) (e (suc k))
+
+worth_is : (n b : ℕ) → byte_worth n b ≡ b * 2 ^ (8 * n)
+worth_is zero b = omega arith
+worth_is (suc n) b = ap (λ (m : ℕ). b * m) (pow_256 (suc n))
+
+worth_at : (m k b : ℕ) → m ≡ suc k → byte_worth m b ≡ b * 2 ^ (8 * suc k)
+worth_at m k b e = worth_is m b ∙ ap (λ (n : ℕ). b * 2 ^ (8 * n)) e
+
+-- at any width: `from_be_bytes`
+pub num_sum : (xs : List ℕ) (k : ℕ) → length xs ≡ suc k → sum_through (λ i. byte_worth (k - i) (get_or xs i 0)) k ≡ num xs
+unfolding num
+num_sum [] k e = absurd (omega arith)
+num_sum (x ∷ []) zero e = omega arith
+num_sum (x ∷ y ∷ xs) zero e = absurd (omega arith)
+num_sum (x ∷ xs) (suc k) e =
+    let l : length xs ≡ suc k = omega arith in
+    sum_first (λ i. byte_worth (suc k - i) (get_or (x ∷ xs) i 0)) k
+    ∙ ap₂ ◌+◌ (worth_at (suc k - 0) k x (omega arith) ∙ ap (λ (n : ℕ). x * 2 ^ (8 * n)) (sym l))
+    (sum_same (λ i. byte_worth (suc k - suc i) (get_or xs i 0)) (λ i. byte_worth (k - i) (get_or xs i 0)) k
+    (λ i. let d : suc k - suc i ≡ k - i = omega arith in ap (λ (n : ℕ). byte_worth n (get_or xs i 0)) d)
+    ∙ num_sum xs k l)
+
+-- a number read of a part of k + 1 bytes
+pub num_read : (a : List ℕ) (at k : ℕ) {bs : List ℕ} {v : ℕ} → at + suc k ≤ length a → bs ≡ part a at (suc k)
+    → v ≡ sum_through (λ i. byte_worth (k - i) (get_or bs i 0)) k → v ≡ num (part a at (suc k))
+num_read a at k {bs} h e ev = ev ∙ num_sum bs k (ap length e ∙ length_part a at (suc k) h) ∙ ap num e
+
+worth_more : (n b : ℕ) → byte_worth (suc n) b ≡ 256 * byte_worth n b
+worth_more n b =
+    let m : ℕ = 2 ^ (8 * n) in
+    worth_is (suc n) b ∙ ap (λ (k : ℕ). b * k) (pow_step n) ∙ sym (mul_assoc b 256 m) ∙ ap (λ (k : ℕ). k * m) (mul_comm b 256) ∙ mul_assoc 256 b m
+    ∙ ap (λ (k : ℕ). 256 * k) (sym (worth_is n b))
+
+sum_scaled : (f : ℕ → ℕ) (k : ℕ) → sum_through (λ i. 256 * f i) k ≡ 256 * sum_through f k
+sum_scaled f zero = refl
+sum_scaled f (suc k) = omega (arith, sum_scaled f k)
+
+-- at any width: `from_le_bytes`
+low_sum : (xs : List ℕ) (k : ℕ) → length xs ≡ suc k → sum_through (λ i. byte_worth i (get_or xs i 0)) k ≡ low_first xs
+unfolding low_first
+low_sum [] k e = absurd (omega arith)
+low_sum (x ∷ []) zero e = omega arith
+low_sum (x ∷ y ∷ xs) zero e = absurd (omega arith)
+low_sum (x ∷ xs) (suc k) e =
+    sum_first (λ i. byte_worth i (get_or (x ∷ xs) i 0)) k
+    ∙ ap (λ (n : ℕ). x + n)
+    (sum_same (λ i. byte_worth (suc i) (get_or xs i 0)) (λ i. 256 * byte_worth i (get_or xs i 0)) k (λ i. worth_more i (get_or xs i 0))
+    ∙ sum_scaled (λ i. byte_worth i (get_or xs i 0)) k
+    ∙ ap (λ (n : ℕ). 256 * n) (low_sum xs k (omega arith)))
+
+pub low_read : (a : List ℕ) (at k : ℕ) {bs : List ℕ} {v : ℕ} → at + suc k ≤ length a → bs ≡ part a at (suc k)
+    → v ≡ sum_through (λ i. byte_worth i (get_or bs i 0)) k → v ≡ low_first (part a at (suc k))
+low_read a at k {bs} h e ev = ev ∙ low_sum bs k (ap length e ∙ length_part a at (suc k) h) ∙ ap low_first e
 
 -- ---- the bytes of a number in two runs
 

@@ -122,6 +122,13 @@ lent_splice a ys at k e =
     ap (λ (l : List ℕ). take at a ++ (ys ++ l)) (drop-drop k at a ∙ ap (λ (m : ℕ). drop (at + m) a) (sym e))
     ∙ sym (append_assoc (take at a) ys (drop (at + length ys) a))
 
+-- a run moved to another place, as `copy_within` says it
+pub moved_splice : (a : List ℕ) (to from n : ℕ) → from + n ≤ length a → paste a to (drop from a) (from + n - from) ≡ splice a to (part a from n)
+unfolding splice part
+moved_splice a to from n h =
+    let e : from + n - from ≡ n = omega arith in
+    ap (paste a to (drop from a)) e ∙ ap (λ (k : ℕ). take to a ++ take n (drop from a) ++ drop (to + k) a) (sym (length_part a from n h))
+
 length_head : (a : List ℕ) (at : ℕ) (v : List ℕ) → at + length v ≤ length a → length (take at a ++ v) ≡ at + length v
 length_head a at v h = simp (length-append, length-take-le at a (omega arith))
 

@@ -3,55 +3,16 @@
 use mathlib.Core.Path.{◌≡◌, refl, sym, ap, ap₂, ◌∙◌}
 use mathlib.Core.Bool.{Bool, true, false, ◌&&◌, and_assoc}
 use mathlib.Core.List.{List, [], ◌∷◌, ◌++◌}
-use Prim.Native.Nat.{ℕ, suc, ◌+◌, ◌*◌, ◌^◌, ◌≤◌, ◌<◌}
-use native.Mathlib.Nat.{mul_assoc}
+use Prim.Native.Nat.{ℕ, ◌+◌, ◌*◌, ◌≤◌, ◌<◌}
 use native.Mathlib.Omega.{arith}
-use lib.ListN.{length, get_or}
+use lib.ListN.{length}
 use lib.Dec.{eqb}
-use lib.Pow.{pow-add}
-use lib.Bits.{bit_or, bit_xor, or_shifted, or_zero_l}
+use lib.Bits.{bit_or, bit_xor, or_zero_l}
 use borrow.Author.Tests.{eq-eqb, ne_eqb, eqb-true, eqb-false}
 use Rattle.octets.specs.Bytes.{Bytes, part, low_first, same_bytes}
-use Rattle.octets.proofs.Parts.{length_part, part_add, part_cons, part_nil}
+use Rattle.octets.proofs.Parts.{length_part, part_add}
 use Rattle.octets.proofs.Numbers.{bytes_drop, bytes_part}
 use Rattle.octets.proofs.Compare.{gathered}
-
--- ---- a load
-
-low_more : (a : List ℕ) (at k n : ℕ) → at + k < length a
-    → low_first (part a (at + k) (suc n)) ≡ get_or a (at + k) 0 + 256 * low_first (part a (at + (k + 1)) n)
-unfolding low_first
-low_more a at k n h = let e : at + k + 1 ≡ at + (k + 1) = omega arith in rw (part_cons a (at + k) n, e)
-
-low_none : (a : List ℕ) (at : ℕ) → low_first (part a at 0) ≡ 0
-unfolding low_first
-low_none a at = ap low_first (part_nil a at)
-
-pub low_4 : (a : List ℕ) (at : ℕ) → at + 4 ≤ length a
-    → low_first (part a at 4) ≡ get_or a (at + 3) 0 * 2 ^ 24 + get_or a (at + 2) 0 * 2 ^ 16 + get_or a (at + 1) 0 * 2 ^ 8 + get_or a at 0
-low_4 a at h =
-    let e : at + 0 ≡ at = omega arith in
-    let first : low_first (part a at 4) ≡ get_or a at 0 + 256 * low_first (part a (at + 1) 3) = rw e at (low_more a at 0 3 (omega arith)) in
-    omega (arith, low_more a at 1 2 (omega arith), low_more a at 2 1 (omega arith), low_more a at 3 0 (omega arith), low_none a (at + 4))
-
-low_append : (x y : List ℕ) → low_first (x ++ y) ≡ low_first x + 2 ^ (8 * length x) * low_first y
-unfolding low_first
-low_append [] y = omega arith
-low_append (b ∷ x) y =
-    let m : ℕ = 2 ^ (8 * length x) in
-    let e : 8 * suc (length x) ≡ 8 + 8 * length x = omega arith in
-    let p : 2 ^ (8 * suc (length x)) ≡ 256 * m = ap (λ (k : ℕ). 2 ^ k) e ∙ pow-add 2 8 (8 * length x) in
-    omega (arith, low_append x y, mul_assoc 256 m (low_first y), ap (λ (k : ℕ). k * low_first y) p)
-
--- two halves joined by `|`
-pub low_halves : (a : List ℕ) (at : ℕ) {x y : ℕ} → at + 8 ≤ length a → x ≡ low_first (part a at 4) → y ≡ low_first (part a (at + 4) 4) → x < 2 ^ 32
-    → bit_or (y * 2 ^ 32) x ≡ low_first (part a at 8)
-low_halves a at {x} {y} h ex ey l =
-    let four : length (part a at 4) ≡ 4 = length_part a at 4 (omega arith) in
-    let both : low_first (part a at 8) ≡ low_first (part a at 4) + 2 ^ 32 * low_first (part a (at + 4) 4) =
-    ap low_first (part_add a at 4 4) ∙ low_append (part a at 4) (part a (at + 4) 4)
-    ∙ ap (λ (k : ℕ). low_first (part a at 4) + 2 ^ (8 * k) * low_first (part a (at + 4) 4)) four in
-    or_shifted y 32 x l ∙ omega arith
 
 -- ---- comparison
 

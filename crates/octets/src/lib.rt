@@ -16,54 +16,52 @@ pub fn copy_in(dst: &mut [u8], at: usize, src: &[u8])
     requires { at + length src.now ≤ length dst.old }
     ensures { dst.new ≡ splice dst.old at src.now }
 {
-    let mut k = 0;
-    while k < src.len() {
-        dst[at + k] = src[k];
-        k += 1;
-    }
+    dst[at..at + src.len()].copy_from_slice(src);
 }
 
-// Moves n bytes of area down, from index from to index to: the first byte first.
+// The N bytes of area from index at on: a tag, a secret, a number's bytes.
+// Not `copy_from_slice`: of that, a test for overlap stays in every load of `same`, and a search of tags takes four to six times as long.
+pub fn get_array<const N: usize>(area: &[u8], at: usize) -> [u8; N]
+    requires { at + N ≤ length area.now }
+    ensures { result ≡ part area.now at N }
+{
+    let mut bytes = [0; N];
+    for k in 0..N {
+        bytes[k] = area[at + k];
+    }
+    bytes
+}
+
+// Writes N bytes into area, from index at on.
+pub fn put_array<const N: usize>(area: &mut [u8], at: usize, bytes: [u8; N])
+    requires { at + N ≤ length area.old }
+    ensures { (area.new ≡ splice area.old at bytes.entry) × (length bytes.entry ≡ N) }
+{
+    copy_in(area, at, &bytes);
+}
+
+// Moves n bytes of area from index from to index to: the two runs may overlap.
+pub fn move_run(area: &mut [u8], to: usize, from: usize, n: usize)
+    requires { (from + n ≤ length area.old) × (to + n ≤ length area.old) }
+    ensures { area.new ≡ splice area.old to (part area.old from n) }
+{
+    area.copy_within(from..from + n, to);
+}
+
+// Moves n bytes of area down, from index from to index to.
 pub fn move_down(area: &mut [u8], to: usize, from: usize, n: usize)
     requires { (to ≤ from) × (from + n ≤ length area.old) }
     ensures { area.new ≡ splice area.old to (part area.old from n) }
 {
-    let mut k = 0;
-    while k < n {
-        let byte = area[from + k];
-        area[to + k] = byte;
-        k += 1;
-    }
+    move_run(area, to, from, n);
 }
 
-// Moves n bytes of area up, from index from to index to: the last byte first.
+// Moves n bytes of area up, from index from to index to.
 pub fn move_up(area: &mut [u8], to: usize, from: usize, n: usize)
     requires { (from ≤ to) × (to + n ≤ length area.old) }
     ensures { area.new ≡ splice area.old to (part area.old from n) }
 {
-    let mut k = n;
-    while 0 < k {
-        k -= 1;
-        let x = area[from + k];
-        area[to + k] = x;
-    }
-}
-
-fn wide(x: u8) -> u64
-    ensures { (result ≡ x) × (result < 256) }
-{
-    x as u64
-}
-
-// Four bytes as a number, the first the lowest.
-fn low_four(a: &[u8], at: usize) -> u64
-    requires { at + 4 ≤ length a.now }
-    ensures { (result ≡ low_first (part a.now at 4)) × (result < 2 ^ 32) × Bytes a.now }
-{
-    wide(a[at + 3]) * 0x100_0000
-        + wide(a[at + 2]) * 0x1_0000
-        + wide(a[at + 1]) * 0x100
-        + wide(a[at])
+    move_run(area, to, from, n);
 }
 
 // Eight bytes as a number, the first the lowest: the compiler makes one load of it, with nothing to swap.
@@ -71,9 +69,7 @@ fn low_first(a: &[u8], at: usize) -> u64
     requires { at + 8 ≤ length a.now }
     ensures { (result ≡ low_first (part a.now at 8)) × Bytes a.now }
 {
-    let low = low_four(a, at);
-    let high = low_four(a, at + 4);
-    high * 0x1_0000_0000 | low
+    u64::from_le_bytes(get_array(a, at))
 }
 
 // Are the sixteen bytes of a from at on those of b from bt on? Every difference is gathered, whatever the bytes are.
@@ -86,16 +82,15 @@ fn same_16(a: &[u8], at: usize, b: &[u8], bt: usize) -> bool
     (first | second) == 0
 }
 
-// Are the n bytes of a from at on those of b from bt on? It reads all of them, whatever they are.
+// Are the n bytes of a from at on those of b from bt on?
+// Not `==`: tags and secrets are compared in constant time, so every byte is read, whatever came before.
 fn same_run(a: &[u8], at: usize, b: &[u8], bt: usize, n: usize) -> bool
     requires { (at + n ≤ length a.now) × (bt + n ≤ length b.now) }
     ensures { result ≡ same_bytes (part a.now at n) (part b.now bt n) }
 {
-    let mut acc = 0u8;
-    let mut k = 0;
-    while k < n {
-        acc = acc | (a[at + k] ^ b[bt + k]);
-        k += 1;
+    let mut acc = 0;
+    for k in 0..n {
+        acc |= a[at + k] ^ b[bt + k];
     }
     acc == 0
 }
@@ -114,39 +109,33 @@ pub fn same(a: &[u8], at: usize, b: &[u8], bt: usize, n: usize) -> bool
     same_run(a, at, b, bt, n)
 }
 
+// One function for each width, as std has one `from_be_bytes` for each type and no trait over them.
+pub fn get_u8(area: &[u8], at: usize) -> u8
+    requires { at + 1 ≤ length area.now }
+    ensures { result ≡ num (part area.now at 1) }
+{
+    area[at]
+}
+
 pub fn get_u16(area: &[u8], at: usize) -> u16
     requires { at + 2 ≤ length area.now }
     ensures { result ≡ num (part area.now at 2) }
 {
-    (wide(area[at]) * 256 + wide(area[at + 1])) as u16
+    u16::from_be_bytes(get_array(area, at))
 }
 
 pub fn get_u32(area: &[u8], at: usize) -> u32
     requires { at + 4 ≤ length area.now }
     ensures { result ≡ num (part area.now at 4) }
 {
-    let x = wide(area[at]) * 0x100_0000
-        + wide(area[at + 1]) * 0x1_0000
-        + wide(area[at + 2]) * 0x100
-        + wide(area[at + 3]);
-    x as u32
+    u32::from_be_bytes(get_array(area, at))
 }
 
-// The compiler makes one load of it: the halves are joined by `|`.
 pub fn get_u64(area: &[u8], at: usize) -> u64
     requires { at + 8 ≤ length area.now }
     ensures { result ≡ num (part area.now at 8) }
 {
-    let high = get_u32(area, at) as u64;
-    let low = get_u32(area, at + 4) as u64;
-    high * 0x1_0000_0000 | low
-}
-
-pub fn get_u8(area: &[u8], at: usize) -> u8
-    requires { at + 1 ≤ length area.now }
-    ensures { result ≡ num (part area.now at 1) }
-{
-    area[at]
+    u64::from_be_bytes(get_array(area, at))
 }
 
 pub fn put_u8(area: &mut [u8], at: usize, v: u8)
@@ -156,75 +145,23 @@ pub fn put_u8(area: &mut [u8], at: usize, v: u8)
     area[at] = v;
 }
 
-// The sixteen bytes of a tag, a commitment or a secret.
-pub fn get_16(area: &[u8], at: usize) -> [u8; 16]
-    requires { at + 16 ≤ length area.now }
-    ensures { result ≡ part area.now at 16 }
-{
-    let mut t = [0u8; 16];
-    copy_in(&mut t, 0, &area[at..at + 16]);
-    t
-}
-
-pub fn put_16(area: &mut [u8], at: usize, v: [u8; 16])
-    requires { at + 16 ≤ length area.old }
-    ensures { (area.new ≡ splice area.old at v) × (length v ≡ 16) }
-{
-    copy_in(area, at, &v);
-}
-
-pub fn be2(v: u16) -> [u8; 2]
-    ensures { result ≡ be 2 v }
-{
-    [(v / 256 % 256) as u8, (v % 256) as u8]
-}
-
-pub fn be4(v: u32) -> [u8; 4]
-    ensures { result ≡ be 4 v }
-{
-    [
-        (v / 0x100_0000 % 256) as u8,
-        (v / 0x1_0000 % 256) as u8,
-        (v / 256 % 256) as u8,
-        (v % 256) as u8,
-    ]
-}
-
-pub fn be8(v: u64) -> [u8; 8]
-    ensures { result ≡ be 8 v }
-{
-    [
-        (v / 0x100_0000_0000_0000 % 256) as u8,
-        (v / 0x1_0000_0000_0000 % 256) as u8,
-        (v / 0x100_0000_0000 % 256) as u8,
-        (v / 0x1_0000_0000 % 256) as u8,
-        (v / 0x100_0000 % 256) as u8,
-        (v / 0x1_0000 % 256) as u8,
-        (v / 256 % 256) as u8,
-        (v % 256) as u8,
-    ]
-}
-
 pub fn put_u16(area: &mut [u8], at: usize, v: u16)
     requires { at + 2 ≤ length area.old }
     ensures { area.new ≡ splice area.old at (be 2 v) }
 {
-    let b = be2(v);
-    copy_in(area, at, &b);
+    put_array(area, at, v.to_be_bytes());
 }
 
 pub fn put_u32(area: &mut [u8], at: usize, v: u32)
     requires { at + 4 ≤ length area.old }
     ensures { area.new ≡ splice area.old at (be 4 v) }
 {
-    let b = be4(v);
-    copy_in(area, at, &b);
+    put_array(area, at, v.to_be_bytes());
 }
 
 pub fn put_u64(area: &mut [u8], at: usize, v: u64)
     requires { at + 8 ≤ length area.old }
     ensures { area.new ≡ splice area.old at (be 8 v) }
 {
-    let b = be8(v);
-    copy_in(area, at, &b);
+    put_array(area, at, v.to_be_bytes());
 }

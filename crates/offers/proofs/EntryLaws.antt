@@ -1,26 +1,33 @@
 -- The held rows, own rows first: what the calls go through is what the model goes through.
 -- Assumes nothing.
-use Rattle.std.proofs.Common.{◌≡◌, ℕ, zero, suc, ◌+◌, ◌-◌, ◌*◌, ◌<◌, ◌≤◌, Bool, true, false, cond, ◌&&◌, ltb, List, [], ◌∷◌, ◌++◌, map, length, get_or, sym, refl, ap, ◌∙◌, ap₂, arith, length-append, get_or-append-add, ltb-false, ltb-true, le-ltb, lt-ltb}
+use Rattle.std.proofs.Common.{◌≡◌, ℕ, ◌+◌, ◌-◌, ◌*◌, ◌<◌, ◌≤◌, Bool, true, false, cond, ◌&&◌, ltb, List, [], ◌∷◌, ◌++◌, map, length, get_or, sym, refl, ap, ◌∙◌, ap₂, arith, length-append, get_or-append-add, ltb-false, ltb-true}
 use mathlib.Core.List.{map-append, flat_map}
+use Rattle.std.proofs.lemmas.List.{get_or-map}
+use Rattle.std.proofs.lemmas.Simd.{map-map}
 use lib.ListN
 use lib.ListN.{length-map, get_or-append}
 use Rattle.octets.specs.Bytes.{part}
 use Rattle.courier_core.specs.declared.ContactId.{ContactId}
 use Rattle.table.specs.Lists.{filter}
-use Rattle.table.specs.Codec.{table_of}
+use Rattle.table.specs.Rows.{Fits}
+use Rattle.table.specs.Codec.{Codec, table_of}
 use Rattle.table.proofs.ListLaws.{flat_map_append}
 use Rattle.table.proofs.RowLaws.{held_all}
-use Rattle.table.proofs.TableLaws.{length_table, get_d_table}
+use Rattle.table.proofs.TableLaws.{length_table, table_held, get_d_table}
 use Rattle.rows.specs.declared.Own.{Own}
 use Rattle.rows.specs.declared.Carried.{Carried}
 use Rattle.rows.specs.Rows.{own_codec, own_of, carried_codec, carried_of}
 use Rattle.model.specs.Exchange.{Envelope, own_envelope_of, carried_envelope_of, not_for, envelopes, no_own, no_carried}
-use Rattle.offers.specs.Entries.{held_by, held_by_at, held_envelopes, Entry, own_entry, carried_entry, entries, passes}
+use Rattle.offers.specs.declared.area.Rows.{Rows}
+use Rattle.offers.specs.declared.HeldRow.{HeldRow}
+use Rattle.offers.specs.declared.HeldRow.TheVariants as kind
+use Rattle.offers.specs.Areas.{rows_of}
+use Rattle.offers.specs.Entries.{by_kind, held_by, held_by_at, held_envelopes, Entry, own_entry, carried_entry, entries, passes}
 
-get_d_map : {A B : Type 0} (f : A → B) (xs : List A) (i : ℕ) (e : B) (d : A) → i < length xs → get_or (map f xs) i e ≡ f (get_or xs i d)
-get_d_map f [] i e d h = absurd (omega arith)
-get_d_map f (x ∷ xs) zero e d h = refl
-get_d_map f (x ∷ xs) (suc i) e d h = get_d_map f xs i e d (omega arith)
+-- the rows that a count says of an area
+pub rows_fit : {A : Type 0} (c : Codec A) (r : Rows c.width) (count : ℕ) (a : List ℕ) → 0 < c.width → Fits (length a) c.width count r.n → r.area.now ≡ a
+    → rows_of c r ≡ table_of c count a
+rows_fit c r count a z F s = ap (table_of c r.n) s ∙ table_held c count r.n a z F.is
 
 module _ {X : Type 0} (f : Own → X) (g : Carried → X) (own carried : List ℕ) (n : ℕ) where
   module _ (m : ℕ) (fits_own : n * 54 ≤ length own) (fits_carried : m * 57 ≤ length carried) where
@@ -49,7 +56,7 @@ module _ {X : Type 0} (f : Own → X) (g : Carried → X) (own carried : List �
         go true e =
             let k : i < n = ltb-true i n e in
             let l : length To ≡ n = sym (length-map To f) ∙ length_own in
-            get_or-append (map f To) (map g Tc) (g no_carried) i (omega (arith, length_own)) ∙ get_d_map f To i (g no_carried) no_own (omega arith)
+            get_or-append (map f To) (map g Tc) (g no_carried) i (omega (arith, length_own)) ∙ get_or-map f To i no_own (g no_carried) (omega arith)
             ∙ ap f (get_d_table own_codec n own i no_own (omega (arith, length_table own_codec n own)))
         go false e =
             let k : n ≤ i = ltb-false i n e in
@@ -59,14 +66,21 @@ module _ {X : Type 0} (f : Own → X) (g : Carried → X) (own carried : List �
             ∙ ap g (get_d_table carried_codec m carried (i - n) no_carried (omega (arith, length_table carried_codec m carried, length_carried)))
 
   -- the row at i, as it is read
-  module _ (i : ℕ) where
-    pub held_own : {o : Own} → i < n → o ≡ own_of (part own (i * 54) 54) → f o ≡ held_by_at f g own n carried i
+  module _ (i : ℕ) {k : HeldRow} where
+    by_kind_held : k ≡ held_by_at kind.Own kind.Carried own n carried i → by_kind f g k ≡ held_by_at f g own n carried i
     unfolding held_by_at
-    held_own h e = rw (lt-ltb i n h) (ap f e)
+    by_kind_held e = ap (by_kind f g) e ∙ go (ltb i n)
+      where
+        go : (b : Bool) → by_kind f g (cond b (kind.Own (own_of (part own (i * 54) 54))) (kind.Carried (carried_of (part carried ((i - n) * 57) 57))))
+            ≡ cond b (f (own_of (part own (i * 54) 54))) (g (carried_of (part carried ((i - n) * 57) 57)))
+        go true = refl
+        go false = refl
 
-    pub held_carried_lem : {o : Carried} → n ≤ i → o ≡ carried_of (part carried ((i - n) * 57) 57) → g o ≡ held_by_at f g own n carried i
-    unfolding held_by_at
-    held_carried_lem h e = rw (le-ltb i n h) (ap g e)
+    pub of_own : {o : Own} → k ≡ kind.Own o → k ≡ held_by_at kind.Own kind.Carried own n carried i → f o ≡ held_by_at f g own n carried i
+    of_own h e = sym (ap (by_kind f g) h) ∙ by_kind_held e
+
+    pub of_carried : {r : Carried} → k ≡ kind.Carried r → k ≡ held_by_at kind.Own kind.Carried own n carried i → g r ≡ held_by_at f g own n carried i
+    of_carried h e = sym (ap (by_kind f g) h) ∙ by_kind_held e
 
 -- ---- the model's envelopes are those of the rows that may go
 
@@ -116,8 +130,4 @@ pub entry_envelopes : (peer : ContactId) (own : List Own) (carried : List Carrie
 unfolding held_by
 entry_envelopes peer own carried =
     map-append (λ (e : Entry). e.envelope) (map (own_entry peer) own) (map carried_entry carried)
-    ∙ ap₂ (λ (x y : List Envelope). x ++ y) (map_map (own_entry peer) (λ (e : Entry). e.envelope) own) (map_map carried_entry (λ (e : Entry). e.envelope) carried)
-  where
-    map_map : {A B C : Type 0} (f : A → B) (g : B → C) (xs : List A) → map g (map f xs) ≡ map (λ (x : A). g (f x)) xs
-    map_map f g [] = refl
-    map_map {C = C} f g (x ∷ xs) = ap (λ (l : List C). g (f x) ∷ l) (map_map f g xs)
+    ∙ ap₂ (λ (x y : List Envelope). x ++ y) (map-map (λ (e : Entry). e.envelope) (own_entry peer) own) (map-map (λ (e : Entry). e.envelope) carried_entry carried)

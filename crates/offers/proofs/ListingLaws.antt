@@ -21,9 +21,6 @@ use Rattle.offers.specs.Offers.{ListsOffers}
 use Rattle.offers.proofs.EntryLaws.{length_held, held_is}
 use Rattle.offers.proofs.OfferLaws.{Tested}
 
-pub tag_has : (tag : List ℕ) {n : ℕ} → n ≤ 16 → length tag ≡ 16 → n ≤ length tag
-tag_has tag h e = omega arith
-
 -- ---- a tag among the listed prefixes from j on, and among the tombstones from j on
 
 module _ (tag listed : List ℕ) (l : ℕ) where
@@ -95,9 +92,9 @@ module _ (peer : ContactId) (own carried : List ℕ) (n m : ℕ) (listed : List 
 
     -- the row at i: counted if it is searched for, flagged if it is offered
     pub listing_next : (k b : Bool) → i < n + m → Tested (table_of tombstone_codec g tombs) (table_of prefix_codec l listed) (entry_at peer own n carried i) k b
-        → {c : ℕ} {gs : List Bool} → c ≡ cond k (a + 1) a → gs ≡ set fs i b → Listing (i + 1) c gs
+        → (c : ℕ) (gs : List Bool) → c ≡ cond k (a + 1) a → gs ≡ set fs i b → Listing (i + 1) c gs
     unfolding count_by
-    listing_next k b h t e f =
+    listing_next k b h t c gs e f =
         let few = L.few in
         let is : get_or E i no_entry ≡ entry_at peer own n carried i = held_is (own_entry peer) carried_entry own carried n m fits_own fits_carried i h in
         let more : take (i + 1) E ≡ take i E ++ (get_or E i no_entry ∷ []) = ap (λ (j : ℕ). take j E) (add-one i) ∙ take-suc E i no_entry (omega (arith, total)) in

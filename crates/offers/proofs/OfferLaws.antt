@@ -1,10 +1,8 @@
 -- What is offered: a row's tests, its reply, its offer.
 -- Assumes nothing.
-use Rattle.std.proofs.Common.{◌≡◌, ℕ, ◌+◌, ◌*◌, ◌<◌, ◌≤◌, Bool, true, false, not, ◌&&◌, ltb, List, [], ◌∷◌, ◌++◌, length, take, sym, refl, ap, ◌∙◌, subst, ap₂, arith, length-append}
+use Rattle.std.proofs.Common.{◌≡◌, ℕ, ◌+◌, ◌*◌, ◌<◌, ◌≤◌, Bool, true, false, not, ◌&&◌, ltb, List, [], ◌∷◌, ◌++◌, length, take, sym, refl, ap, ◌∙◌, subst, ap₂, arith, length-append, Option, Some, None}
 use Rattle.octets.specs.Bytes.{splice, same_bytes}
 use Rattle.octets.proofs.Numbers.{length_be}
-use Rattle.table.specs.declared.Found.{Found}
-use Rattle.table.specs.declared.Found.TheVariants.{At, Nothing}
 use Rattle.table.specs.Lists.{any, position, replace_at}
 use Rattle.table.specs.Rows.{held, rows, has_key, RowsNow}
 use Rattle.table.specs.Codec.{table_of, TableNow}
@@ -28,13 +26,6 @@ use Rattle.offers.specs.Offers.{half_of, offered_of, as_envelope, Inserted, Hand
 use Rattle.answers.proofs.Laws.{length_reply}
 
 -- ---- the tests of a row
-
-module _ (row : Row) where
-  pub spare_if : row.goes ≡ true → ltb 1 row.copies ≡ (row.goes && ltb 1 row.copies)
-  spare_if e = rw e
-
-  pub spare_not : row.goes ≡ false → false ≡ (row.goes && ltb 1 row.copies)
-  spare_not e = rw e
 
 -- the tombstones are searched for the row; it is offered
 abbrev pub Tested : List Tombstone → List (List ℕ) → Entry → (searched offered : Bool) → Type 0
@@ -83,7 +74,7 @@ offer_made e c h k = ap₂ (λ (x : ℕ) (y : Header). record { cell = x; head =
 
 -- ---- its offer
 
-module _ (a x : List ℕ) (k : ℕ) (o : Offer) (p : ProperOffer o) (room : k * 17 + 17 ≤ length a) (f : Found) (e : f ≡ position (has_key 0 o.tag) (rows 17 k a)) where
+module _ (a x : List ℕ) (k : ℕ) (o : Offer) (p : ProperOffer o) (room : k * 17 + 17 ≤ length a) (f : Option ℕ) (e : f ≡ position (has_key 0 o.tag) (rows 17 k a)) where
   abbrev Os : List Offer
   Os = table_of offer_codec k a
 
@@ -95,10 +86,10 @@ module _ (a x : List ℕ) (k : ℕ) (o : Offer) (p : ProperOffer o) (room : k * 
   found = table_find offer_codec k k a held_k (has_key 0 o.tag) (offer_of_tag o.tag) (λ b. key_run 0 16 o.tag b p.tag.size) f e
 
   -- the offer of this tag is there
-  pub offer_inside : {i : ℕ} → At i ≡ f → i < k
+  pub offer_inside : {i : ℕ} → Some i ≡ f → i < k
   offer_inside {i} h = omega (arith, (position_first (has_key 0 o.tag) (rows 17 k a) [] i (sym (h ∙ e))).inside, length_rows 17 k a)
 
-  pub offer_replaced : {i : ℕ} {b : List ℕ} → At i ≡ f → b ≡ offer_bytes o → RowsNow 17 a (replace_at i b (rows 17 k a)) k x → length x ≡ length a → Inserted a k o k x
+  pub offer_replaced : {i : ℕ} {b : List ℕ} → Some i ≡ f → b ≡ offer_bytes o → RowsNow 17 a (replace_at i b (rows 17 k a)) k x → length x ≡ length a → Inserted a k o k x
   unfolding insert_offer
   offer_replaced {i} {b} h q N s = record {
     table = rw (sym (h ∙ found)) (table_replace offer_laws k k a x k held_k b i o p q N);
@@ -109,7 +100,7 @@ module _ (a x : List ℕ) (k : ℕ) (o : Offer) (p : ProperOffer o) (room : k * 
     size = s;
   }
 
-  pub offer_pushed : {b : List ℕ} {m : ℕ} → Nothing ≡ f → b ≡ offer_bytes o → RowsNow 17 a (rows 17 k a ++ (b ∷ [])) m x → length x ≡ length a → Inserted a k o m x
+  pub offer_pushed : {b : List ℕ} {m : ℕ} → None ≡ f → b ≡ offer_bytes o → RowsNow 17 a (rows 17 k a ++ (b ∷ [])) m x → length x ≡ length a → Inserted a k o m x
   unfolding insert_offer
   offer_pushed {b} {m} h q N s =
       let c : m ≡ k + 1 = N.count ∙ omega (arith, length-append (rows 17 k a) (b ∷ []), length_rows 17 k a) in

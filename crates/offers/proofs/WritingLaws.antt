@@ -1,10 +1,8 @@
 -- The flagged rows are written: their replies one behind the other, and their offers.
 -- Assumes nothing.
-use Rattle.std.proofs.Common.{◌≡◌, ℕ, zero, suc, ◌+◌, ◌*◌, ◌/◌, ◌<◌, ◌≤◌, Bool, true, false, cond, List, [], ◌∷◌, ◌++◌, map, length, get_or, take, sym, refl, ap, ◌∙◌, ap₂, append-nil, add-one, arith, take_all}
+use Rattle.std.proofs.Common.{◌≡◌, ℕ, zero, suc, ◌+◌, ◌*◌, ◌/◌, ◌<◌, ◌≤◌, Bool, true, false, cond, List, [], ◌∷◌, ◌++◌, map, length, get_or, take, sym, refl, ap, ◌∙◌, ap₂, append-nil, add-one, arith, take_all, Option, Some, None}
 use mathlib.Core.List.{map-append}
 use native.Mathlib.Nat.{zero-min}
-use Rattle.table.specs.declared.Found.{Found}
-use Rattle.table.specs.declared.Found.TheVariants.{At, Nothing}
 use Rattle.table.specs.Lists.{All, position, replace_at, filter}
 use Rattle.table.specs.Rows.{held}
 use Rattle.table.specs.Codec.{table_of, with_table, TableNow}
@@ -77,9 +75,9 @@ insert_proper e os p all = go (position (offer_of_tag e.head.tag) os)
     o : Offer
     o = record { tag = e.head.tag; copies = e.head.copies }
 
-    go : (f : Found) → All ProperOffer (match_found f (λ i. replace_at i o os) (os ++ (o ∷ [])))
-    go (At i) = all_replace_at i o os all p
-    go Nothing = all_push os o all p
+    go : (f : Option ℕ) → All ProperOffer (match_found f (λ i. replace_at i o os) (os ++ (o ∷ [])))
+    go (Some i) = all_replace_at i o os all p
+    go None = all_push os o all p
 
 no_offers : (a : List ℕ) → TableNow offer_codec a [] 0 a
 unfolding with_table held

@@ -8,6 +8,13 @@ use Rattle.rows.specs.declared.Carried.{Carried}
 use Rattle.rows.specs.Rows.{own_of, carried_of}
 use Rattle.model.specs.Exchange.{Envelope, own_envelope_of, carried_envelope_of, not_for}
 use Rattle.offers.specs.declared.Row.{Row}
+use Rattle.offers.specs.declared.HeldRow.{HeldRow}
+use Rattle.offers.specs.declared.HeldRow.TheVariants as kind
+
+-- of a held row, by its kind
+abbrev pub by_kind : {X : Type 0} → (Own → X) → (Carried → X) → HeldRow → X
+by_kind of_own of_carried (kind.Own o) = of_own o
+by_kind of_own of_carried (kind.Carried r) = of_carried r
 
 -- of each held row, own rows first; and of the row at i, where there are n own rows
 module _ {X : Type 0} (of_own : Own → X) (of_carried : Carried → X) where

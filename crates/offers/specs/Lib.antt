@@ -1,3 +1,4 @@
+pub mod Areas
 pub mod Appended
 pub mod Entries
 pub mod Offers

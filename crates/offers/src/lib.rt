@@ -1,23 +1,40 @@
 // What is offered to a peer: of the rows held here, own rows first, those that are offered are flagged; then the flagged ones are written, as replies and as offers.
 #![tactic(auto)]
 
-ghost use Rattle.std.specs.Prelude.{◌≡◌, ◌+◌, ◌*◌, ◌/◌, ◌<◌, ◌≤◌, ◌&&◌, length, nat_lt};
-ghost use Rattle.courier_core.specs.declared.ContactId.{ContactId};
-ghost use Rattle.table.specs.Codec.{table_of};
-ghost use Rattle.rows.specs.Rows.{own_codec, carried_codec, tombstone_codec};
+ghost use Rattle.std.specs.Prelude.{◌≡◌, ◌+◌, ◌*◌, ◌<◌, ◌≤◌, ◌&&◌, length, nat_lt};
+ghost use Rattle.rows.specs.Rows.{tombstone_codec};
 ghost use Rattle.model.specs.Window.{prefix_codec};
-ghost use Rattle.model.specs.Exchange.{own_envelope_of, carried_envelope_of, halved};
-ghost use Rattle.offers.specs.Entries.{held_envelopes, envelope_at, own_entry, carried_entry, entries, entry_at, row_of};
+ghost use Rattle.model.specs.Exchange.{halved};
+ghost use Rattle.offers.specs.Areas.{rows_of, how_many, own_of, carried_of, held_row, held_entry, held_envelope};
+ghost use Rattle.offers.specs.Entries.{held_envelopes, entries, row_of};
 ghost use Rattle.offers.specs.Offers.{half_of, offered_of, Inserted, Handed, ListsOffers, halves_of, WritesOffers};
 
+mod area;
+
+pub use area::Rows;
 use courier::Header;
 use courier_core::ContactId;
-use rows::{Carried, Offer, Own};
-use table::Found;
+use rows::{
+    CARRIED_WIDTH, Carried, OFFER_WIDTH, OWN_WIDTH, Offer, Own, REPLY_WIDTH, Row as _,
+    TOMBSTONE_WIDTH,
+};
 
 // ---- the held rows, own rows first, then carried ones
 
-// What is asked of a held row: may it go to the peer, its tag, its copies.
+// The rows held here.
+#[derive(Clone, Copy)]
+pub struct Held<'a> {
+    pub own: Rows<'a, OWN_WIDTH>,
+    pub carried: Rows<'a, CARRIED_WIDTH>,
+}
+
+// A held row, as it was read.
+enum HeldRow {
+    Own(Own),
+    Carried(Carried),
+}
+
+// What is asked of a held row: may it go to the peer, its tag, its copies. (No Option: the tag and the copies are the row's whether it goes or not.)
 #[derive(Clone, Copy)]
 pub struct Row {
     pub goes: bool,
@@ -25,39 +42,68 @@ pub struct Row {
     pub copies: u8,
 }
 
-// An own row that is for the peer does not go there.
-fn own_row(row: Own, peer: ContactId) -> Row
-    ensures { result ≡ row_of (own_entry peer row) }
-{
-    let contact = row.contact;
-    let tag = row.tag;
-    Row {
-        goes: contact.0 != peer.0,
-        tag,
-        copies: row.copies,
+impl<'a> Held<'a> {
+    // How many there are.
+    pub fn len(&self) -> usize
+        ensures { result ≡ how_many self.now }
+    {
+        self.own.n + self.carried.n
     }
-}
 
-fn carried_row(row: Carried) -> Row
-    ensures { result ≡ row_of (carried_entry row) }
-{
-    let tag = row.tag;
-    Row {
-        goes: true,
-        tag,
-        copies: row.copies,
+    // The row at i, as it lies in its area. (Each function of an index asks that it is below the rows' number: as plain as a slice's index.)
+    fn at(&self, i: usize) -> HeldRow
+        requires { i < how_many self.now }
+        ensures { result ≡ held_row self.now i }
+    {
+        if i < self.own.n {
+            return HeldRow::Own(Own::read(self.own.area, i * OWN_WIDTH));
+        }
+        let at = (i - self.own.n) * CARRIED_WIDTH;
+        HeldRow::Carried(Carried::read(self.carried.area, at))
     }
-}
 
-// The row at i, where there are n own rows.
-pub fn row_at(own: &[u8], n: usize, carried: &[u8], i: usize, peer: ContactId) -> Row
-    requires { (n * 54 ≤ length own.now) × (i < n + length carried.now / 57) }
-    ensures { result ≡ row_of (entry_at peer own.now n carried.now i) }
-{
-    if i < n {
-        return own_row(rows::own_at(own, i * rows::OWN_WIDTH), peer);
+    // What is asked of the row at i: an own row that is for the peer does not go there.
+    // (An array goes into a literal by a local: by a pattern or a field it gets no generated proof.)
+    pub fn row_at(&self, i: usize, peer: ContactId) -> Row
+        requires { i < how_many self.now }
+        ensures { result ≡ row_of (held_entry peer self.now i) }
+    {
+        match self.at(i) {
+            HeldRow::Own(row) => {
+                let tag = row.tag;
+                Row {
+                    goes: row.contact != peer,
+                    tag,
+                    copies: row.copies,
+                }
+            }
+            HeldRow::Carried(row) => {
+                let tag = row.tag;
+                Row {
+                    goes: true,
+                    tag,
+                    copies: row.copies,
+                }
+            }
+        }
     }
-    carried_row(rows::carried_at(carried, (i - n) * rows::CARRIED_WIDTH))
+
+    // The row at i, as a reply offers it.
+    fn offered_at(&self, i: usize) -> Offered
+        requires { i < how_many self.now }
+        ensures { result ≡ offered_of (held_envelope self.now i) }
+    {
+        match self.at(i) {
+            HeldRow::Own(row) => Offered {
+                cell: answers::own_cell(row.cell),
+                head: half(answers::own_header(row)),
+            },
+            HeldRow::Carried(row) => Offered {
+                cell: answers::carried_cell(row.cell),
+                head: half(answers::carried_header(row)),
+            },
+        }
+    }
 }
 
 // ---- listing them
@@ -66,62 +112,42 @@ pub fn row_at(own: &[u8], n: usize, carried: &[u8], i: usize, peer: ContactId) -
 fn may_offer(row: Row) -> bool
     ensures { result ≡ (row.goes && nat_lt 1 row.copies) }
 {
-    if row.goes {
-        return 1 < row.copies;
-    }
-    false
+    row.goes && 1 < row.copies
 }
 
-// Flags the rows that are offered to the peer: those that may be offered and have none of the l listed prefixes and none of the g tombstones' tags.
-// Answers for how many rows the tombstones were searched: those that the listing left in question. (The labelled loop is a block that is left at
-// the first match: it goes round once.)
+// Flags the rows that are offered to the peer: those that may be offered and have none of the listed prefixes and none of the tombstones' tags.
+// Answers for how many rows the tombstones were searched: those that the listing left in question.
 pub fn list_offers(
-    own: &[u8],
-    n: usize,
-    carried: &[u8],
-    m: usize,
+    held: &Held,
     peer: ContactId,
-    listed: &[u8],
-    l: usize,
-    tombstones: &[u8],
-    g: usize,
+    listed: Rows<8>,
+    tombstones: Rows<TOMBSTONE_WIDTH>,
     flags: &mut [bool],
 ) -> usize
-    requires n_in_bounds { (n * 54 ≤ length own.now) × (m * 57 ≤ length carried.now) }
-    requires l_in_bounds { (l * 8 ≤ length listed.now) × (g * 44 ≤ length tombstones.now) }
-    requires m_in_bounds { n + m ≤ length flags.old }
-    ensures { ListsOffers (table_of tombstone_codec g tombstones.now) (table_of prefix_codec l listed.now)
-        (entries peer (table_of own_codec n own.now) (table_of carried_codec m carried.now)) flags.old result flags.new }
+    requires { how_many held.now ≤ length flags.old }
+    ensures { ListsOffers (rows_of tombstone_codec tombstones.entry) (rows_of prefix_codec listed.entry)
+        (entries peer (own_of held.now) (carried_of held.now)) flags.old result flags.new }
 {
     let mut searched = 0;
-    let mut i = 0;
-    while i < n + m {
-        let at = i;
-        let row = row_at(own, n, carried, at, peer);
-        flags[at] = false;
-        i += 1;
-        'row: loop {
+    for i in 0..held.len() {
+        let row = held.row_at(i, peer);
+        flags[i] = false;
+        'row: {
             if !may_offer(row) {
                 break 'row;
             }
-            let tag = row.tag;
-            let mut j = 0;
-            while j < l {
-                if octets::same(listed, j * 8, &tag, 0, 8) {
+            for j in 0..listed.n {
+                if octets::same(listed.area, j * 8, &row.tag, 0, 8) {
                     break 'row;
                 }
-                j += 1;
             }
             searched += 1;
-            let mut t = 0;
-            while t < g {
-                if octets::same(tombstones, t * rows::TOMBSTONE_WIDTH + 8, &tag, 0, 16) {
+            for t in 0..tombstones.n {
+                if octets::same(tombstones.area, t * TOMBSTONE_WIDTH + 8, &row.tag, 0, 16) {
                     break 'row;
                 }
-                t += 1;
             }
-            flags[at] = true;
-            break 'row;
+            flags[i] = true;
         }
     }
     searched
@@ -139,129 +165,79 @@ struct Offered {
 fn half(head: Header) -> Header
     ensures { result ≡ half_of head }
 {
-    let tag = head.tag;
-    let c = head.c;
     Header {
-        tag,
-        c,
-        expiry_min: head.expiry_min,
         copies: head.copies / 2,
+        ..head
     }
-}
-
-fn own_offered(row: Own) -> Offered
-    ensures { result ≡ offered_of (own_envelope_of row) }
-{
-    Offered {
-        cell: answers::own_cell(row.cell),
-        head: half(answers::own_header(row)),
-    }
-}
-
-fn carried_offered(row: Carried) -> Offered
-    ensures { result ≡ offered_of (carried_envelope_of row) }
-{
-    Offered {
-        cell: answers::carried_cell(row.cell),
-        head: half(answers::carried_header(row)),
-    }
-}
-
-// The row at i.
-fn offered_at(own: &[u8], n: usize, carried: &[u8], i: usize) -> Offered
-    requires { (n * 54 ≤ length own.now) × (i < n + length carried.now / 57) }
-    ensures { result ≡ offered_of (envelope_at own.now n carried.now i) }
-{
-    if i < n {
-        return own_offered(rows::own_at(own, i * rows::OWN_WIDTH));
-    }
-    carried_offered(rows::carried_at(carried, (i - n) * rows::CARRIED_WIDTH))
 }
 
 // `BTreeMap::insert`: puts an offer in the place of the one with its tag, or behind the k that are there; answers how many there are.
+// (Rows are written into lent areas, with their number beside: no heap.)
+// (`Offer::replace` and `push` do not say that the area has bytes, which the offers that follow need; tried.)
 fn insert_offer(offers: &mut [u8], k: usize, row: Offer) -> usize
     requires { k * 17 + 17 ≤ length offers.old }
     ensures { Inserted offers.old k row result offers.new }
 {
-    let tag = row.tag;
-    let b = rows::offer_bytes(row);
-    match table::find(offers, rows::OFFER_WIDTH, k, 0, &tag) {
-        Found::At(i) => {
-            table::replace(offers, rows::OFFER_WIDTH, k, i, &b);
+    let b = row.bytes();
+    match table::find(offers, OFFER_WIDTH, k, 0, &row.tag) {
+        Some(i) => {
+            table::replace(offers, OFFER_WIDTH, k, i, &b);
             k
         }
-        Found::Nothing => table::push(offers, rows::OFFER_WIDTH, k, &b),
+        None => table::push(offers, OFFER_WIDTH, k, &b),
     }
 }
 
-// Offers the row at i: writes its reply behind k others, and its tag and copies among the c offers; answers how many offers there are.
-fn offer_row(
-    own: &[u8],
-    n: usize,
-    carried: &[u8],
-    i: usize,
-    replies: &mut [u8],
-    k: usize,
-    offers: &mut [u8],
-    c: usize,
-) -> usize
-    requires n_in_bounds { (n * 54 ≤ length own.now) × (i < n + length carried.now / 57) }
-    requires k_in_bounds { (k * 40 + 40 ≤ length replies.old) × (c * 17 + 17 ≤ length offers.old) }
-    ensures { Handed (halved (envelope_at own.now n carried.now i))
-        replies.old k offers.old c replies.new result offers.new }
-{
-    let it = offered_at(own, n, carried, i);
-    let head = it.head;
-    let tag = head.tag;
-    answers::put_envelope(replies, k * rows::REPLY_WIDTH, it.cell, head);
-    insert_offer(
-        offers,
-        c,
-        Offer {
-            tag,
-            copies: head.copies,
-        },
-    )
-}
-
 // How many replies and offers there are.
-#[derive(Drop)]
+#[derive(Clone, Copy)]
 pub struct Counts {
     pub replies: usize,
     pub offers: usize,
 }
 
+// Offers the row at i: writes its reply and its offer behind those that are there.
+fn offer_row(held: &Held, i: usize, replies: &mut [u8], offers: &mut [u8], sent: Counts) -> Counts
+    requires i_in_bounds { i < how_many held.now }
+    requires room { (sent.replies * 40 + 40 ≤ length replies.old) × (sent.offers * 17 + 17 ≤ length offers.old) }
+    ensures reply { result.replies ≡ sent.replies + 1 }
+    ensures offer { Handed (halved (held_envelope held.now i))
+        replies.old sent.replies offers.old sent.offers replies.new result.offers offers.new }
+{
+    let it = held.offered_at(i);
+    answers::put_envelope(replies, sent.replies * REPLY_WIDTH, it.cell, it.head);
+    let tag = it.head.tag;
+    let offer = Offer {
+        tag,
+        copies: it.head.copies,
+    };
+    Counts {
+        replies: sent.replies + 1,
+        offers: insert_offer(offers, sent.offers, offer),
+    }
+}
+
 // Writes the flagged rows: their replies behind the first ones, and their offers.
 pub fn write_offers(
-    own: &[u8],
-    n: usize,
-    carried: &[u8],
-    m: usize,
+    held: &Held,
     flags: &[bool],
     replies: &mut [u8],
     first: usize,
     offers: &mut [u8],
 ) -> Counts
-    requires n_in_bounds { (n * 54 ≤ length own.now) × (m * 57 ≤ length carried.now) }
-    requires m_in_bounds { n + m ≤ length flags.now }
-    requires m_in_bounds_2 { ((first + (n + m)) * 40 ≤ length replies.old) × ((n + m) * 17 ≤ length offers.old) }
-    ensures { WritesOffers (halves_of flags.now (held_envelopes (table_of own_codec n own.now) (table_of carried_codec m carried.now)))
+    requires in_bounds { how_many held.now ≤ length flags.now }
+    requires room { ((first + (how_many held.now)) * 40 ≤ length replies.old)
+        × ((how_many held.now) * 17 ≤ length offers.old) }
+    ensures { WritesOffers (halves_of flags.now (held_envelopes (own_of held.now) (carried_of held.now)))
         replies.old first offers.old result.replies replies.new result.offers offers.new }
 {
-    let mut k = first;
-    let mut c = 0;
-    let mut i = 0;
-    while i < n + m {
-        let at = i;
-        i += 1;
-        if !flags[at] {
-            continue;
+    let mut sent = Counts {
+        replies: first,
+        offers: 0,
+    };
+    for i in 0..held.len() {
+        if flags[i] {
+            sent = offer_row(held, i, replies, offers, sent);
         }
-        c = offer_row(own, n, carried, at, replies, k, offers, c);
-        k += 1;
     }
-    Counts {
-        replies: k,
-        offers: c,
-    }
+    sent
 }

@@ -1,55 +1,28 @@
 -- Laws of the tests of the own envelope call, of the place of a new row and of its cell.
 -- Assumes nothing.
-use Rattle.std.proofs.Common.{◌≡◌, ℕ, zero, suc, ◌+◌, ◌-◌, ◌*◌, ◌/◌, ◌<◌, ◌≤◌, min, Bool, true, false, cond, ◌&&◌, ◌||◌, eqb, ltb, leb, List, length, sym, refl, ap, ◌∙◌, ap₂, zero-add, div-mul-le_self, arith, ltb-false, le-ltb, lt-ltb, eq-eqb, ne_eqb, le-leb, leb-false}
+use Rattle.std.proofs.Common.{◌≡◌, ℕ, zero, suc, ◌+◌, ◌-◌, ◌*◌, ◌/◌, ◌<◌, ◌≤◌, min, Bool, true, false, cond, ◌&&◌, ◌||◌, eqb, ltb, leb, List, length, sym, refl, ap, ◌∙◌, ap₂, zero-add, add-zero, div-mul-le_self, arith, ltb-false, le-ltb, eq-eqb, ne_eqb, leb-false, Some, None}
 use mathlib.Core.Bool.{or-false}
 use native.Mathlib.Nat.{min-le_left, min-le_right}
-use borrow.Author.Tests.{lt-leb}
 use Rattle.octets.specs.Bytes.{part, num}
-use Rattle.chain.specs.Chain.{is_bucket}
-use Rattle.table.specs.declared.Found.TheVariants.{At, Nothing}
+use Rattle.octets.proofs.Parts.{part_part}
 use Rattle.table.specs.Lists.{any, position, unwrap_or, insert_at}
 use Rattle.table.specs.Rows.{held}
 use Rattle.table.specs.Codec.{table_of, TableNow}
-use Rattle.table.proofs.FindLaws.{position_le}
-use Rattle.table.proofs.TableLaws.{length_table}
+use Rattle.table.proofs.FindLaws.{position_le, position_next}
+use Rattle.table.proofs.TableLaws.{length_table, table_next}
 use Rattle.courier_core.specs.declared.ContactId.{ContactId}
 use Rattle.rows.specs.declared.Contact.{Contact}
 use Rattle.rows.specs.declared.Own.{Own}
-use Rattle.rows.specs.Rows.{own_codec, contact_codec}
+use Rattle.rows.specs.Rows.{own_codec, contact_codec, contact_of}
 use Rattle.model.specs.Contacts.{is_contact, contact_place, added_before}
 use Rattle.model.specs.Cells.{free_from, free_cell, cell_count}
-use Rattle.model.specs.Own.{own_length, none_made, stands_after, insert_own}
-use Rattle.contacts.proofs.FindLaws.{place_next}
+use Rattle.model.specs.Own.{none_made, stands_after, insert_own}
 use Rattle.own_envelope.specs.OwnEnvelope.{own_place}
 use Rattle.own_envelope.proofs.WalkLaws.{first_found}
 
--- two numbers and a test: where they are the same, the test decides
-module _ (a b : ℕ) where
-  pub same_then : {r : Bool} → a ≡ b → r ≡ (eqb a b && r)
-  same_then {r} e = sym (ap (λ (x : Bool). x && r) (eq-eqb a b e))
-
-  pub other_then : (r : Bool) → (a ≡ b → ⊥) → false ≡ (eqb a b && r)
-  other_then r e = sym (ap (λ (x : Bool). x && r) (ne_eqb a b e))
-
 -- ---- the lengths
 
-pub short_own : (len : ℕ) → len < 16 → false ≡ own_length len
-unfolding own_length
-short_own len h = sym (ap (λ (x : Bool). x && is_bucket (len - 16)) (lt-leb 16 len h))
-
-pub long_own : (len : ℕ) {r : Bool} → 16 ≤ len → r ≡ is_bucket (len - 16) → r ≡ own_length len
-unfolding own_length
-long_own len h e = e ∙ sym (ap (λ (x : Bool). x && is_bucket (len - 16)) (le-leb 16 len h))
-
 module _ (own : List Own) (len : ℕ) where
-  pub none_long : 2064 < len → true ≡ none_made own len
-  unfolding none_made
-  none_long h = sym (ap (λ (x : Bool). x || leb 256 (length own)) (lt-ltb 2048 (len - 16) (omega arith)))
-
-  pub none_short : {n : ℕ} → len ≤ 2064 → n ≡ length own → leb 256 n ≡ none_made own len
-  unfolding none_made
-  none_short h e = ap (leb 256) e ∙ sym (ap (λ (x : Bool). x || leb 256 (length own)) (le-ltb 2048 (len - 16) (omega arith)))
-
   -- an envelope is made: its ciphertext fits a cell, and there is room for its row
   pub room_made : none_made own len ≡ false → (len ≤ 2064) × (length own < 256)
   unfolding none_made
@@ -68,8 +41,12 @@ row_left count own l h = omega (arith, l, h, length_table own_codec count own)
 -- a contact's first place is no later than any other, and than the count
 module _ (count : ℕ) (a : List ℕ) (id : ContactId) where
   pub first_by : {k v : ℕ} → k < held (length a) 9 count → v ≡ num (part a (k * 9) 8) → v ≡ id.0 → added_before (table_of contact_codec count a) id ≤ k
-  unfolding added_before contact_place
-  first_by {k} {v} h e t = first_found (is_contact id) 0 _ k _ (zero-add k) (place_next count a id k v true h e (eq-eqb v id.0 t))
+  unfolding added_before contact_place contact_of
+  first_by {k} {v} h e t =
+      first_found (is_contact id) 0 _ k _ (zero-add k)
+      (position_next (is_contact id) (table_of contact_codec count a) k (contact_of (part a (k * 9) 9)) true (table_next contact_codec count a k h)
+      (ap (λ (x : List ℕ). eqb (num x) id.0) (part_part a (k * 9) 9 0 8 (omega arith) ∙ ap (λ (j : ℕ). part a j 8) (add-zero (k * 9)))
+      ∙ ap (λ (x : ℕ). eqb x id.0) (sym e) ∙ eq-eqb v id.0 t))
 
   pub first_inside : {n : ℕ} → n ≡ held (length a) 9 count → added_before (table_of contact_codec count a) id ≤ n
   unfolding added_before contact_place
@@ -99,11 +76,11 @@ module _ (ps : List Contact) (id : ContactId) (msgno count : ℕ) (a : List ℕ)
   abbrev T : List Own
   T = table_of own_codec count a
 
-  pub place_at : (i : ℕ) → position (stands_after ps id msgno) T ≡ At i → i ≡ own_place ps id msgno T
+  pub place_at : (i : ℕ) → position (stands_after ps id msgno) T ≡ Some i → i ≡ own_place ps id msgno T
   unfolding own_place
   place_at i e = sym (ap (unwrap_or (length T)) e)
 
-  pub place_behind : (n : ℕ) → n ≡ held (length a) 54 count → position (stands_after ps id msgno) T ≡ Nothing → n ≡ own_place ps id msgno T
+  pub place_behind : (n : ℕ) → n ≡ held (length a) 54 count → position (stands_after ps id msgno) T ≡ None → n ≡ own_place ps id msgno T
   unfolding own_place
   place_behind n h e = h ∙ sym (length_table own_codec count a) ∙ sym (ap (unwrap_or (length T)) e)
 
@@ -119,16 +96,16 @@ inserted ps row own e N = rw e at N
 
 -- ---- the free cell is one of the area's, and of 256
 
-free_from_lem : (n i : ℕ) (named : List ℕ) {j : ℕ} → free_from n i named ≡ At j → j < i + n
+free_from_lem : (n i : ℕ) (named : List ℕ) {j : ℕ} → free_from n i named ≡ Some j → j < i + n
 unfolding free_from
 free_from_lem zero i named e = let z : ◌≡◌ {A = ℕ} 0 1 = cc in absurd (omega arith)
 free_from_lem (suc n) i named {j} e = go (any (λ (m : ℕ). eqb m i) named) e (λ f. free_from_lem n (suc i) named f)
   where
-    go : (b : Bool) → cond b (free_from n (suc i) named) (At i) ≡ At j → (free_from n (suc i) named ≡ At j → j < suc i + n) → j < i + suc n
+    go : (b : Bool) → cond b (free_from n (suc i) named) (Some i) ≡ Some j → (free_from n (suc i) named ≡ Some j → j < suc i + n) → j < i + suc n
     go true f rest = omega (arith, rest f)
     go false f rest = let z : i ≡ j = cc in omega arith
 
-pub free_inside : (size : ℕ) (named : List ℕ) (j : ℕ) → At j ≡ free_cell size named → (j < 256) × (j * 2064 + 2064 ≤ size)
+pub free_inside : (size : ℕ) (named : List ℕ) (j : ℕ) → Some j ≡ free_cell size named → (j < 256) × (j * 2064 + 2064 ≤ size)
 unfolding free_cell cell_count
 free_inside size named j e =
     let h = free_from_lem (min 256 (size / 2064)) 0 named (sym e) in

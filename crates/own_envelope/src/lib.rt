@@ -10,28 +10,11 @@ ghost use Rattle.model.specs.Calls.{add_own};
 ghost use Rattle.model.specs.Contacts.{added_before};
 ghost use Rattle.model.specs.Own.{is_message, own_length, none_made, stands_after, insert_own};
 ghost use Rattle.model.specs.Lent.{Does, no_answers};
-ghost use Rattle.own_envelope.specs.OwnEnvelope.{no_row, own_says, lent_own, own_device, made_own, own_place};
+ghost use Rattle.own_envelope.specs.OwnEnvelope.{own_says, lent_own, made_own, own_place};
 
 use chain::Dir;
 use courier_core::{ContactId, Refusal};
 use rows::{Device, Own};
-use table::Found;
-
-// What the call answers. (An enum can't hold an array: the row stands beside it.)
-#[derive(Clone, Copy)]
-pub enum Made {
-    Refused(Refusal),
-    NoEnvelope,
-    Row,
-}
-
-// The row is zeros where none is made.
-#[derive(Drop)]
-pub struct Owned {
-    pub device: Device,
-    pub made: Made,
-    pub row: Own,
-}
 
 // ---- the tests
 
@@ -39,11 +22,7 @@ pub struct Owned {
 fn is_message(row: Own, id: ContactId, msgno: u32) -> bool
     ensures { result ≡ is_message id msgno row }
 {
-    let contact = row.contact;
-    if contact.0 == id.0 {
-        return row.msgno == msgno;
-    }
-    false
+    (row.contact, row.msgno) == (id, msgno)
 }
 
 // Is the message number already there?
@@ -51,34 +30,28 @@ fn has_message(own: &[u8], count: usize, id: ContactId, msgno: u32) -> bool
     ensures { result ≡ any (is_message id msgno) (table_of own_codec count own.now) }
 {
     let n = table::fit(own.len(), rows::OWN_WIDTH, count);
-    let mut i = 0;
-    while i < n {
+    for i in 0..n {
         if is_message(rows::own_at(own, i * rows::OWN_WIDTH), id, msgno) {
             return true;
         }
-        i += 1;
     }
     false
 }
 
 // Is the length, less 16, an inner length?
+#[tactic(auto, unfolding(model::specs::Own::own_length))]
 fn own_length(len: usize) -> bool
     ensures { result ≡ own_length len }
 {
-    if len < 16 {
-        return false;
-    }
-    chain::is_bucket(len - 16)
+    16 <= len && chain::is_bucket(len - 16)
 }
 
 // Is no envelope made: inner length above COURIER_INNER_MAX, or 256 own rows there?
+#[tactic(auto, using(table::proofs::TableLaws::length_table), unfolding(model::specs::Own::none_made))]
 fn none_made(own: &[u8], count: usize, len: usize) -> bool
     ensures { result ≡ none_made (table_of own_codec count own.now) len }
 {
-    if 2064 < len {
-        return true;
-    }
-    256 <= table::fit(own.len(), rows::OWN_WIDTH, count)
+    2064 < len || 256 <= table::fit(own.len(), rows::OWN_WIDTH, count)
 }
 
 // ---- the row
@@ -88,12 +61,10 @@ fn place_from(contacts: &[u8], count: usize, at: usize, id: ContactId) -> usize
     ensures { added_before (table_of contact_codec count contacts.now) id ≤ result }
 {
     let n = table::fit(contacts.len(), rows::CONTACT_WIDTH, count);
-    let mut k = at;
-    while k < n {
+    for k in at..n {
         if octets::get_u64(contacts, k * rows::CONTACT_WIDTH) == id.0 {
             return k;
         }
-        k += 1;
     }
     n
 }
@@ -112,14 +83,10 @@ fn stands_after(
     requires { (mine ≡ added_before (table_of contact_codec count contacts.now) id) × (added_before (table_of contact_codec count contacts.now) row.contact ≤ place) }
     ensures { result ≡ stands_after (table_of contact_codec count contacts.now) id msgno row }
 {
-    let contact = row.contact;
-    if contact.0 == id.0 {
+    if row.contact == id {
         return msgno < row.msgno;
     }
-    if place <= mine {
-        return false;
-    }
-    mine < contacts::added_before(contacts, count, contact)
+    mine < place && mine < contacts::added_before(contacts, count, row.contact)
 }
 
 // Where a new row goes: own rows stand by contact as added and message number.
@@ -137,14 +104,12 @@ fn own_place(
     let mine = contacts::added_before(contacts, known, id);
     let n = table::fit(own.len(), rows::OWN_WIDTH, count);
     let mut place = 0;
-    let mut i = 0;
-    while i < n {
+    for i in 0..n {
         let row = rows::own_at(own, i * rows::OWN_WIDTH);
         place = place_from(contacts, known, place, row.contact);
         if stands_after(contacts, known, mine, place, id, msgno, row) {
             return i;
         }
-        i += 1;
     }
     n
 }
@@ -154,15 +119,14 @@ fn insert_own(contacts: &[u8], known: usize, own: &mut [u8], count: usize, row: 
     requires { held (length own.old) own_width count * own_width + own_width ≤ length own.old }
     ensures { TableNow own_codec own.old (insert_own (table_of contact_codec known contacts.now) row (table_of own_codec count own.old)) result own.new }
 {
-    let contact = row.contact;
-    let i = own_place(contacts, known, own, count, contact, row.msgno);
+    let i = own_place(contacts, known, own, count, row.contact, row.msgno);
     let n = table::fit(own.len(), rows::OWN_WIDTH, count);
     let b = rows::own_bytes(row);
     table::insert(own, rows::OWN_WIDTH, n, i, &b)
 }
 
 fn new_own(
-    device: Device,
+    device: &Device,
     id: ContactId,
     msgno: u32,
     tag: [u8; 16],
@@ -171,16 +135,15 @@ fn new_own(
     cell: usize,
 ) -> Own
     requires { (len < 65536) × (cell < 65536) }
-    ensures { result ≡ made_own device id msgno tag s len cell }
+    ensures { result ≡ made_own device.now id msgno tag s len cell }
 {
-    let courier = device.courier;
     Own {
         contact: id,
         msgno,
         tag,
         s,
-        expiry_min: contacts::lifetime_end(device.now_s, courier),
-        copies: courier.copies,
+        expiry_min: contacts::lifetime_end(device.now_s, device.courier),
+        copies: device.courier.copies,
         renewed: 0,
         len: len as u16,
         cell: cell as u16,
@@ -189,44 +152,10 @@ fn new_own(
 
 // ---- the call
 
-// The device with another count of own rows.
-fn own_device(device: Device, own: usize) -> Device
-    ensures { result ≡ own_device device own }
-{
-    let courier = device.courier;
-    Device {
-        courier,
-        now_s: device.now_s,
-        contacts: device.contacts,
-        own,
-        carried: device.carried,
-        tombstones: device.tombstones,
-        bad_tags: device.bad_tags,
-        next_slot: device.next_slot,
-    }
-}
-
-// An answer without a row, which changes nothing.
-fn no_row(device: Device, made: Made) -> Owned
-    ensures { (result.device ≡ device) × (result.made ≡ made) × (result.row ≡ no_row) }
-{
-    let row = Own {
-        contact: ContactId(0),
-        msgno: 0,
-        tag: [0u8; 16],
-        s: [0u8; 16],
-        expiry_min: 0,
-        copies: 0,
-        renewed: 0,
-        len: 0,
-        cell: 0,
-    };
-    Owned { device, made, row }
-}
-
-// An own envelope of a queued message: its ciphertext goes to the first free cell, its row among the own rows.
+// An own envelope of a queued message: its ciphertext goes to the first free cell, its row among the own rows. Answers the row, or none where no
+// envelope is made.
 pub fn own_envelope(
-    device: Device,
+    device: &mut Device,
     id: ContactId,
     msgno: u32,
     key: [u8; 32],
@@ -238,35 +167,27 @@ pub fn own_envelope(
     contacts: &[u8; 2304],
     own: &mut [u8; 13824],
     own_cells: &mut [u8],
-) -> Owned
-    ensures { Does own_says (add_own id msgno key dir generation idx s ct.now) (result.made, result.row)
-        (lent_own device contacts.now own.old own_cells.old)
-        (lent_own result.device contacts.now own.new own_cells.new) no_answers no_answers }
+) -> Result<Option<Own>, Refusal>
+    ensures { Does own_says (add_own id msgno key dir generation idx s ct.now) result
+        (lent_own device.old contacts.now own.old own_cells.old)
+        (lent_own device.new contacts.now own.new own_cells.new) no_answers no_answers }
 {
     if !contacts::known(contacts, device.contacts, id) {
-        return no_row(device, Made::Refused(Refusal::UnknownContact));
+        return Err(Refusal::UnknownContact);
     }
     if has_message(own, device.own, id, msgno) {
-        return no_row(device, Made::Refused(Refusal::MessageNumberTaken));
+        return Err(Refusal::MessageNumberTaken);
     }
     if !own_length(ct.len()) {
-        return no_row(device, Made::Refused(Refusal::OwnLength));
+        return Err(Refusal::OwnLength);
     }
     if none_made(own, device.own, ct.len()) {
-        return no_row(device, Made::NoEnvelope);
+        return Ok(None);
     }
-    match custody::free_own_cell(own, device.own, own_cells.len()) {
-        Found::Nothing => no_row(device, Made::Refused(Refusal::NoCell)),
-        Found::At(cell) => {
-            let tag = courier::route_tag(key, dir, generation, idx);
-            let row = new_own(device, id, msgno, tag, s, ct.len(), cell);
-            octets::copy_in(own_cells, cell * 2064, ct);
-            let n = insert_own(contacts, device.contacts, own, device.own, row);
-            Owned {
-                device: own_device(device, n),
-                made: Made::Row,
-                row,
-            }
-        }
-    }
+    let cell = custody::free_own_cell(own, device.own, own_cells.len()).ok_or(Refusal::NoCell)?;
+    let tag = courier::route_tag(key, dir, generation, idx);
+    let row = new_own(device, id, msgno, tag, s, ct.len(), cell);
+    octets::copy_in(own_cells, cell * 2064, ct);
+    device.own = insert_own(contacts, device.contacts, own, device.own, row);
+    Ok(Some(row))
 }

@@ -1,6 +1,6 @@
 -- What every call and every load keeps: order and limits of the tables, rows that fit their fields, lengths that a courier carries.
 -- Assumes nothing.
-use Rattle.std.proofs.Common.{◌≡◌, ℕ, ◌/◌, ◌^◌, ◌<◌, ◌≤◌, min, true, List, [], length, sym, refl, subst, arith, ltb-false}
+use Rattle.std.proofs.Common.{◌≡◌, ℕ, ◌/◌, ◌^◌, ◌<◌, ◌≤◌, min, true, List, [], length, sym, refl, subst, arith, ltb-false, Ok}
 use Rattle.octets.specs.Bytes.{Bytes}
 use Rattle.octets.proofs.Numbers.{num_part_lt}
 use Rattle.courier_core.specs.declared.ContactId.{ContactId}
@@ -20,7 +20,6 @@ use Rattle.history.proofs.LimitLaws.{Limits}
 use Rattle.history.proofs.KeptLaws.{Kept, kept_after}
 use Rattle.history.proofs.OfferSteps.{Sound, sound_after}
 use Rattle.history.proofs.HistoryLaws.{kept_empty, sound_empty}
-use Rattle.load_tests.specs.declared.Tested.TheVariants as tested
 use Rattle.load_tests.specs.Tests.{next_in, carried_count, tombstone_count, load_tests, tested_as}
 use Rattle.load_tests.proofs.TestLaws.{fine_none}
 use Rattle.load.specs.Load.{Rows, loaded, held_now, load_held_rows, load_step}
@@ -55,7 +54,7 @@ pub record Grows (s t : State) : Type 0 where
   pub rows : t.tombstone_rows ≡ s.tombstone_rows
 
 -- a file that is fine
-module _ (s : State) (file : List ℕ) (w : Bytes file) (e : tested.Fine ≡ tested_as (load_tests s.contacts (length s.carried_cells) s.tombstone_rows file)) where
+module _ (s : State) (file : List ℕ) (w : Bytes file) (e : Ok tt ≡ tested_as (load_tests s.contacts (length s.carried_cells) s.tombstone_rows file)) where
   abbrev l : Rows
   l = loaded s.carried_cells file
 
@@ -109,7 +108,7 @@ module _ (p : Post) (file : List ℕ) (w : Bytes file) (k : Keeps p) where
   unfolding apply
   refused_kept why = (k, record { contacts = λ id h. h; cells = refl; rows = refl })
 
-  fine_kept : tested.Fine ≡ tested_as (load_tests s.contacts (length s.carried_cells) s.tombstone_rows file) → KeptBy (load_held_rows s file)
+  fine_kept : Ok tt ≡ tested_as (load_tests s.contacts (length s.carried_cells) s.tombstone_rows file) → KeptBy (load_held_rows s file)
   unfolding load_held_rows apply
   fine_kept e = (
     record {

@@ -1,11 +1,9 @@
 -- The ciphertext of a carried row has a length that a courier carries: every call keeps that.
 -- Assumes nothing.
-use Rattle.std.proofs.Common.{◌≡◌, ℕ, Bool, true, false, cond, not, List, [], ◌∷◌, length, get_or, sym, refl, ap, ◌∙◌, subst, arith}
+use Rattle.std.proofs.Common.{◌≡◌, ℕ, Bool, true, false, cond, not, List, [], ◌∷◌, length, get_or, sym, refl, ap, ◌∙◌, subst, arith, Option, Some, None, Result, Ok, Err}
 use mathlib.Core.Bool.{false≢true}
 use Rattle.courier_core.specs.declared.ContactId.{ContactId}
 use Rattle.courier_core.specs.declared.Refusal.{Refusal}
-use Rattle.table.specs.declared.Found.{Found}
-use Rattle.table.specs.declared.Found.TheVariants.{At, Nothing}
 use Rattle.table.specs.Lists.{All}
 use Rattle.table.specs.Lists as lists
 use Rattle.table.proofs.ListLaws.{all_append}
@@ -18,7 +16,7 @@ use Rattle.rows.specs.declared.Carried.{Carried}
 use Rattle.model.specs.Basics.{match_found}
 use Rattle.model.specs.State.{State}
 use Rattle.model.specs.Calls
-use Rattle.model.specs.Calls.{Call, Result, step_of}
+use Rattle.model.specs.Calls.{Call, Result as Outcome, step_of}
 use Rattle.model.specs.Contacts.{minute_of}
 use Rattle.model.specs.Window.{no_reachable, window_rows, lookup}
 use Rattle.model.specs.Custody.{custody_of, new_carried, ours_at, answer_custody, envelope_tests, receive_envelope}
@@ -27,8 +25,6 @@ use Rattle.history.specs.Life.{is_refused, role}
 use Rattle.history.proofs.SortedLaws.{became_all}
 use Rattle.history.proofs.RowLaws.{Thinned, stays_later, Gift, nothing, one, rows}
 use Rattle.history.proofs.KeptLaws.{Kept, effect_at}
-use Rattle.load_tests.specs.declared.Tested.{Tested}
-use Rattle.load_tests.specs.declared.Tested.TheVariants as tested
 use Rattle.load_tests.specs.Tests.{tested_as}
 use Rattle.load.proofs.CallLaws.{step_tested}
 use Rattle.load.proofs.CallLaws as calls
@@ -37,12 +33,12 @@ abbrev pub Lengths : List Carried → Type 0
 Lengths rs = All (λ (r : Carried). carried_length r.len ≡ true) rs
 
 -- a call that is not refused is what it performs
-pub performed : (ts : List (Bool × Refusal)) (o : Result) → is_refused (step_of ts o).answer ≡ false → step_of ts o ≡ o
+pub performed : (ts : List (Bool × Refusal)) (o : Outcome) → is_refused (step_of ts o).answer ≡ false → step_of ts o ≡ o
 performed ts o e = go (tested_as ts) refl
   where
-    go : (r : Tested) → tested_as ts ≡ r → step_of ts o ≡ o
-    go (tested.Refused why) f = absurd (false≢true (sym e ∙ ap (λ (x : Result). is_refused x.answer) (step_tested o ts ∙ ap (calls.after o) f)))
-    go tested.Fine f = step_tested o ts ∙ ap (calls.after o) f
+    go : (r : Result (Unit {0}) Refusal) → tested_as ts ≡ r → step_of ts o ≡ o
+    go (Err why) f = absurd (false≢true (sym e ∙ ap (λ (x : Outcome). is_refused x.answer) (step_tested o ts ∙ ap (calls.after o) f)))
+    go (Ok u) f = step_tested o ts ∙ ap (calls.after o) f
 
 valid_first : (on valid : Bool) (rest : Custody) → cond (not on) custody.Off (cond (not valid) custody.Invalid rest) ≡ custody.Accepted → valid ≡ true
 valid_first true true rest e = refl
@@ -51,28 +47,28 @@ valid_first false valid rest e = let z : ◌≡◌ {A = ℕ} 0 1 = cc in absurd 
 
 module _ (s : State) (replies actions : ℕ) (window : List ℕ) (peer : ContactId) (head : Header) (ct : List ℕ) where
   -- an envelope that gives a row was accepted
-  accepted : (f : Found) (code : Custody)
+  accepted : (f : Option ℕ) (code : Custody)
       → match_found f (λ (i : ℕ). ours_at (get_or (window_rows window) i no_reachable)) (answer_custody s peer head ct code) ≡ answer_custody s peer head ct custody.Accepted
       → code ≡ custody.Accepted
   unfolding ours_at answer_custody
-  accepted (At i) code e = let z : ◌≡◌ {A = ℕ} 0 1 = ap (λ (o : Result). length o.actions) e in absurd (omega arith)
-  accepted Nothing custody.Accepted e = refl
-  accepted Nothing custody.Full e = let z : ◌≡◌ {A = ℕ} 0 1 = ap (λ (o : Result). length o.actions) e in absurd (omega arith)
-  accepted Nothing custody.Duplicate e = let z : ◌≡◌ {A = ℕ} 0 1 = ap (λ (o : Result). length o.actions) e in absurd (omega arith)
-  accepted Nothing custody.Off e = let z : ◌≡◌ {A = ℕ} 0 1 = ap (λ (o : Result). length o.actions) e in absurd (omega arith)
-  accepted Nothing custody.Invalid e = let z : ◌≡◌ {A = ℕ} 0 1 = ap (λ (o : Result). length o.actions) e in absurd (omega arith)
+  accepted (Some i) code e = let z : ◌≡◌ {A = ℕ} 0 1 = ap (λ (o : Outcome). length o.actions) e in absurd (omega arith)
+  accepted None custody.Accepted e = refl
+  accepted None custody.Full e = let z : ◌≡◌ {A = ℕ} 0 1 = ap (λ (o : Outcome). length o.actions) e in absurd (omega arith)
+  accepted None custody.Duplicate e = let z : ◌≡◌ {A = ℕ} 0 1 = ap (λ (o : Outcome). length o.actions) e in absurd (omega arith)
+  accepted None custody.Off e = let z : ◌≡◌ {A = ℕ} 0 1 = ap (λ (o : Outcome). length o.actions) e in absurd (omega arith)
+  accepted None custody.Invalid e = let z : ◌≡◌ {A = ℕ} 0 1 = ap (λ (o : Outcome). length o.actions) e in absurd (omega arith)
 
   given_length : step s (Calls.envelope replies actions window peer head ct) ≡ answer_custody s peer head ct custody.Accepted → carried_length (length ct) ≡ true
   unfolding step tests perform receive_envelope custody_of answer_custody
   given_length e =
-      let o : Result = receive_envelope s (window_rows window) peer head ct in
+      let o : Outcome = receive_envelope s (window_rows window) peer head ct in
       let q : o ≡ answer_custody s peer head ct custody.Accepted =
-      sym (performed (envelope_tests s replies actions window peer head (length ct)) o (ap (λ (x : Result). is_refused x.answer) e)) ∙ e in
+      sym (performed (envelope_tests s replies actions window peer head (length ct)) o (ap (λ (x : Outcome). is_refused x.answer) e)) ∙ e in
       let c = accepted (lookup (window_rows window) head.tag) (custody_of s peer head (length ct)) q in
       (valid_parts (length ct) head.copies head.expiry_min (minute_of s)
       (valid_first s.courier.enabled (envelope_valid (length ct) head.copies head.expiry_min (minute_of s)) _ c)).0
 
-module _ (s : State) (o : Result) where
+module _ (s : State) (o : Outcome) where
   gift_lengths : {c : Call} {n : ℕ} {cells : List ℕ} (gift : List Carried) → o ≡ step s c → Gift s o c gift n cells → Lengths gift
   unfolding new_carried
   gift_lengths [] q (nothing le) = lists.none

@@ -1,8 +1,7 @@
 -- What a file that number 8 does not refuse gives: rows that fit their fields, of known depositors, tags that differ, no more than 32 of one.
 -- Assumes nothing.
-use Rattle.std.proofs.Common.{◌≡◌, ℕ, suc, ◌+◌, ◌-◌, ◌^◌, ◌<◌, ◌≤◌, Bool, true, false, cond, ◌&&◌, eqb, ltb, leb, ◌⊎◌, List, [], ◌∷◌, length, get_or, take, drop, sym, refl, ap, ◌∙◌, subst, ap₂, inl, inr, zero-add, arith, length-drop, take-append-drop, drop-drop, ltb-false, eqb-true}
+use Rattle.std.proofs.Common.{◌≡◌, ℕ, suc, ◌+◌, ◌-◌, ◌^◌, ◌<◌, ◌≤◌, Bool, true, false, cond, ◌&&◌, eqb, ltb, leb, ◌⊎◌, List, [], ◌∷◌, length, get_or, take, drop, sym, refl, ap, ◌∙◌, subst, ap₂, inl, inr, zero-add, arith, length-drop, take-append-drop, drop-drop, ltb-false, eqb-true, Option, Some, None, Ok}
 use mathlib.Core.Bool.{false≢true}
-use mathlib.Core.Option.{Option, none, some}
 use borrow.Author.Tests.{not-false}
 use Rattle.octets.specs.Bytes.{Bytes, part, num, be, same_bytes}
 use Rattle.octets.proofs.Compare.{same_refl}
@@ -29,7 +28,6 @@ use Rattle.model.specs.Custody.{deposited}
 use Rattle.history.specs.Order.{Sorted, empty, next}
 use Rattle.history.proofs.RowLaws.{TagsDiffer}
 use Rattle.load_tests.specs.Records.{records, depositor_in, tag_in, is_carried, is_tombstone, counted}
-use Rattle.load_tests.specs.declared.Tested.TheVariants as tested
 use Rattle.load_tests.specs.Tests.{kind_tests, fails, unknown_depositor, tag_twice, many_of_one, next_in, carried_count, tombstone_count, load_tests, tested_as}
 use Rattle.load_tests.proofs.BlobLaws.{Decoded, decoded, kind_long}
 use Rattle.load.specs.Load.{insert_by, carried_slot, tombstone_slot, carried_row, tombstone_row, Rows, load_held, load_record, load_records, no_rows, loaded}
@@ -40,9 +38,9 @@ use Rattle.load.proofs.FineLaws.{count_imp}
 -- ---- the ciphertext of a blob that is taken has a length that a courier carries
 
 abbrev LengthIn : Option Held → Type 0
-LengthIn none = Unit {0}
-LengthIn (some (held.carried r ct)) = carried_length (length ct) ≡ true
-LengthIn (some (held.tombstone t)) = Unit {0}
+LengthIn None = Unit {0}
+LengthIn (Some (held.carried r ct)) = carried_length (length ct) ≡ true
+LengthIn (Some (held.tombstone t)) = Unit {0}
 
 abbrev valid_in : List ℕ → Bool
 valid_in b = envelope_valid (length b - 46) (carried_of b).header.copies (carried_of b).header.expiry_min 0
@@ -51,15 +49,15 @@ length_in : (b : List ℕ) → LengthIn (held_decode b)
 unfolding held_decode carried_in tombstone_in
 length_in b = by_kind (eqb (get_or b 0 0) 0) (eqb (get_or b 0 0) 1)
   where
-    by_carried : (t : Bool) → (leb 46 (length b) && valid_in b) ≡ t → LengthIn (cond t (some (held.carried (carried_of b) (drop 46 b))) none)
+    by_carried : (t : Bool) → (leb 46 (length b) && valid_in b) ≡ t → LengthIn (cond t (Some (held.carried (carried_of b) (drop 46 b))) None)
     by_carried false e = tt
     by_carried true e = ap carried_length (length-drop 46 b) ∙ (valid_parts _ _ _ _ (both (leb 46 (length b)) (valid_in b) e).1).0
 
-    by_tombstone : (t : Bool) → LengthIn (cond t (some (held.tombstone (tombstone_of b))) none)
+    by_tombstone : (t : Bool) → LengthIn (cond t (Some (held.tombstone (tombstone_of b))) None)
     by_tombstone false = tt
     by_tombstone true = tt
 
-    by_kind : (s t : Bool) → LengthIn (cond s (carried_in b) (cond t (tombstone_in b) none))
+    by_kind : (s t : Bool) → LengthIn (cond s (carried_in b) (cond t (tombstone_in b) None))
     by_kind true t = by_carried (leb 46 (length b) && valid_in b) refl
     by_kind false true = by_tombstone (eqb (length b) 37)
     by_kind false false = tt
@@ -325,16 +323,16 @@ module _ (cs : List Contact) (nc nt : ℕ) (few : nc ≤ 256) (l : Rows) (b : Li
 
       go : (d : Option Held) → held_decode (drop 12 b) ≡ d → Decoded (drop 12 b) (held_decode (drop 12 b)) → LengthIn (held_decode (drop 12 b))
           → Loaded cs nc nt (match_some d (λ (h : Held). load_held l (slot_of b) h) l) rs
-      go none e D n = absurd (some_kind b kinds (ap (λ (d : Option Held). (held_read d).kind) (sym e)))
-      go (some (held.carried r ct)) e D n =
-          let v : Decoded (drop 12 b) (some (held.carried r ct)) = subst (Decoded (drop 12 b)) e D in
+      go None e D n = absurd (some_kind b kinds (ap held_read (sym e)))
+      go (Some (held.carried r ct)) e D n =
+          let v : Decoded (drop 12 b) (Some (held.carried r ct)) = subst (Decoded (drop 12 b)) e D in
           let m : carried_length (length ct) ≡ true = subst LengthIn e n in
           subst (λ (x : HeldCarried). Loaded cs nc nt (load_held l (slot_of b) (held.carried x ct)) rs) (sym v.0)
-          (carried_next ct (marked_carried b kinds (ap (λ (d : Option Held). (held_read d).kind) (sym e))) m v.1.1.0)
-      go (some (held.tombstone t)) e D n =
-          let v : Decoded (drop 12 b) (some (held.tombstone t)) = subst (Decoded (drop 12 b)) e D in
+          (carried_next ct (marked_carried b kinds (ap held_read (sym e))) m v.1.1.0)
+      go (Some (held.tombstone t)) e D n =
+          let v : Decoded (drop 12 b) (Some (held.tombstone t)) = subst (Decoded (drop 12 b)) e D in
           subst (λ (x : HeldTombstone). Loaded cs nc nt (load_held l (slot_of b) (held.tombstone x)) rs) (sym v.0)
-          (tombstone_next (marked_tombstone b kinds (ap (λ (d : Option Held). (held_read d).kind) (sym e))) v.1)
+          (tombstone_next (marked_tombstone b kinds (ap held_read (sym e))) v.1)
 
 loaded_all : (cs : List Contact) (nc nt : ℕ) → nc ≤ 256 → (l : Rows) (rs : List (List ℕ)) → Loaded cs nc nt l rs → Loaded cs nc nt (load_records l rs) []
 unfolding load_records
@@ -347,7 +345,7 @@ taken_all : (limit : ℕ) (cs : List Contact) (all rs : List (List ℕ)) → All
 taken_all limit cs all [] w p = lists.none
 taken_all limit cs all (b ∷ rs) (lists.more v w) (lists.more q p) = lists.more (v, q.kinds) (taken_all limit cs all rs w p)
 
-pub loaded_fine : (cs : List Contact) (cells : List ℕ) (room : ℕ) (file : List ℕ) → Bytes file → carried_count file ≤ 256 → tested.Fine ≡ tested_as (load_tests cs (length cells) room file)
+pub loaded_fine : (cs : List Contact) (cells : List ℕ) (room : ℕ) (file : List ℕ) → Bytes file → carried_count file ≤ 256 → Ok tt ≡ tested_as (load_tests cs (length cells) room file)
     → Loaded cs (carried_count file) (tombstone_count file) (loaded cells file) []
 unfolding loaded deposited count_by unknown_depositor
 loaded_fine cs cells room file w few e =

@@ -1,10 +1,9 @@
 // Makes the calls of a sample of the oracle's answers again, on a post of its own, and compares every answer with the sample's.
 #![tactic(auto)]
 
-use replay_calls::{Outcome, Sizes};
-use replay_compare::{Seen, compare};
-use replay_log::cut;
-use rows::{Device, Exchange};
+use replay_calls::{Post, Sizes};
+use replay_compare::{Difference, compare};
+use replay_log::{KINDS, Kind, Walk, cut};
 
 // The file descriptors.
 const STDIN: i32 = 0;
@@ -21,32 +20,6 @@ fn text(fd: i32, s: &[u8]) {
 
 fn number(fd: i32, n: u64) {
     io::print_decimal(fd, n);
-}
-
-fn kind_name(fd: i32, kind: u8) {
-    match kind {
-        0 => text(fd, b"contact"),
-        1 => text(fd, b"setting"),
-        2 => text(fd, b"clock"),
-        3 => text(fd, b"fresh exchange"),
-        4 => text(fd, b"envelope"),
-        5 => text(fd, b"inventory received"),
-        6 => text(fd, b"fetch"),
-        7 => text(fd, b"custody code"),
-        8 => text(fd, b"tomb"),
-        9 => text(fd, b"report opened"),
-        10 => text(fd, b"report failed"),
-        11 => text(fd, b"stored tombstone"),
-        12 => text(fd, b"own envelope"),
-        13 => text(fd, b"maintenance"),
-        14 => text(fd, b"inventory of ours"),
-        15 => text(fd, b"window"),
-        16 => text(fd, b"row blob"),
-        17 => text(fd, b"row read"),
-        18 => text(fd, b"save"),
-        19 => text(fd, b"load"),
-        _ => text(fd, b"page"),
-    }
 }
 
 // ---- what was reached, counted: calls by kind from 0 on, replies by kind, custody codes and actions by kind from here on, and what
@@ -68,9 +41,7 @@ fn bump(tally: &mut [u64; 320], i: usize) {
 }
 
 fn count_replies(r: &[u8], tally: &mut [u64; 320]) {
-    let n = replay_log::half(r, replay_log::REPLIES);
-    let mut i: u16 = 0;
-    while i < n {
+    for i in 0..replay_log::half(r, replay_log::REPLIES) {
         let row = cut(
             r,
             replay_log::past(replay_log::replies_at(r), i as usize * 40),
@@ -81,17 +52,13 @@ fn count_replies(r: &[u8], tally: &mut [u64; 320]) {
         if kind == 2 {
             bump(tally, CODES + replay_log::byte(row, 19) as usize);
         }
-        i += 1;
     }
 }
 
 fn count_actions(r: &[u8], tally: &mut [u64; 320]) {
-    let n = replay_log::half(r, replay_log::ACTIONS);
-    let mut i: u16 = 0;
-    while i < n {
+    for i in 0..replay_log::half(r, replay_log::ACTIONS) {
         let at = replay_log::past(replay_log::actions_at(r), i as usize * 15);
         bump(tally, ACTIONS + replay_log::byte(r, at) as usize);
-        i += 1;
     }
 }
 
@@ -104,58 +71,8 @@ fn count(r: &[u8], tally: &mut [u64; 320]) {
 
 // ---- the post, call by call
 
-// The three exchanges.
-#[derive(Clone, Copy)]
-struct Sessions {
-    first: Exchange,
-    second: Exchange,
-    third: Exchange,
-}
-
-fn closed() -> Sessions {
-    Sessions {
-        first: Exchange::closed(),
-        second: Exchange::closed(),
-        third: Exchange::closed(),
-    }
-}
-
-fn session(sessions: Sessions, which: u8) -> Exchange {
-    let first = sessions.first;
-    let second = sessions.second;
-    let third = sessions.third;
-    match which {
-        0 => first,
-        1 => second,
-        _ => third,
-    }
-}
-
-fn with_session(sessions: Sessions, which: u8, e: Exchange) -> Sessions {
-    let first = sessions.first;
-    let second = sessions.second;
-    let third = sessions.third;
-    match which {
-        0 => Sessions {
-            first: e,
-            second,
-            third,
-        },
-        1 => Sessions {
-            first,
-            second: e,
-            third,
-        },
-        _ => Sessions {
-            first,
-            second,
-            third: e,
-        },
-    }
-}
-
-// Where the program stands: the record that is next, the list, how many calls of it were made and are left, how many of them and
-// of all calls differ, and the post. It has ended where said is 1.
+// Where the program stands: the record that is next, the list, how many calls of it were made and are left, and how many of them and
+// of all calls differ.
 #[derive(Clone, Copy)]
 struct State {
     at: usize,
@@ -164,10 +81,6 @@ struct State {
     left: usize,
     differ: usize,
     all: usize,
-    device: Device,
-    sessions: Sessions,
-    sizes: Sizes,
-    said: u8,
 }
 
 fn start() -> State {
@@ -178,105 +91,69 @@ fn start() -> State {
         left: 0,
         differ: 0,
         all: 0,
-        device: Device::fresh(),
-        sessions: closed(),
-        sizes: Sizes {
-            cells: 0,
-            own_cells: 0,
-            tombstones: 0,
-            bad_tags: 0,
-        },
-        said: 0,
     }
 }
 
-// A list begins with a fresh device. What the areas hold stays: a fresh device has no row of it.
 fn begin(s: State, r: &[u8]) -> State {
     State {
         at: replay_log::past(s.at, 11),
         list: replay_log::past(s.list, 1),
-        calls: 0,
         left: replay_log::half(r, 9) as usize,
-        differ: 0,
         all: s.all,
-        device: Device::fresh(),
-        sessions: closed(),
-        sizes: Sizes {
-            cells: replay_log::half(r, 1) as usize * 2064,
-            own_cells: replay_log::half(r, 3) as usize * 2064,
-            tombstones: replay_log::half(r, 5) as usize * 44,
-            bad_tags: replay_log::half(r, 7) as usize * 24,
-        },
-        said: 0,
+        ..start()
     }
 }
 
-fn ended(s: State) -> State {
-    let device = s.device;
-    let sessions = s.sessions;
-    let sizes = s.sizes;
-    State {
-        at: s.at,
-        list: s.list,
-        calls: s.calls,
-        left: 0,
-        differ: s.differ,
-        all: s.all,
-        device,
-        sessions,
-        sizes,
-        said: 1,
+// What a list's post has of each area.
+fn sizes(r: &[u8]) -> Sizes {
+    Sizes {
+        cells: replay_log::half(r, 1) as usize * state::CELL,
+        own_cells: replay_log::half(r, 3) as usize * state::CELL,
+        tombstones: replay_log::half(r, 5) as usize * rows::TOMBSTONE_WIDTH,
+        bad_tags: replay_log::half(r, 7) as usize * rows::BAD_TAG_WIDTH,
     }
 }
 
-// The state after a call, with what differs in it.
-fn called(s: State, device: Device, sessions: Sessions, length: usize, differ: usize) -> State {
-    let sizes = s.sizes;
-    State {
-        at: replay_log::past(s.at, length),
-        list: s.list,
-        calls: replay_log::past(s.calls, 1),
-        left: if s.left > 0 { s.left - 1 } else { 0 },
-        differ: replay_log::past(s.differ, differ),
-        all: replay_log::past(s.all, differ),
-        device,
-        sessions,
-        sizes,
-        said: 0,
-    }
+// A call of so many bytes was made, and so many things differ in it.
+fn called(s: &mut State, length: usize, differ: usize) {
+    s.at = replay_log::past(s.at, length);
+    s.calls = replay_log::past(s.calls, 1);
+    s.left = s.left.saturating_sub(1);
+    s.differ = replay_log::past(s.differ, differ);
+    s.all = replay_log::past(s.all, differ);
 }
 
-fn what_differs(what: u8, place: u16) {
+fn what_differs(what: Difference) {
     match what {
-        1 => text(STDERR, b"the answer"),
-        2 => text(STDERR, b"reply "),
-        3 => text(STDERR, b"the ciphertext of reply "),
-        4 => text(STDERR, b"action "),
-        5 => text(STDERR, b"the blob of action "),
-        _ => text(STDERR, b"what it wrote or read"),
+        Difference::Answer => text(STDERR, b"the answer"),
+        Difference::Reply(i) => numbered(b"reply ", i),
+        Difference::Ciphertext(i) => numbered(b"the ciphertext of reply ", i),
+        Difference::Action(i) => numbered(b"action ", i),
+        Difference::Blob(i) => numbered(b"the blob of action ", i),
+        Difference::Bytes => text(STDERR, b"what it wrote or read"),
     }
-    if 1 < what {
-        if what < 6 {
-            number(STDERR, place as u64);
-        }
-    }
+}
+
+fn numbered(name: &[u8], place: u16) {
+    text(STDERR, name);
+    number(STDERR, place as u64);
 }
 
 // `list 3, call 17, fetch: reply 0 differs`. Calls are counted from 1, replies and actions from 0.
-fn report(s: State, r: &[u8], seen: Seen) {
+fn report(s: &State, kind: Kind, what: Difference) {
     text(STDERR, b"list ");
     number(STDERR, s.list as u64);
     text(STDERR, b", call ");
     number(STDERR, replay_log::past(s.calls, 1) as u64);
     text(STDERR, b", ");
-    kind_name(STDERR, replay_log::byte(r, replay_log::KIND));
+    text(STDERR, kind.name());
     text(STDERR, b": ");
-    what_differs(seen.what, seen.place);
+    what_differs(what);
     text(STDERR, b" differs\n");
 }
 
 // `list 3: 300 calls, 0 differ`, once its last call was made.
-fn list_line(s: State) {
+fn list_line(s: &State) {
     if s.left > 0 {
         return;
     }
@@ -289,84 +166,16 @@ fn list_line(s: State) {
     text(STDOUT, b" differ\n");
 }
 
-// The state after a call; what differs in it is said on standard error.
-fn judge(
-    s: State,
-    o: Outcome,
-    r: &[u8],
-    own: &[u8; 13824],
-    carried: &[u8; 14592],
-    marks: &[u8; 48640],
-    cells: &[u8; 1056768],
-    replies: &[u8; 600000],
-    actions: &[u8; 22000],
-) -> State {
-    let z = s.sizes;
-    let d = o.device;
-    let e = o.exchange;
-    let a = o.answer;
-    let sessions = s.sessions;
-    let kept = with_session(sessions, replay_log::byte(r, replay_log::EXCHANGE), e);
-    let seen = compare(a, d, z, r, own, carried, marks, cells, replies, actions);
-    if seen.what > 0 {
-        report(s, r, seen);
-        return called(s, d, kept, r.len(), 1);
+// Makes the call of a record; what differs in it is said on standard error.
+fn make_call(s: &mut State, p: &mut Post, kind: Kind, r: &[u8]) {
+    let a = replay_rows::perform(p, kind, r);
+    match compare(a, p, r) {
+        Ok(()) => called(s, r.len(), 0),
+        Err(what) => {
+            report(s, kind, what);
+            called(s, r.len(), 1);
+        }
     }
-    called(s, d, kept, r.len(), 0)
-}
-
-fn make_call(
-    s: State,
-    r: &[u8],
-    contacts: &mut [u8; 2304],
-    own: &mut [u8; 13824],
-    carried: &mut [u8; 14592],
-    marks: &mut [u8; 48640],
-    cells: &mut [u8; 1056768],
-    prefixes: &mut [u8; 12600],
-    offers: &mut [u8; 26700],
-    replies: &mut [u8; 600000],
-    actions: &mut [u8; 22000],
-) -> State {
-    let d = s.device;
-    let sessions = s.sessions;
-    let z = s.sizes;
-    let e = session(sessions, replay_log::byte(r, replay_log::EXCHANGE));
-    let o = replay_rows::perform(
-        d, e, z, r, contacts, own, carried, marks, cells, prefixes, offers, replies, actions,
-    );
-    judge(s, o, r, own, carried, marks, cells, replies, actions)
-}
-
-fn step(
-    s: State,
-    sample: &[u8],
-    contacts: &mut [u8; 2304],
-    own: &mut [u8; 13824],
-    carried: &mut [u8; 14592],
-    marks: &mut [u8; 48640],
-    cells: &mut [u8; 1056768],
-    prefixes: &mut [u8; 12600],
-    offers: &mut [u8; 26700],
-    replies: &mut [u8; 600000],
-    actions: &mut [u8; 22000],
-    tally: &mut [u64; 320],
-) -> State {
-    let rest = cut(sample, s.at, sample.len());
-    let mark = replay_log::byte(rest, 0);
-    if mark == 76 {
-        return begin(s, rest);
-    }
-    if mark != 67 {
-        return ended(s);
-    }
-    let r = cut(rest, 0, replay_log::record_length(rest));
-    count(r, tally);
-    let next = make_call(
-        s, r, contacts, own, carried, marks, cells, prefixes, offers, replies, actions,
-    );
-    list_line(next);
-    next
 }
 
 // ---- the totals
@@ -387,25 +196,21 @@ fn between(last: bool) {
 
 fn kinds_line(tally: &[u64; 320]) {
     text(STDOUT, b"calls:");
-    let mut kind: u8 = 0;
-    while kind <= replay_log::LAST_KIND {
+    for (i, kind) in KINDS.iter().enumerate() {
         text(STDOUT, b" ");
-        kind_name(STDOUT, kind);
-        reached(tally, kind as usize);
-        between(kind == replay_log::LAST_KIND);
-        kind += 1;
+        text(STDOUT, kind.name());
+        reached(tally, i);
+        between(i + 1 == KINDS.len());
     }
 }
 
 fn refused_line(tally: &[u64; 320]) {
     text(STDOUT, b"refused:");
-    let mut n: u8 = 1;
-    while n <= replay_log::LAST_REFUSAL {
+    for n in 1..=replay_log::LAST_REFUSAL {
         text(STDOUT, b" number ");
         number(STDOUT, n as u64);
         reached(tally, SAID + n as usize);
         between(n == replay_log::LAST_REFUSAL);
-        n += 1;
     }
 }
 
@@ -460,50 +265,43 @@ fn totals(lists: usize, calls: usize, differ: usize, tally: &[u64; 320]) {
 
 // Makes all calls of a sample of right shape, and says how many differ.
 fn replay(sample: &[u8], tally: &mut [u64; 320]) -> usize {
-    let mut contacts = [0u8; 2304];
-    let mut own = [0u8; 13824];
-    let mut carried = [0u8; 14592];
-    let mut marks = [0u8; 48640];
-    let mut cells = [0u8; 1056768];
-    let mut prefixes = [0u8; 12600];
-    let mut offers = [0u8; 26700];
-    let mut replies = [0u8; 600000];
-    let mut actions = [0u8; 22000];
+    let mut post = Post::fresh();
     let mut s = start();
-    let mut turns = sample.len();
-    while turns > 0 {
-        turns -= 1;
-        let next = step(
-            s,
-            sample,
-            &mut contacts,
-            &mut own,
-            &mut carried,
-            &mut marks,
-            &mut cells,
-            &mut prefixes,
-            &mut offers,
-            &mut replies,
-            &mut actions,
-            tally,
-        );
-        if next.said > 0 {
-            return next.all;
+    for _ in 0..sample.len() {
+        let rest = cut(sample, s.at, sample.len());
+        match replay_log::byte(rest, 0) {
+            b'L' => {
+                s = begin(s, rest);
+                post.begin(sizes(rest));
+            }
+            b'C' => {
+                let r = cut(rest, 0, replay_log::record_length(rest));
+                let Some(kind) = Kind::from_byte(replay_log::byte(r, replay_log::KIND)) else {
+                    return s.all;
+                };
+                count(r, tally);
+                make_call(&mut s, &mut post, kind, r);
+                list_line(&s);
+            }
+            _ => return s.all,
         }
-        s = next;
     }
     s.all
 }
 
 // The whole shape is tested before the first call, so that nothing is printed of a sample that ends too soon.
 fn run(sample: &[u8]) {
-    let w = replay_log::walked(sample);
-    if w.said != 1 {
-        text(STDERR, b"the sample is of wrong shape at byte ");
-        number(STDERR, w.at as u64);
-        text(STDERR, b"\n");
-        return;
+    match replay_log::walked(sample) {
+        Ok(w) => run_whole(sample, w),
+        Err(at) => {
+            text(STDERR, b"the sample is of wrong shape at byte ");
+            number(STDERR, at as u64);
+            text(STDERR, b"\n");
+        }
     }
+}
+
+fn run_whole(sample: &[u8], w: Walk) {
     let mut tally = [0u64; 320];
     let differ = replay(sample, &mut tally);
     totals(w.lists, w.calls, differ, &tally);

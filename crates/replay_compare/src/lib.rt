@@ -2,31 +2,20 @@
 // of its row, and what the call wrote or read.
 #![tactic(auto)]
 
-use replay_calls::{Answer, Sizes};
-use replay_log::cut;
-use rows::Device;
-use saved::BlobAnswer;
-use table::Found;
+ghost use Rattle.std.specs.Prelude.{◌+◌, ◌≤◌};
 
-// Where the expected bytes go on, and what differs: 0 nothing, 1 the answer, 2 a reply, 3 its ciphertext, 4 an action, 5 the blob of
-// a row that was put, 6 the bytes that were written or read. Replies and actions are told by their place.
-#[derive(Drop)]
-pub struct Seen {
-    pub at: usize,
-    pub what: u8,
-    pub place: u16,
-}
+use replay_calls::{Answer, Post};
+use replay_log::{cap, cut, same};
 
-fn differs(what: u8, place: u16) -> Seen {
-    Seen { at: 0, what, place }
-}
-
-fn agrees(at: usize) -> Seen {
-    Seen {
-        at,
-        what: 0,
-        place: 0,
-    }
+// What differs. Replies and actions are told by their place.
+#[derive(Clone, Copy)]
+pub enum Difference {
+    Answer,
+    Reply(u16),
+    Ciphertext(u16), // of a reply
+    Action(u16),
+    Blob(u16), // of the row that an action put
+    Bytes, // that were written or read
 }
 
 fn same_answer(r: &[u8], a: Answer) -> bool {
@@ -39,227 +28,109 @@ fn same_answer(r: &[u8], a: Answer) -> bool {
         && a.searched == replay_log::half(r, replay_log::SEARCHED) as usize
 }
 
-// The ciphertext in an own cell: the length is that of the row which names the cell.
-fn own_part<'c>(d: Device, z: Sizes, cell: u16, own: &[u8; 13824], cells: &'c [u8]) -> &'c [u8] {
-    let key = octets::be2(cell);
-    let n = table::fit(own.len(), 54, d.own);
-    let len = match table::find(own, 54, n, 52, &key) {
-        Found::At(i) => replay_log::half(own, replay_log::cap(i, 256) * 54 + 50),
-        Found::Nothing => 0,
-    };
-    fetch::cell_part(cut(cells, 0, z.own_cells), cell, len)
-}
-
-fn carried_part<'c>(
-    d: Device,
-    z: Sizes,
-    cell: u16,
-    carried: &[u8; 14592],
-    cells: &'c [u8],
-) -> &'c [u8] {
-    let key = octets::be2(cell);
-    let n = table::fit(carried.len(), 57, d.carried);
-    let len = match table::find(carried, 57, n, 55, &key) {
-        Found::At(i) => replay_log::half(carried, replay_log::cap(i, 256) * 57 + 53),
-        Found::Nothing => 0,
-    };
-    fetch::cell_part(cut(cells, replay_calls::CARRIED_CELLS, z.cells), cell, len)
+// The length of the ciphertext in a cell: that of the row which names it, of rows with the cell at one place and the length at another.
+fn length_of(table: &[u8], width: usize, count: usize, cell: u16, at: usize, place: usize) -> u16
+    requires { (at + 2 ≤ width) × (width ≤ 57) × (place ≤ 57) }
+{
+    let n = table::fit(table.len(), width, count);
+    match table::find(table, width, n, at, &cell.to_be_bytes()) {
+        Some(i) => replay_log::half(table, cap(i, 256) * width + place),
+        None => 0,
+    }
 }
 
 // The ciphertext of a reply's cell: own from 0, carried from 256.
-fn sent<'c>(
-    d: Device,
-    z: Sizes,
-    cell: u16,
-    own: &[u8; 13824],
-    carried: &[u8; 14592],
-    cells: &'c [u8],
-) -> &'c [u8] {
+fn sent(p: &Post, cell: u16) -> &[u8] {
     if cell < 256 {
-        return own_part(d, z, cell, own, cells);
+        let len = length_of(&p.own, rows::OWN_WIDTH, p.device.own, cell, 52, 50);
+        return fetch::cell_part(cut(&p.own_cells, 0, p.sizes.own_cells), cell, len);
     }
-    carried_part(d, z, cell - 256, carried, cells)
+    let cell = cell - 256;
+    let len = length_of(
+        &p.carried,
+        rows::CARRIED_WIDTH,
+        p.device.carried,
+        cell,
+        55,
+        53,
+    );
+    fetch::cell_part(cut(&p.cells, 0, p.sizes.cells), cell, len)
 }
 
 // Everything but the cell, where there is one.
 fn same_reply(ours: &[u8], theirs: &[u8]) -> bool {
     if replay_log::byte(ours, 0) == 1 {
-        return replay_log::byte(theirs, 0) == 1
-            && replay_log::same(cut(ours, 3, 37), cut(theirs, 3, 37));
+        return replay_log::byte(theirs, 0) == 1 && same(cut(ours, 3, 37), cut(theirs, 3, 37));
     }
-    replay_log::same(ours, theirs)
+    same(ours, theirs)
 }
 
-fn see_reply(
-    s: Seen,
-    i: u16,
-    d: Device,
-    z: Sizes,
-    r: &[u8],
-    own: &[u8; 13824],
-    carried: &[u8; 14592],
-    cells: &[u8],
-    replies: &[u8],
-) -> Seen {
-    let ours = cut(replies, i as usize * 40, 40);
-    let theirs = cut(
-        r,
-        replay_log::past(replay_log::replies_at(r), i as usize * 40),
-        40,
-    );
+// Row i of a run of rows that begins at a place.
+fn row_of(area: &[u8], from: usize, width: usize, i: u16) -> &[u8] {
+    let w = cap(width, 40);
+    cut(area, replay_log::past(from, i as usize * w), w)
+}
+
+// The reply at i, where the expected bytes go on at `at`: answers where they go on behind it.
+fn see_reply(at: usize, i: u16, p: &Post, r: &[u8]) -> Result<usize, Difference> {
+    let ours = row_of(&p.replies, 0, rows::REPLY_WIDTH, i);
+    let theirs = row_of(r, replay_log::replies_at(r), rows::REPLY_WIDTH, i);
     if !same_reply(ours, theirs) {
-        return differs(2, i);
+        return Err(Difference::Reply(i));
     }
     if replay_log::byte(ours, 0) != 1 {
-        return s;
+        return Ok(at);
     }
     let n = replay_log::half(theirs, 1) as usize;
-    let ct = sent(d, z, replay_log::half(ours, 1), own, carried, cells);
-    if replay_log::same(ct, cut(r, s.at, n)) {
-        return agrees(replay_log::past(s.at, n));
+    if same(sent(p, replay_log::half(ours, 1)), cut(r, at, n)) {
+        return Ok(replay_log::past(at, n));
     }
-    differs(3, i)
-}
-
-fn see_replies(
-    d: Device,
-    z: Sizes,
-    r: &[u8],
-    own: &[u8; 13824],
-    carried: &[u8; 14592],
-    cells: &[u8],
-    replies: &[u8],
-) -> Seen {
-    let n = replay_log::half(r, replay_log::REPLIES);
-    let mut s = agrees(replay_log::bytes_at(r));
-    let mut i: u16 = 0;
-    while i < n {
-        let next = see_reply(s, i, d, z, r, own, carried, cells, replies);
-        if next.what > 0 {
-            return next;
-        }
-        s = next;
-        i += 1;
-    }
-    s
-}
-
-fn same_blob(blob: &[u8; 2110], n: usize, theirs: &[u8]) -> bool {
-    replay_log::same(cut(blob, 0, n), theirs)
+    Err(Difference::Ciphertext(i))
 }
 
 // The blob of a row that was put; of no bytes where no row has the slot.
-fn same_put(
-    d: Device,
-    z: Sizes,
-    slot: u64,
-    carried: &[u8; 14592],
-    marks: &[u8],
-    cells: &[u8],
-    theirs: &[u8],
-) -> bool {
-    let mut blob = [0u8; 2110];
-    let tombstones = cut(marks, 0, z.tombstones);
-    let held = cut(cells, replay_calls::CARRIED_CELLS, z.cells);
-    match saved::row_blob(d, slot, carried, tombstones, held, &mut blob) {
-        BlobAnswer::Wrote(n) => same_blob(&blob, n, theirs),
-        BlobAnswer::Missing => theirs.len() == 0,
-        BlobAnswer::Refused(_) => false,
+fn same_put(p: &Post, slot: u64, theirs: &[u8]) -> bool {
+    let mut blob = [0u8; state::BLOB];
+    let tombstones = cut(&p.tombstones, 0, p.sizes.tombstones);
+    let cells = cut(&p.cells, 0, p.sizes.cells);
+    match saved::row_blob(p.device, slot, &p.carried, tombstones, cells, &mut blob) {
+        Ok(Some(n)) => same(cut(&blob, 0, n), theirs),
+        Ok(None) => theirs.is_empty(),
+        Err(_) => false,
     }
 }
 
-fn see_action(
-    s: Seen,
-    i: u16,
-    d: Device,
-    z: Sizes,
-    r: &[u8],
-    carried: &[u8; 14592],
-    marks: &[u8],
-    cells: &[u8],
-    actions: &[u8],
-) -> Seen {
-    let ours = cut(actions, i as usize * 13, 13);
-    let theirs = cut(
-        r,
-        replay_log::past(replay_log::actions_at(r), i as usize * 15),
-        15,
-    );
-    if !replay_log::same(ours, cut(theirs, 0, 13)) {
-        return differs(4, i);
+// The same, of the action at i. A record's action has two bytes more, the length of the blob.
+fn see_action(at: usize, i: u16, p: &Post, r: &[u8]) -> Result<usize, Difference> {
+    let ours = row_of(&p.actions, 0, rows::ACTION_WIDTH, i);
+    let theirs = row_of(r, replay_log::actions_at(r), rows::ACTION_WIDTH + 2, i);
+    if !same(ours, cut(theirs, 0, rows::ACTION_WIDTH)) {
+        return Err(Difference::Action(i));
     }
     if replay_log::byte(ours, 0) > 0 {
-        return s;
+        return Ok(at);
     }
-    let n = replay_log::half(theirs, 13) as usize;
-    if same_put(
-        d,
-        z,
-        replay_log::long(ours, 1),
-        carried,
-        marks,
-        cells,
-        cut(r, s.at, n),
-    ) {
-        return agrees(replay_log::past(s.at, n));
+    let n = replay_log::half(theirs, rows::ACTION_WIDTH) as usize;
+    if same_put(p, replay_log::long(ours, 1), cut(r, at, n)) {
+        return Ok(replay_log::past(at, n));
     }
-    differs(5, i)
-}
-
-fn see_actions(
-    seen: Seen,
-    d: Device,
-    z: Sizes,
-    r: &[u8],
-    carried: &[u8; 14592],
-    marks: &[u8],
-    cells: &[u8],
-    actions: &[u8],
-) -> Seen {
-    let n = replay_log::half(r, replay_log::ACTIONS);
-    let mut s = seen;
-    let mut i: u16 = 0;
-    while i < n {
-        let next = see_action(s, i, d, z, r, carried, marks, cells, actions);
-        if next.what > 0 {
-            return next;
-        }
-        s = next;
-        i += 1;
-    }
-    s
+    Err(Difference::Blob(i))
 }
 
 // What the call wrote or read is all of the expected bytes that are left.
-fn see_bytes(s: Seen, r: &[u8], length: usize, area: &[u8]) -> Seen {
-    if replay_log::same(cut(area, 0, length), cut(r, s.at, r.len())) {
-        return s;
-    }
-    differs(6, 0)
-}
-
-pub fn compare(
-    a: Answer,
-    d: Device,
-    z: Sizes,
-    r: &[u8],
-    own: &[u8; 13824],
-    carried: &[u8; 14592],
-    marks: &[u8; 48640],
-    cells: &[u8; 1056768],
-    replies: &[u8; 600000],
-    actions: &[u8; 22000],
-) -> Seen {
+pub fn compare(a: Answer, p: &Post, r: &[u8]) -> Result<(), Difference> {
     if !same_answer(r, a) {
-        return differs(1, 0);
+        return Err(Difference::Answer);
     }
-    let s = see_replies(d, z, r, own, carried, cells, replies);
-    if s.what > 0 {
-        return s;
+    let mut at = replay_log::bytes_at(r);
+    for i in 0..replay_log::half(r, replay_log::REPLIES) {
+        at = see_reply(at, i, p, r)?;
     }
-    let s = see_actions(s, d, z, r, carried, marks, cells, actions);
-    if s.what > 0 {
-        return s;
+    for i in 0..replay_log::half(r, replay_log::ACTIONS) {
+        at = see_action(at, i, p, r)?;
     }
-    see_bytes(s, r, a.length, replies)
+    if same(cut(&p.replies, 0, a.length), cut(r, at, r.len())) {
+        return Ok(());
+    }
+    Err(Difference::Bytes)
 }

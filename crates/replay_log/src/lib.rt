@@ -11,11 +11,9 @@
 
 ghost use Rattle.std.specs.Prelude.{◌≤◌};
 
-use state::{ByteRead, U32Read, U64Read};
-
 // ---- places in the head of a call
 
-// Up to LAST_KIND, as `kind_name` of the program has them.
+// The byte of a `Kind`.
 pub const KIND: usize = 1;
 
 // Which of the three exchanges.
@@ -80,9 +78,96 @@ pub const SEARCHED: usize = 110;
 
 pub const HEAD: usize = 112;
 
-// ---- kinds of calls, and what they say, in the library's numbers (crates/host_answers)
+// ---- kinds of calls, by their bytes
 
-pub const LAST_KIND: u8 = 20;
+#[derive(Clone, Copy, PartialEq, Eq)]
+pub enum Kind {
+    Contact,
+    Setting,
+    Clock,
+    FreshExchange,
+    Envelope,
+    Inventory,
+    Fetch,
+    CustodyCode,
+    Tomb,
+    Opened,
+    Failed,
+    StoredTombstone,
+    OwnEnvelope,
+    Maintenance,
+    InventoryOfOurs,
+    Window,
+    RowBlob,
+    RowRead,
+    Save,
+    Load,
+    Page,
+}
+
+// In the order of their bytes, from 0 on.
+pub const KINDS: [Kind; 21] = [
+    Kind::Contact,
+    Kind::Setting,
+    Kind::Clock,
+    Kind::FreshExchange,
+    Kind::Envelope,
+    Kind::Inventory,
+    Kind::Fetch,
+    Kind::CustodyCode,
+    Kind::Tomb,
+    Kind::Opened,
+    Kind::Failed,
+    Kind::StoredTombstone,
+    Kind::OwnEnvelope,
+    Kind::Maintenance,
+    Kind::InventoryOfOurs,
+    Kind::Window,
+    Kind::RowBlob,
+    Kind::RowRead,
+    Kind::Save,
+    Kind::Load,
+    Kind::Page,
+];
+
+impl Kind {
+    pub fn from_byte(byte: u8) -> Option<Kind> {
+        let i = byte as usize;
+        if i < KINDS.len() {
+            return Some(KINDS[i]);
+        }
+        None
+    }
+
+    // Its name, as the programs write it.
+    pub fn name(self) -> &'static [u8] {
+        match self {
+            Kind::Contact => b"contact",
+            Kind::Setting => b"setting",
+            Kind::Clock => b"clock",
+            Kind::FreshExchange => b"fresh exchange",
+            Kind::Envelope => b"envelope",
+            Kind::Inventory => b"inventory received",
+            Kind::Fetch => b"fetch",
+            Kind::CustodyCode => b"custody code",
+            Kind::Tomb => b"tomb",
+            Kind::Opened => b"report opened",
+            Kind::Failed => b"report failed",
+            Kind::StoredTombstone => b"stored tombstone",
+            Kind::OwnEnvelope => b"own envelope",
+            Kind::Maintenance => b"maintenance",
+            Kind::InventoryOfOurs => b"inventory of ours",
+            Kind::Window => b"window",
+            Kind::RowBlob => b"row blob",
+            Kind::RowRead => b"row read",
+            Kind::Save => b"save",
+            Kind::Load => b"load",
+            Kind::Page => b"page",
+        }
+    }
+}
+
+// ---- what the calls say, in the library's numbers (crates/host_answers)
 
 // The last number of a refusal; 1 is the first.
 pub const LAST_REFUSAL: u8 = 13;
@@ -109,7 +194,7 @@ pub const NEVER_SAID: u8 = 255;
 pub fn cap(n: usize, most: usize) -> usize
     ensures { result ≤ most }
 {
-    if n < most { n } else { most }
+    n.min(most)
 }
 
 // The sum of two places; both are below 2^40 in a sample.
@@ -132,10 +217,7 @@ pub fn cut(s: &[u8], at: usize, n: usize) -> &[u8] {
 }
 
 pub fn byte(r: &[u8], at: usize) -> u8 {
-    match state::byte_at(r, at) {
-        ByteRead::Got(b) => b,
-        ByteRead::Short => 0,
-    }
+    state::byte_at(r, at).unwrap_or(0)
 }
 
 pub fn half(r: &[u8], at: usize) -> u16 {
@@ -149,17 +231,11 @@ pub fn half(r: &[u8], at: usize) -> u16 {
 }
 
 pub fn word(r: &[u8], at: usize) -> u32 {
-    match state::u32_at(r, at) {
-        U32Read::Got(n) => n,
-        U32Read::Short => 0,
-    }
+    state::u32_at(r, at).unwrap_or(0)
 }
 
 pub fn long(r: &[u8], at: usize) -> u64 {
-    match state::u64_at(r, at) {
-        U64Read::Got(n) => n,
-        U64Read::Short => 0,
-    }
+    state::u64_at(r, at).unwrap_or(0)
 }
 
 pub fn size(r: &[u8], at: usize) -> usize {
@@ -167,9 +243,7 @@ pub fn size(r: &[u8], at: usize) -> usize {
 }
 
 pub fn sixteen(r: &[u8], at: usize) -> [u8; 16] {
-    let read = state::array_at(r, at);
-    let bytes = read.bytes;
-    bytes
+    state::array_at(r, at).unwrap_or([0u8; 16])
 }
 
 pub fn same(a: &[u8], b: &[u8]) -> bool {
@@ -207,34 +281,22 @@ pub fn record_length(r: &[u8]) -> usize {
 
 // ---- the shape of a sample
 
-// Where the walk stands, how many lists and calls it passed and how many calls of this list are left. said: 0 go on, 1 the sample
-// ended as it should, 2 it is of wrong shape.
+// Where the walk stands, how many lists and calls it passed and how many calls of this list are left.
 #[derive(Clone, Copy)]
 pub struct Walk {
     pub at: usize,
     pub lists: usize,
     pub calls: usize,
     pub left: usize,
-    pub said: u8,
-}
-
-fn wrong(w: Walk) -> Walk {
-    Walk {
-        at: w.at,
-        lists: w.lists,
-        calls: w.calls,
-        left: w.left,
-        said: 2,
-    }
 }
 
 // May the byte be the verification of a contact call, and so on?
-fn small_fits(kind: u8, small: u8) -> bool {
+fn small_fits(kind: Kind, small: u8) -> bool {
     match kind {
-        0 => small < 3,
-        1 => small < 2,
-        7 => small < 5,
-        12 => small == 73 || small == 82,
+        Kind::Contact => small < 3,
+        Kind::Setting => small < 2,
+        Kind::CustodyCode => small < 5,
+        Kind::OwnEnvelope => small == b'I' || small == b'R',
         _ => true,
     }
 }
@@ -244,38 +306,28 @@ fn is_call(r: &[u8]) -> bool {
     if r.len() < HEAD {
         return false;
     }
-    let kind = byte(r, KIND);
-    if LAST_KIND < kind {
+    let Some(kind) = Kind::from_byte(byte(r, KIND)) else {
         return false;
-    }
+    };
     if 2 < byte(r, EXCHANGE) {
         return false;
     }
-    if kind == 12 {
-        if size(r, FRONT) != 32 {
-            return false;
-        }
+    if kind == Kind::OwnEnvelope && size(r, FRONT) != 32 {
+        return false;
     }
-    if small_fits(kind, byte(r, SMALL)) {
-        return record_length(r) <= r.len();
-    }
-    false
+    small_fits(kind, byte(r, SMALL)) && record_length(r) <= r.len()
 }
 
-fn walk_call(r: &[u8], w: Walk) -> Walk {
-    if w.left == 0 {
-        return wrong(w);
+fn walk_call(r: &[u8], w: Walk) -> Option<Walk> {
+    if w.left == 0 || !is_call(r) {
+        return None;
     }
-    if is_call(r) {
-        return Walk {
-            at: past(w.at, record_length(r)),
-            lists: w.lists,
-            calls: past(w.calls, 1),
-            left: w.left - 1,
-            said: 0,
-        };
-    }
-    wrong(w)
+    Some(Walk {
+        at: past(w.at, record_length(r)),
+        calls: past(w.calls, 1),
+        left: w.left - 1,
+        ..w
+    })
 }
 
 // Do the bytes begin with a list that the program has the areas for?
@@ -298,20 +350,16 @@ fn is_list(r: &[u8]) -> bool {
     half(r, 9) > 0
 }
 
-fn walk_list(r: &[u8], w: Walk) -> Walk {
-    if w.left > 0 {
-        return wrong(w);
+fn walk_list(r: &[u8], w: Walk) -> Option<Walk> {
+    if w.left > 0 || !is_list(r) {
+        return None;
     }
-    if is_list(r) {
-        return Walk {
-            at: past(w.at, 11),
-            lists: past(w.lists, 1),
-            calls: w.calls,
-            left: half(r, 9) as usize,
-            said: 0,
-        };
-    }
-    wrong(w)
+    Some(Walk {
+        at: past(w.at, 11),
+        lists: past(w.lists, 1),
+        left: half(r, 9) as usize,
+        ..w
+    })
 }
 
 // The end is the last of the sample, and says how many lists and calls there are: some.
@@ -331,49 +379,35 @@ fn is_end(r: &[u8], w: Walk) -> bool {
     w.calls == size(r, 3)
 }
 
-fn walk_end(r: &[u8], w: Walk) -> Walk {
-    if is_end(r, w) {
-        return Walk {
-            at: w.at,
-            lists: w.lists,
-            calls: w.calls,
-            left: 0,
-            said: 1,
-        };
-    }
-    wrong(w)
-}
-
-fn walk_one(s: &[u8], w: Walk) -> Walk {
-    let r = cut(s, w.at, s.len());
+// Past a call or a list; none where neither begins there.
+fn walk_one(r: &[u8], w: Walk) -> Option<Walk> {
     match byte(r, 0) {
-        67 => walk_call(r, w),
-        69 => walk_end(r, w),
-        76 => walk_list(r, w),
-        _ => wrong(w),
+        b'C' => walk_call(r, w),
+        b'L' => walk_list(r, w),
+        _ => None,
     }
 }
 
-// The walk over a sample; `at` is the place of the record at which it ended.
-pub fn walked(s: &[u8]) -> Walk {
+// The walk over a sample of right shape to its end; or the place of the record at which its shape is wrong.
+pub fn walked(s: &[u8]) -> Result<Walk, usize> {
     let mut w = Walk {
         at: 8,
         lists: 0,
         calls: 0,
         left: 0,
-        said: 0,
     };
     if !same(cut(s, 0, 8), b"SAMPLE 3") {
-        return wrong(w);
+        return Err(w.at);
     }
-    let mut turns = s.len();
-    while turns > 0 {
-        turns -= 1;
-        let next = walk_one(s, w);
-        if next.said > 0 {
-            return next;
+    for _ in 0..s.len() {
+        let r = cut(s, w.at, s.len());
+        if byte(r, 0) == b'E' && is_end(r, w) {
+            return Ok(w);
         }
+        let Some(next) = walk_one(r, w) else {
+            return Err(w.at);
+        };
         w = next;
     }
-    wrong(w)
+    Err(w.at)
 }

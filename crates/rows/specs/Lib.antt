@@ -1,3 +1,5 @@
 pub mod Rows
 pub mod Proper
 pub mod Device
+pub mod Shapes
+pub mod Laws

@@ -2,13 +2,17 @@
 // of full range or a run of bytes, so that any bytes are a row.
 #![tactic(auto)]
 
-ghost use Rattle.std.specs.Prelude.{◌≡◌, ◌+◌, ◌≤◌, length};
+ghost use Rattle.std.specs.Prelude.{◌≡◌, ◌+◌, ◌≤◌, length, refl};
 ghost use Rattle.octets.specs.Bytes.{part, splice, num, be};
 ghost use Rattle.rows.specs.Rows.{carried_width, carried_of, carried_bytes, own_width, own_of, own_bytes, tombstone_width, tombstone_of, tombstone_bytes, contact_width, contact_of, contact_bytes, bad_tag_width, bad_tag_of, bad_tag_bytes, offer_width, offer_of, offer_bytes, reply_width, reply_of, reply_bytes, action_width, action_of, action_bytes, reachable_width, reachable_of, reachable_bytes};
+ghost use Rattle.rows.specs.Rows.{carried_codec, own_codec, tombstone_codec, contact_codec, bad_tag_codec, offer_codec, reply_codec, action_codec, reachable_codec};
+ghost use Rattle.rows.specs.Proper.{ProperCarried, ProperOwn, ProperTombstone, ProperContact, ProperBadTag, ProperOffer, ProperReply, ProperAction, ProperReachable};
+ghost use Rattle.rows.specs.Laws.{carried_laws, own_laws, tombstone_laws, contact_laws, bad_tag_laws, offer_laws, reply_laws, action_laws, reachable_laws};
 ghost use Rattle.rows.specs.Device.{fresh_device, closed_exchange, fresh_exchange};
 
 use courier_core::ContactId;
 use state::CourierConfig;
+pub use table::typed::Row;
 
 // A carried envelope. Its ciphertext is the first len bytes of its cell.
 #[derive(Clone, Copy)]
@@ -104,17 +108,10 @@ pub struct Device {
     pub next_slot: u64,
 }
 
-// Whom an exchange was opened for.
-#[derive(Clone, Copy)]
-pub enum Peer {
-    Nobody,
-    Is(ContactId),
-}
-
-// One session's exchange; its listed prefixes and its offers lie in areas beside it.
+// One session's exchange, and the peer that it was opened for; its listed prefixes and its offers lie in areas beside it.
 #[derive(Clone, Copy)]
 pub struct Exchange {
-    pub peer: Peer,
+    pub peer: Option<ContactId>,
     pub complete: bool,
     pub listed: usize,
     pub offered: usize,
@@ -144,7 +141,7 @@ impl Exchange {
         ensures { result ≡ closed_exchange }
     {
         Exchange {
-            peer: Peer::Nobody,
+            peer: None,
             complete: false,
             listed: 0,
             offered: 0,
@@ -156,32 +153,12 @@ impl Exchange {
         ensures { result ≡ fresh_exchange peer }
     {
         Exchange {
-            peer: Peer::Is(peer),
+            peer: Some(peer),
             complete: false,
             listed: 0,
             offered: 0,
         }
     }
-}
-
-// ---- fields that octets has no function for
-
-// The body of a reply.
-fn get_37(area: &[u8], at: usize) -> [u8; 37]
-    requires { at + 37 ≤ length area.now }
-    ensures { result ≡ part area.now at 37 }
-{
-    let mut t = [0u8; 37];
-    octets::copy_in(&mut t, 0, &area[at..at + 37]);
-    t
-}
-
-// A tag, a commitment or a secret.
-fn put_37(area: &mut [u8], at: usize, v: [u8; 37])
-    requires { at + 37 ≤ length area.old }
-    ensures { (area.new ≡ splice area.old at v) × (length v ≡ 37) }
-{
-    octets::copy_in(area, at, &v);
 }
 
 // ---- how many bytes a row has
@@ -204,251 +181,388 @@ pub const ACTION_WIDTH: usize = 13;
 
 pub const REACHABLE_WIDTH: usize = 30;
 
-// ---- rows read at a place of an area
+// ---- each row type: its bytes, and the row of an area's bytes
+
+impl Row<CARRIED_WIDTH> for Carried {
+    ghost codec = { carried_codec };
+
+    ghost Proper = { ProperCarried };
+
+    fn read(area: &[u8], at: usize) -> Carried {
+        let b = &area[at..at + CARRIED_WIDTH];
+        Carried {
+            slot: octets::get_u64(b, 0),
+            depositor: ContactId(octets::get_u64(b, 8)),
+            tag: octets::get_array(b, 16),
+            c: octets::get_array(b, 32),
+            expiry_min: octets::get_u32(b, 48),
+            copies: octets::get_u8(b, 52),
+            len: octets::get_u16(b, 53),
+            cell: octets::get_u16(b, 55),
+        }
+    }
+
+    fn bytes(self) -> [u8; CARRIED_WIDTH] {
+        let mut b = [0u8; CARRIED_WIDTH];
+        octets::put_u64(&mut b, 0, self.slot);
+        octets::put_u64(&mut b, 8, self.depositor.0);
+        octets::put_array(&mut b, 16, self.tag);
+        octets::put_array(&mut b, 32, self.c);
+        octets::put_u32(&mut b, 48, self.expiry_min);
+        octets::put_u8(&mut b, 52, self.copies);
+        octets::put_u16(&mut b, 53, self.len);
+        octets::put_u16(&mut b, 55, self.cell);
+        b
+    }
+
+    ghost wide = { refl };
+
+    ghost laws = { carried_laws };
+}
+
+impl Row<OWN_WIDTH> for Own {
+    ghost codec = { own_codec };
+
+    ghost Proper = { ProperOwn };
+
+    fn read(area: &[u8], at: usize) -> Own {
+        let b = &area[at..at + OWN_WIDTH];
+        Own {
+            contact: ContactId(octets::get_u64(b, 0)),
+            msgno: octets::get_u32(b, 8),
+            tag: octets::get_array(b, 12),
+            s: octets::get_array(b, 28),
+            expiry_min: octets::get_u32(b, 44),
+            copies: octets::get_u8(b, 48),
+            renewed: octets::get_u8(b, 49),
+            len: octets::get_u16(b, 50),
+            cell: octets::get_u16(b, 52),
+        }
+    }
+
+    fn bytes(self) -> [u8; OWN_WIDTH] {
+        let mut b = [0u8; OWN_WIDTH];
+        octets::put_u64(&mut b, 0, self.contact.0);
+        octets::put_u32(&mut b, 8, self.msgno);
+        octets::put_array(&mut b, 12, self.tag);
+        octets::put_array(&mut b, 28, self.s);
+        octets::put_u32(&mut b, 44, self.expiry_min);
+        octets::put_u8(&mut b, 48, self.copies);
+        octets::put_u8(&mut b, 49, self.renewed);
+        octets::put_u16(&mut b, 50, self.len);
+        octets::put_u16(&mut b, 52, self.cell);
+        b
+    }
+
+    ghost wide = { refl };
+
+    ghost laws = { own_laws };
+}
+
+impl Row<TOMBSTONE_WIDTH> for Tombstone {
+    ghost codec = { tombstone_codec };
+
+    ghost Proper = { ProperTombstone };
+
+    fn read(area: &[u8], at: usize) -> Tombstone {
+        let b = &area[at..at + TOMBSTONE_WIDTH];
+        Tombstone {
+            slot: octets::get_u64(b, 0),
+            tag: octets::get_array(b, 8),
+            s: octets::get_array(b, 24),
+            expiry_min: octets::get_u32(b, 40),
+        }
+    }
+
+    fn bytes(self) -> [u8; TOMBSTONE_WIDTH] {
+        let mut b = [0u8; TOMBSTONE_WIDTH];
+        octets::put_u64(&mut b, 0, self.slot);
+        octets::put_array(&mut b, 8, self.tag);
+        octets::put_array(&mut b, 24, self.s);
+        octets::put_u32(&mut b, 40, self.expiry_min);
+        b
+    }
+
+    ghost wide = { refl };
+
+    ghost laws = { tombstone_laws };
+}
+
+impl Row<CONTACT_WIDTH> for Contact {
+    ghost codec = { contact_codec };
+
+    ghost Proper = { ProperContact };
+
+    fn read(area: &[u8], at: usize) -> Contact {
+        let b = &area[at..at + CONTACT_WIDTH];
+        Contact {
+            id: ContactId(octets::get_u64(b, 0)),
+            verification: octets::get_u8(b, 8),
+        }
+    }
+
+    fn bytes(self) -> [u8; CONTACT_WIDTH] {
+        let mut b = [0u8; CONTACT_WIDTH];
+        octets::put_u64(&mut b, 0, self.id.0);
+        octets::put_u8(&mut b, 8, self.verification);
+        b
+    }
+
+    ghost wide = { refl };
+
+    ghost laws = { contact_laws };
+}
+
+impl Row<BAD_TAG_WIDTH> for BadTag {
+    ghost codec = { bad_tag_codec };
+
+    ghost Proper = { ProperBadTag };
+
+    fn read(area: &[u8], at: usize) -> BadTag {
+        let b = &area[at..at + BAD_TAG_WIDTH];
+        BadTag {
+            peer: ContactId(octets::get_u64(b, 0)),
+            tag: octets::get_array(b, 8),
+        }
+    }
+
+    fn bytes(self) -> [u8; BAD_TAG_WIDTH] {
+        let mut b = [0u8; BAD_TAG_WIDTH];
+        octets::put_u64(&mut b, 0, self.peer.0);
+        octets::put_array(&mut b, 8, self.tag);
+        b
+    }
+
+    ghost wide = { refl };
+
+    ghost laws = { bad_tag_laws };
+}
+
+impl Row<OFFER_WIDTH> for Offer {
+    ghost codec = { offer_codec };
+
+    ghost Proper = { ProperOffer };
+
+    fn read(area: &[u8], at: usize) -> Offer {
+        let b = &area[at..at + OFFER_WIDTH];
+        Offer {
+            tag: octets::get_array(b, 0),
+            copies: octets::get_u8(b, 16),
+        }
+    }
+
+    fn bytes(self) -> [u8; OFFER_WIDTH] {
+        let mut b = [0u8; OFFER_WIDTH];
+        octets::put_array(&mut b, 0, self.tag);
+        octets::put_u8(&mut b, 16, self.copies);
+        b
+    }
+
+    ghost wide = { refl };
+
+    ghost laws = { offer_laws };
+}
+
+impl Row<REPLY_WIDTH> for Reply {
+    ghost codec = { reply_codec };
+
+    ghost Proper = { ProperReply };
+
+    fn read(area: &[u8], at: usize) -> Reply {
+        let b = &area[at..at + REPLY_WIDTH];
+        Reply {
+            kind: octets::get_u8(b, 0),
+            cell: octets::get_u16(b, 1),
+            body: octets::get_array(b, 3),
+        }
+    }
+
+    fn bytes(self) -> [u8; REPLY_WIDTH] {
+        let mut b = [0u8; REPLY_WIDTH];
+        octets::put_u8(&mut b, 0, self.kind);
+        octets::put_u16(&mut b, 1, self.cell);
+        octets::put_array(&mut b, 3, self.body);
+        b
+    }
+
+    ghost wide = { refl };
+
+    ghost laws = { reply_laws };
+}
+
+impl Row<ACTION_WIDTH> for Action {
+    ghost codec = { action_codec };
+
+    ghost Proper = { ProperAction };
+
+    fn read(area: &[u8], at: usize) -> Action {
+        let b = &area[at..at + ACTION_WIDTH];
+        Action {
+            kind: octets::get_u8(b, 0),
+            number: octets::get_u64(b, 1),
+            msgno: octets::get_u32(b, 9),
+        }
+    }
+
+    fn bytes(self) -> [u8; ACTION_WIDTH] {
+        let mut b = [0u8; ACTION_WIDTH];
+        octets::put_u8(&mut b, 0, self.kind);
+        octets::put_u64(&mut b, 1, self.number);
+        octets::put_u32(&mut b, 9, self.msgno);
+        b
+    }
+
+    ghost wide = { refl };
+
+    ghost laws = { action_laws };
+}
+
+impl Row<REACHABLE_WIDTH> for Reachable {
+    ghost codec = { reachable_codec };
+
+    ghost Proper = { ProperReachable };
+
+    fn read(area: &[u8], at: usize) -> Reachable {
+        let b = &area[at..at + REACHABLE_WIDTH];
+        Reachable {
+            contact: ContactId(octets::get_u64(b, 0)),
+            dir: octets::get_u8(b, 8),
+            generation: octets::get_u8(b, 9),
+            idx: octets::get_u32(b, 10),
+            tag: octets::get_array(b, 14),
+        }
+    }
+
+    fn bytes(self) -> [u8; REACHABLE_WIDTH] {
+        let mut b = [0u8; REACHABLE_WIDTH];
+        octets::put_u64(&mut b, 0, self.contact.0);
+        octets::put_u8(&mut b, 8, self.dir);
+        octets::put_u8(&mut b, 9, self.generation);
+        octets::put_u32(&mut b, 10, self.idx);
+        octets::put_array(&mut b, 14, self.tag);
+        b
+    }
+
+    ghost wide = { refl };
+
+    ghost laws = { reachable_laws };
+}
+
+// ---- the same by name
 
 pub fn carried_at(area: &[u8], at: usize) -> Carried
     requires { at + carried_width ≤ length area.now }
     ensures { result ≡ carried_of (part area.now at carried_width) }
 {
-    let b = &area[at..at + CARRIED_WIDTH];
-    let tag = octets::get_16(b, 16);
-    let c = octets::get_16(b, 32);
-    Carried {
-        slot: octets::get_u64(b, 0),
-        depositor: ContactId(octets::get_u64(b, 8)),
-        tag,
-        c,
-        expiry_min: octets::get_u32(b, 48),
-        copies: octets::get_u8(b, 52),
-        len: octets::get_u16(b, 53),
-        cell: octets::get_u16(b, 55),
-    }
+    Carried::read(area, at)
+}
+
+pub fn carried_bytes(row: Carried) -> [u8; CARRIED_WIDTH]
+    ensures { result ≡ carried_bytes row }
+{
+    row.bytes()
 }
 
 pub fn own_at(area: &[u8], at: usize) -> Own
     requires { at + own_width ≤ length area.now }
     ensures { result ≡ own_of (part area.now at own_width) }
 {
-    let b = &area[at..at + OWN_WIDTH];
-    let tag = octets::get_16(b, 12);
-    let s = octets::get_16(b, 28);
-    Own {
-        contact: ContactId(octets::get_u64(b, 0)),
-        msgno: octets::get_u32(b, 8),
-        tag,
-        s,
-        expiry_min: octets::get_u32(b, 44),
-        copies: octets::get_u8(b, 48),
-        renewed: octets::get_u8(b, 49),
-        len: octets::get_u16(b, 50),
-        cell: octets::get_u16(b, 52),
-    }
+    Own::read(area, at)
+}
+
+pub fn own_bytes(row: Own) -> [u8; OWN_WIDTH]
+    ensures { result ≡ own_bytes row }
+{
+    row.bytes()
 }
 
 pub fn tombstone_at(area: &[u8], at: usize) -> Tombstone
     requires { at + tombstone_width ≤ length area.now }
     ensures { result ≡ tombstone_of (part area.now at tombstone_width) }
 {
-    let b = &area[at..at + TOMBSTONE_WIDTH];
-    let tag = octets::get_16(b, 8);
-    let s = octets::get_16(b, 24);
-    Tombstone {
-        slot: octets::get_u64(b, 0),
-        tag,
-        s,
-        expiry_min: octets::get_u32(b, 40),
-    }
+    Tombstone::read(area, at)
+}
+
+pub fn tombstone_bytes(row: Tombstone) -> [u8; TOMBSTONE_WIDTH]
+    ensures { result ≡ tombstone_bytes row }
+{
+    row.bytes()
 }
 
 pub fn contact_at(area: &[u8], at: usize) -> Contact
     requires { at + contact_width ≤ length area.now }
     ensures { result ≡ contact_of (part area.now at contact_width) }
 {
-    let b = &area[at..at + CONTACT_WIDTH];
-    Contact {
-        id: ContactId(octets::get_u64(b, 0)),
-        verification: octets::get_u8(b, 8),
-    }
+    Contact::read(area, at)
+}
+
+pub fn contact_bytes(row: Contact) -> [u8; CONTACT_WIDTH]
+    ensures { result ≡ contact_bytes row }
+{
+    row.bytes()
 }
 
 pub fn bad_tag_at(area: &[u8], at: usize) -> BadTag
     requires { at + bad_tag_width ≤ length area.now }
     ensures { result ≡ bad_tag_of (part area.now at bad_tag_width) }
 {
-    let b = &area[at..at + BAD_TAG_WIDTH];
-    let tag = octets::get_16(b, 8);
-    BadTag {
-        peer: ContactId(octets::get_u64(b, 0)),
-        tag,
-    }
+    BadTag::read(area, at)
+}
+
+pub fn bad_tag_bytes(row: BadTag) -> [u8; BAD_TAG_WIDTH]
+    ensures { result ≡ bad_tag_bytes row }
+{
+    row.bytes()
 }
 
 pub fn offer_at(area: &[u8], at: usize) -> Offer
     requires { at + offer_width ≤ length area.now }
     ensures { result ≡ offer_of (part area.now at offer_width) }
 {
-    let b = &area[at..at + OFFER_WIDTH];
-    let tag = octets::get_16(b, 0);
-    Offer {
-        tag,
-        copies: octets::get_u8(b, 16),
-    }
+    Offer::read(area, at)
+}
+
+pub fn offer_bytes(row: Offer) -> [u8; OFFER_WIDTH]
+    ensures { result ≡ offer_bytes row }
+{
+    row.bytes()
 }
 
 pub fn reply_at(area: &[u8], at: usize) -> Reply
     requires { at + reply_width ≤ length area.now }
     ensures { result ≡ reply_of (part area.now at reply_width) }
 {
-    let b = &area[at..at + REPLY_WIDTH];
-    let body = get_37(b, 3);
-    Reply {
-        kind: octets::get_u8(b, 0),
-        cell: octets::get_u16(b, 1),
-        body,
-    }
+    Reply::read(area, at)
+}
+
+pub fn reply_bytes(row: Reply) -> [u8; REPLY_WIDTH]
+    ensures { result ≡ reply_bytes row }
+{
+    row.bytes()
 }
 
 pub fn action_at(area: &[u8], at: usize) -> Action
     requires { at + action_width ≤ length area.now }
     ensures { result ≡ action_of (part area.now at action_width) }
 {
-    let b = &area[at..at + ACTION_WIDTH];
-    Action {
-        kind: octets::get_u8(b, 0),
-        number: octets::get_u64(b, 1),
-        msgno: octets::get_u32(b, 9),
-    }
+    Action::read(area, at)
+}
+
+pub fn action_bytes(row: Action) -> [u8; ACTION_WIDTH]
+    ensures { result ≡ action_bytes row }
+{
+    row.bytes()
 }
 
 pub fn reachable_at(area: &[u8], at: usize) -> Reachable
     requires { at + reachable_width ≤ length area.now }
     ensures { result ≡ reachable_of (part area.now at reachable_width) }
 {
-    let b = &area[at..at + REACHABLE_WIDTH];
-    let tag = octets::get_16(b, 14);
-    Reachable {
-        contact: ContactId(octets::get_u64(b, 0)),
-        dir: octets::get_u8(b, 8),
-        generation: octets::get_u8(b, 9),
-        idx: octets::get_u32(b, 10),
-        tag,
-    }
-}
-
-// ---- rows as bytes
-
-pub fn carried_bytes(row: Carried) -> [u8; CARRIED_WIDTH]
-    ensures { result ≡ carried_bytes row }
-{
-    let depositor = row.depositor;
-    let tag = row.tag;
-    let c = row.c;
-    let mut b = [0u8; CARRIED_WIDTH];
-    octets::put_u64(&mut b, 0, row.slot);
-    octets::put_u64(&mut b, 8, depositor.0);
-    octets::put_16(&mut b, 16, tag);
-    octets::put_16(&mut b, 32, c);
-    octets::put_u32(&mut b, 48, row.expiry_min);
-    octets::put_u8(&mut b, 52, row.copies);
-    octets::put_u16(&mut b, 53, row.len);
-    octets::put_u16(&mut b, 55, row.cell);
-    b
-}
-
-pub fn own_bytes(row: Own) -> [u8; OWN_WIDTH]
-    ensures { result ≡ own_bytes row }
-{
-    let contact = row.contact;
-    let tag = row.tag;
-    let s = row.s;
-    let mut b = [0u8; OWN_WIDTH];
-    octets::put_u64(&mut b, 0, contact.0);
-    octets::put_u32(&mut b, 8, row.msgno);
-    octets::put_16(&mut b, 12, tag);
-    octets::put_16(&mut b, 28, s);
-    octets::put_u32(&mut b, 44, row.expiry_min);
-    octets::put_u8(&mut b, 48, row.copies);
-    octets::put_u8(&mut b, 49, row.renewed);
-    octets::put_u16(&mut b, 50, row.len);
-    octets::put_u16(&mut b, 52, row.cell);
-    b
-}
-
-pub fn tombstone_bytes(row: Tombstone) -> [u8; TOMBSTONE_WIDTH]
-    ensures { result ≡ tombstone_bytes row }
-{
-    let tag = row.tag;
-    let s = row.s;
-    let mut b = [0u8; TOMBSTONE_WIDTH];
-    octets::put_u64(&mut b, 0, row.slot);
-    octets::put_16(&mut b, 8, tag);
-    octets::put_16(&mut b, 24, s);
-    octets::put_u32(&mut b, 40, row.expiry_min);
-    b
-}
-
-pub fn contact_bytes(row: Contact) -> [u8; CONTACT_WIDTH]
-    ensures { result ≡ contact_bytes row }
-{
-    let id = row.id;
-    let mut b = [0u8; CONTACT_WIDTH];
-    octets::put_u64(&mut b, 0, id.0);
-    octets::put_u8(&mut b, 8, row.verification);
-    b
-}
-
-pub fn bad_tag_bytes(row: BadTag) -> [u8; BAD_TAG_WIDTH]
-    ensures { result ≡ bad_tag_bytes row }
-{
-    let peer = row.peer;
-    let tag = row.tag;
-    let mut b = [0u8; BAD_TAG_WIDTH];
-    octets::put_u64(&mut b, 0, peer.0);
-    octets::put_16(&mut b, 8, tag);
-    b
-}
-
-pub fn offer_bytes(row: Offer) -> [u8; OFFER_WIDTH]
-    ensures { result ≡ offer_bytes row }
-{
-    let tag = row.tag;
-    let mut b = [0u8; OFFER_WIDTH];
-    octets::put_16(&mut b, 0, tag);
-    octets::put_u8(&mut b, 16, row.copies);
-    b
-}
-
-pub fn reply_bytes(row: Reply) -> [u8; REPLY_WIDTH]
-    ensures { result ≡ reply_bytes row }
-{
-    let body = row.body;
-    let mut b = [0u8; REPLY_WIDTH];
-    octets::put_u8(&mut b, 0, row.kind);
-    octets::put_u16(&mut b, 1, row.cell);
-    put_37(&mut b, 3, body);
-    b
-}
-
-pub fn action_bytes(row: Action) -> [u8; ACTION_WIDTH]
-    ensures { result ≡ action_bytes row }
-{
-    let mut b = [0u8; ACTION_WIDTH];
-    octets::put_u8(&mut b, 0, row.kind);
-    octets::put_u64(&mut b, 1, row.number);
-    octets::put_u32(&mut b, 9, row.msgno);
-    b
+    Reachable::read(area, at)
 }
 
 pub fn reachable_bytes(row: Reachable) -> [u8; REACHABLE_WIDTH]
     ensures { result ≡ reachable_bytes row }
 {
-    let contact = row.contact;
-    let tag = row.tag;
-    let mut b = [0u8; REACHABLE_WIDTH];
-    octets::put_u64(&mut b, 0, contact.0);
-    octets::put_u8(&mut b, 8, row.dir);
-    octets::put_u8(&mut b, 9, row.generation);
-    octets::put_u32(&mut b, 10, row.idx);
-    octets::put_16(&mut b, 14, tag);
-    b
+    row.bytes()
 }

@@ -1,49 +1,48 @@
 -- Laws of held rows: found by slot, and written to a blob area.
 -- Assumes nothing.
-use Rattle.std.proofs.Common.{◌≡◌, ℕ, ◌+◌, ◌*◌, ◌<◌, ◌≤◌, Bool, cond, eqb, List, length, drop, sym, refl, ap, ◌∙◌, subst, ap₂, arith, length-append, length-take, le-ltb}
-use Rattle.octets.specs.Bytes.{part, splice, num}
+use Rattle.std.proofs.Common.{◌≡◌, ℕ, ◌+◌, ◌≤◌, List, length, sym, refl, ap, ◌∙◌, subst, ap₂, arith, length-append, length-take, le-ltb, Option, Result, Ok}
+use Rattle.octets.specs.Bytes.{part, splice}
 use Rattle.octets.proofs.Parts.{length_part}
 use Rattle.octets.proofs.Numbers.{length_be}
 use Rattle.courier.specs.Courier.{header_bytes}
-use Rattle.table.specs.declared.Found.TheVariants.{At, Nothing}
-use Rattle.table.specs.Lists.{position_from}
+use Rattle.courier_core.specs.declared.Refusal.{Refusal}
+use Rattle.table.specs.Lists.{position}
 use Rattle.table.specs.Rows.{rows}
-use Rattle.table.proofs.RowLaws.{length_rows, rows_next}
-use Rattle.table.proofs.FindLaws.{position_next, position_end}
+use Rattle.table.specs.Rows as tables
+use Rattle.table.specs.Codec.{table_of}
+use Rattle.table.proofs.TableLaws.{table_find}
 use Rattle.state.specs.declared.Carried.{Carried as HeldCarried}
 use Rattle.state.specs.declared.Tombstone.{Tombstone as HeldTombstone}
-use Rattle.state.specs.declared.RowAnswer.{RowAnswer}
 use Rattle.state.specs.Held.{carried_head, held_row, row_area, RowWritten}
 use Rattle.state.specs.Held as held
 use Rattle.state.proofs.RowLaws.{row_answered_lem}
 use Rattle.rows.specs.declared.Carried.{Carried}
 use Rattle.rows.specs.declared.Tombstone.{Tombstone}
-use Rattle.rows.specs.Rows.{carried_of, tombstone_of}
+use Rattle.rows.specs.Rows.{carried_codec, carried_of, tombstone_codec, tombstone_of}
 use Rattle.model.specs.Cells.{ciphertext}
 use Rattle.model.specs.Saved.{Slotted, carried_held, tombstone_held}
-use Rattle.by_slot.proofs.SlotLaws.{slot_of}
-use Rattle.saved.specs.Blobs.{has_slot, held_carried, held_tombstone, count_of, Blobbed}
+use Rattle.saved.specs.Blobs.{has_slot, carried_in_slot, tombstone_in_slot, held_carried, held_tombstone, Blobbed}
 
--- ---- what the slot of row i says of the rows from i on
+-- ---- rows by slot: the search of a table's bytes is the search of its rows
 
-module _ (w n : ℕ) (a : List ℕ) (slot : ℕ) (i : ℕ) where
-  pub slot_next : (v : ℕ) (b : Bool) → 8 ≤ w → i < n → v ≡ num (part a (i * w) 8) → eqb v slot ≡ b
-      → position_from i (has_slot slot) (drop i (rows w n a)) ≡ cond b (At i) (position_from (i + 1) (has_slot slot) (drop (i + 1) (rows w n a)))
-  unfolding has_slot
-  slot_next v b wide h e t =
-      position_next (has_slot slot) (rows w n a) i (part a (i * w) w) b (rows_next w i n a h)
-      (ap (λ (x : ℕ). eqb x slot) (slot_of a (i * w) w wide ∙ sym e) ∙ t)
+pub carried_place : (a : List ℕ) (count slot : ℕ) {f : Option ℕ} → f ≡ position (has_slot slot) (rows 57 (tables.held (length a) 57 count) a)
+    → f ≡ position (carried_in_slot slot) (table_of carried_codec count a)
+unfolding has_slot carried_of
+carried_place a count slot e = table_find carried_codec count _ a refl (has_slot slot) (carried_in_slot slot) (λ b. refl) _ e
 
-  pub slot_end : n ≤ i → position_from i (has_slot slot) (drop i (rows w n a)) ≡ Nothing
-  slot_end h = position_end (has_slot slot) (rows w n a) i (omega (arith, length_rows w n a))
+pub tombstone_place : (a : List ℕ) (count slot : ℕ) {f : Option ℕ} → f ≡ position (has_slot slot) (rows 44 (tables.held (length a) 44 count) a)
+    → f ≡ position (tombstone_in_slot slot) (table_of tombstone_codec count a)
+unfolding has_slot tombstone_of
+tombstone_place a count slot e = table_find tombstone_codec count _ a refl (has_slot slot) (tombstone_in_slot slot) (λ b. refl) _ e
 
 -- ---- a row in a blob area
 
-blobbed : (most : ℕ) (h : Slotted) (row : List ℕ) (area after : List ℕ) (said : RowAnswer) (n : ℕ) → held_row h.held ≡ row → length row ≤ most → 2110 ≤ length area
-    → RowWritten row area said after → n ≡ count_of said → Blobbed most h area n after
+blobbed : (most : ℕ) (h : Slotted) (row : List ℕ) (area after : List ℕ) (said : Result ℕ Refusal) (n : ℕ) → held_row h.held ≡ row → length row ≤ most → 2110 ≤ length area
+    → RowWritten row area said after → said ≡ Ok n → Blobbed most h area n after
 unfolding row_area
 blobbed most h row area after said n e l k W c =
-    let m : n ≡ length row = c ∙ ap count_of (W.answer ∙ row_answered_lem row area k) in
+    let same : Ok n ≡ Ok (length row) = sym c ∙ W.answer ∙ row_answered_lem row area k in
+    let m : n ≡ length row = cc in
     record {
       count = m ∙ ap length (sym e);
       within = omega arith;
@@ -64,9 +63,9 @@ module _ (cells : List ℕ) (a : List ℕ) (at : ℕ) (fits : at + 57 ≤ length
         length-take 2064 ct,
       ))
 
-  pub carried_blobbed : (row : Carried) (hc : HeldCarried) (ct : List ℕ) (area after : List ℕ) (said : RowAnswer) (n : ℕ) → 2110 ≤ length area
+  pub carried_blobbed : (row : Carried) (hc : HeldCarried) (ct : List ℕ) (area after : List ℕ) (said : Result ℕ Refusal) (n : ℕ) → 2110 ≤ length area
       → row ≡ R → ct ≡ ciphertext cells row.cell row.len → hc ≡ held_carried row
-      → RowWritten (held_row (held.carried hc ct)) area said after → n ≡ count_of said → Blobbed 2110 (carried_held cells R) area n after
+      → RowWritten (held_row (held.carried hc ct)) area said after → said ≡ Ok n → Blobbed 2110 (carried_held cells R) area n after
   unfolding carried_held
   carried_blobbed row hc ct area after said n k er ec eh W c =
       let e : ct ≡ ciphertext cells R.cell R.len = ec ∙ ap (λ (x : Carried). ciphertext cells x.cell x.len) er in
@@ -88,9 +87,9 @@ module _ (a : List ℕ) (at : ℕ) (fits : at + 44 ≤ length a) where
         length_part (part a at 44) 24 16 (omega (arith, length_part a at 44 fits)),
       ))
 
-  pub tombstone_blobbed : (row : Tombstone) (ht : HeldTombstone) (area after : List ℕ) (said : RowAnswer) (n : ℕ) → 2110 ≤ length area
+  pub tombstone_blobbed : (row : Tombstone) (ht : HeldTombstone) (area after : List ℕ) (said : Result ℕ Refusal) (n : ℕ) → 2110 ≤ length area
       → row ≡ T → ht ≡ held_tombstone row
-      → RowWritten (held_row (held.tombstone ht)) area said after → n ≡ count_of said → Blobbed 37 (tombstone_held T) area n after
+      → RowWritten (held_row (held.tombstone ht)) area said after → said ≡ Ok n → Blobbed 37 (tombstone_held T) area n after
   unfolding tombstone_held
   tombstone_blobbed row ht area after said n k er eh W c =
       let U : RowWritten (held_row (held.tombstone (held_tombstone T))) area said after =

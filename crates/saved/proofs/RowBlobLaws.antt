@@ -1,10 +1,9 @@
 -- Laws of the row blob call: each way out as the model's step, and what it leaves.
 -- Assumes nothing.
-use Rattle.std.proofs.Common.{◌≡◌, ℕ, ◌+◌, ◌*◌, ◌<◌, ◌≤◌, Bool, true, eqb, List, [], ◌++◌, map, length, get_or, sym, refl, ap, ◌∙◌, append-nil, arith, le-ltb, lt-ltb}
-use mathlib.Core.Option.{Option, some}
+use Rattle.std.proofs.Common.{◌≡◌, ℕ, ◌+◌, ◌*◌, ◌<◌, ◌≤◌, Bool, true, eqb, List, [], ◌++◌, map, length, get_or, sym, refl, ap, ◌∙◌, append-nil, arith, le-ltb, lt-ltb, Option, Some, None, Result, Ok, Err}
 use Rattle.octets.specs.Bytes.{part}
+use Rattle.courier_core.specs.declared.Refusal.{Refusal}
 use Rattle.courier_core.specs.declared.Refusal.TheVariants as refusal
-use Rattle.table.specs.declared.Found.TheVariants.{At, Nothing}
 use Rattle.table.specs.Lists.{position, filter}
 use Rattle.table.specs.Rows.{held}
 use Rattle.table.specs.Codec.{Codec, table_of}
@@ -28,8 +27,6 @@ use Rattle.model.proofs.CallLaws.{refused_here, not_here, no_test, quiet_call, r
 use Rattle.model.proofs.SearchLaws.{find_at, find_past, filter_all}
 use Rattle.model.specs.Lent.{bytes_lent}
 use Rattle.saved.specs.Blobs.{carried_in_slot, tombstone_in_slot, Blobbed, blob_says, held_in}
-use Rattle.saved.specs.declared.BlobAnswer.{BlobAnswer}
-use Rattle.saved.specs.declared.BlobAnswer.TheVariants as blob_answer
 
 -- ---- a search
 
@@ -38,14 +35,14 @@ module _ {A E : Type 0} (f : A → E) (p : E → Bool) (ys : List E) (xs : List 
   whole : find p (map f xs ++ ys) ≡ find p (map f (filter (λ (x : A). true) xs) ++ ys)
   whole = ap (λ (l : List A). find p (map f l ++ ys)) (sym (filter_all xs))
 
-  found_in : (d : A) (i : ℕ) → At i ≡ position (λ (x : A). p (f x)) xs → find p (map f xs ++ ys) ≡ some (f (get_or xs i d))
+  found_in : (d : A) (i : ℕ) → Some i ≡ position (λ (x : A). p (f x)) xs → find p (map f xs ++ ys) ≡ Some (f (get_or xs i d))
   found_in d i e = whole ∙ find_at f p (λ (x : A). true) ys d xs i (sym e)
 
-  found_behind : Nothing ≡ position (λ (x : A). p (f x)) xs → find p (map f xs ++ ys) ≡ find p ys
+  found_behind : None ≡ position (λ (x : A). p (f x)) xs → find p (map f xs ++ ys) ≡ find p ys
   found_behind e = whole ∙ find_past f p (λ (x : A). true) ys xs 0 (sym e)
 
 -- the row that is found is in the table
-module _ {A : Type 0} (c : Codec A) (d : A) (count : ℕ) (a : List ℕ) (p : A → Bool) {i : ℕ} (e : At i ≡ position p (table_of c count a)) where
+module _ {A : Type 0} (c : Codec A) (d : A) (count : ℕ) (a : List ℕ) (p : A → Bool) {i : ℕ} (e : Some i ≡ position p (table_of c count a)) where
   inside : i < held (length a) c.width count
   inside = omega (arith, (position_first p (table_of c count a) d i (sym e)).inside, length_table c count a)
 
@@ -64,10 +61,10 @@ module _ (d : Device) (slot : ℕ) (carried tombs cells lent : List ℕ) (a : Ar
   abbrev C : Call
   C = row_blob (length lent) slot
 
-  abbrev Says : BlobAnswer → List ℕ → Type 0
+  abbrev Says : Result (Option ℕ) Refusal → List ℕ → Type 0
   Says r back = Written blob_says (step (view B) C) r B B (bytes_lent lent) (bytes_lent back)
 
-  pub says_short : length lent < 2110 → Says (blob_answer.Refused refusal.ShortArea) lent
+  pub says_short : length lent < 2110 → Says (Err refusal.ShortArea) lent
   unfolding step tests perform blob_tests
   says_short h = refused_call refusal.ShortArea (refused_here _ _ _ (lt-ltb (length lent) 2110 h)) refl refl
 
@@ -88,32 +85,32 @@ module _ (d : Device) (slot : ℕ) (carried tombs cells lent : List ℕ) (a : Ar
         not_here _ _ _ (le-ltb (length lent) 2110 long) (no_test _)
         ∙ ap (λ (x : Option Slotted). match_some x (λ h. writes (held_row h.held)) (only missing)) e
 
-    given : (most : ℕ) (h : Slotted) (n : ℕ) (back : List ℕ) → find here (map (carried_held cells) Tc ++ map tombstone_held Tt) ≡ some h
-        → Blobbed most h lent n back → Says (blob_answer.Wrote n) back
-    given most h n back e G = bytes_call (held_row h.held) (stepped e) (ap blob_answer.Wrote G.count) G.area
+    given : (most : ℕ) (h : Slotted) (n : ℕ) (back : List ℕ) → find here (map (carried_held cells) Tc ++ map tombstone_held Tt) ≡ Some h
+        → Blobbed most h lent n back → Says (Ok (Some n)) back
+    given most h n back e G = bytes_call (held_row h.held) (stepped e) (ap (λ (k : ℕ). Ok (Some k)) G.count) G.area
 
-    pub says_carried : (i n : ℕ) (back : List ℕ) → At i ≡ position (carried_in_slot slot) Tc
-        → Blobbed 2110 (carried_held cells (carried_of (part carried (i * 57) 57))) lent n back → Says (blob_answer.Wrote n) back
+    pub says_carried : (i n : ℕ) (back : List ℕ) → Some i ≡ position (carried_in_slot slot) Tc
+        → Blobbed 2110 (carried_held cells (carried_of (part carried (i * 57) 57))) lent n back → Says (Ok (Some n)) back
     unfolding carried_held
     says_carried i n back e G =
         given 2110 _ n back
         (found_in (carried_held cells) here (map tombstone_held Tt) Tc no_carried i e
-        ∙ ap (λ (r : Carried). some (carried_held cells r)) (row_found carried_codec no_carried d.carried carried (carried_in_slot slot) e)) G
+        ∙ ap (λ (r : Carried). Some (carried_held cells r)) (row_found carried_codec no_carried d.carried carried (carried_in_slot slot) e)) G
 
-    module _ (none-carried : Nothing ≡ position (carried_in_slot slot) Tc) where
+    module _ (none-carried : None ≡ position (carried_in_slot slot) Tc) where
       behind : find here (map (carried_held cells) Tc ++ map tombstone_held Tt) ≡ find here (map tombstone_held Tt ++ [])
       unfolding carried_held
       behind =
           found_behind (carried_held cells) here (map tombstone_held Tt) Tc none-carried ∙ ap (find here) (sym (append-nil (map tombstone_held Tt)))
 
-      pub says_tombstone : (i n : ℕ) (back : List ℕ) → At i ≡ position (tombstone_in_slot slot) Tt
-          → Blobbed 37 (tombstone_held (tombstone_of (part tombs (i * 44) 44))) lent n back → Says (blob_answer.Wrote n) back
+      pub says_tombstone : (i n : ℕ) (back : List ℕ) → Some i ≡ position (tombstone_in_slot slot) Tt
+          → Blobbed 37 (tombstone_held (tombstone_of (part tombs (i * 44) 44))) lent n back → Says (Ok (Some n)) back
       unfolding tombstone_held
       says_tombstone i n back e G =
           given 37 _ n back
           (behind ∙ found_in tombstone_held here [] Tt no_tombstone i e
-          ∙ ap (λ (t : Tombstone). some (tombstone_held t)) (row_found tombstone_codec no_tombstone d.tombstones tombs (tombstone_in_slot slot) e)) G
+          ∙ ap (λ (t : Tombstone). Some (tombstone_held t)) (row_found tombstone_codec no_tombstone d.tombstones tombs (tombstone_in_slot slot) e)) G
 
-      pub says_missing : Nothing ≡ position (tombstone_in_slot slot) Tt → Says blob_answer.Missing lent
+      pub says_missing : None ≡ position (tombstone_in_slot slot) Tt → Says (Ok None) lent
       unfolding tombstone_held find store store_device store_session
       says_missing e = quiet_call missing nothing (stepped (behind ∙ found_behind tombstone_held here [] Tt e)) refl refl

@@ -1,9 +1,10 @@
 -- Laws of the save call: each way out as the model's step, and what it leaves.
 -- Assumes nothing.
-use Rattle.std.proofs.Common.{◌≡◌, ℕ, ◌+◌, ◌*◌, ◌/◌, ◌≤◌, min, Bool, true, false, ltb, leb, List, [], ◌∷◌, map, length, take, sym, refl, ap, ◌∙◌, subst, ap₂, arith, take_all, ltb-false, leb-false, leb-true}
+use Rattle.std.proofs.Common.{◌≡◌, ℕ, ◌+◌, ◌*◌, ◌/◌, ◌≤◌, min, Bool, true, false, ltb, leb, List, [], ◌∷◌, map, length, take, sym, refl, ap, ◌∙◌, subst, ap₂, arith, take_all, ltb-false, leb-false, leb-true, Result, Ok, Err}
 use mathlib.Core.List.{map-map}
 use lib.Seq.{take-append_seam}
 use Rattle.octets.specs.Bytes.{splice}
+use Rattle.courier_core.specs.declared.Refusal.{Refusal}
 use Rattle.courier_core.specs.declared.Refusal.TheVariants as refusal
 use Rattle.table.specs.Rows.{held, rows}
 use Rattle.table.specs.Codec.{Codec, table_of}
@@ -24,8 +25,7 @@ use Rattle.model.specs.Lent.{bytes_lent}
 use Rattle.by_slot.specs.BySlot.{rows_left}
 use Rattle.saved.specs.Blobs.{held_in}
 use Rattle.saved.specs.Saving.{left, Rooms, Filled, save_says}
-use Rattle.saved.specs.declared.SaveAnswer.{SaveAnswer}
-use Rattle.saved.specs.declared.SaveAnswer.TheVariants as save_answer
+use Rattle.saved.specs.declared.HeldRows.{HeldRows}
 
 -- no more rows of a table than a cap
 rows_capped : (w n cap : ℕ) (a : List ℕ) → take cap (rows w n a) ≡ rows w (min n cap) a
@@ -49,11 +49,11 @@ table_capped c count cap n a e =
     ∙ ap (map c.decode) (rows_capped c.width (min count (length a / c.width)) cap a ∙ ap (λ (i : ℕ). rows c.width i a) k)
 
 -- a file that is not too short has room for every record
-pub rooms : (size carried tombs file count j k n m : ℕ) → carried ≡ size → ltb file (10 + 2122 * count + 49 * (tombs / 44)) ≡ false
-    → n ≡ held size 57 (min j count) → n * 57 ≤ size → m ≡ held tombs 44 k → m * 44 ≤ tombs → Rooms carried tombs file n m
+pub rooms : (h : HeldRows) (file count j k : ℕ) {size : ℕ} → length h.carried.now ≡ size → ltb file (10 + 2122 * count + 49 * (length h.tombstones.now / 44)) ≡ false
+    → h.n ≡ held size 57 (min j count) → h.n * 57 ≤ size → h.m ≡ held (length h.tombstones.now) 44 k → h.m * 44 ≤ length h.tombstones.now → Rooms h file
 unfolding held
-rooms size carried tombs file count j k n m e f en hn em hm =
-    let h : 10 + 2122 * count + 49 * (tombs / 44) ≤ file = ltb-false file (10 + 2122 * count + 49 * (tombs / 44)) f in
+rooms h file count j k e f en hn em hm =
+    let l : 10 + 2122 * count + 49 * (length h.tombstones.now / 44) ≤ file = ltb-false file (10 + 2122 * count + 49 * (length h.tombstones.now / 44)) f in
     record { rows = omega arith; tombs = hm; size = omega arith }
 
 module _ (d : Device) (carried tombs cells lent : List ℕ) (a : Areas) (count : ℕ) (counted : count ≡ cell_count (length cells)) where
@@ -63,7 +63,7 @@ module _ (d : Device) (carried tombs cells lent : List ℕ) (a : Areas) (count :
   abbrev C : Call
   C = save (length lent)
 
-  abbrev Says : SaveAnswer → List ℕ → Type 0
+  abbrev Says : Result ℕ Refusal → List ℕ → Type 0
   Says r back = Written save_says (step (view B) C) r B B (bytes_lent lent) (bytes_lent back)
 
   abbrev size : ℕ
@@ -72,36 +72,42 @@ module _ (d : Device) (carried tombs cells lent : List ℕ) (a : Areas) (count :
   tested : {b : Bool} → ltb (length lent) size ≡ b → ltb (length lent) (10 + 2122 * cell_count (length cells) + 49 * (length tombs / 44)) ≡ b
   tested e = ap (λ (k : ℕ). ltb (length lent) (10 + 2122 * k + 49 * (length tombs / 44))) (sym counted) ∙ e
 
-  pub says_no_room : ltb (length lent) size ≡ true → Says (save_answer.Refused refusal.ShortArea) lent
+  pub says_no_room : ltb (length lent) size ≡ true → Says (Err refusal.ShortArea) lent
   unfolding step tests perform save_tests view
   says_no_room e = refused_call refusal.ShortArea (refused_here _ _ _ (tested e)) refl refl
 
-  module _ (fits : ltb (length lent) size ≡ false) (len n m : ℕ) (el : length carried ≡ len) (en : n ≡ held len 57 (min d.carried count))
-      (em : m ≡ held (length tombs) 44 d.tombstones) where
-    same_rows : left cells carried tombs n m 0 0 ≡ saved_rows (view B)
+-- the file of held rows, as many as there are cells for
+module _ (d : Device) (h : HeldRows) (lent : List ℕ) (a : Areas) (count : ℕ) (counted : count ≡ cell_count (length h.cells.now)) where
+  abbrev H : Areas
+  H = held_in d h.carried.now h.tombstones.now h.cells.now a
+
+  module _ (fits : ltb (length lent) (10 + 2122 * count + 49 * (length h.tombstones.now / 44)) ≡ false) {len : ℕ} (el : length h.carried.now ≡ len)
+      (en : h.n ≡ held len 57 (min d.carried count)) (em : h.m ≡ held (length h.tombstones.now) 44 d.tombstones) where
+    same_rows : left h 0 0 ≡ saved_rows (view H)
     unfolding left rows_left saved_rows view table_of
     same_rows =
-        ap₂ (merge (λ (h : Slotted). h.slot))
-        (sym (map-map (carried_held cells) carried_of (rows 57 n carried))
-        ∙ ap (map (carried_held cells)) (sym (table_capped carried_codec d.carried count n carried (en ∙ ap (λ (l : ℕ). held l 57 (min d.carried count)) (sym el)))
-        ∙ ap (λ (k : ℕ). take k (table_of carried_codec d.carried carried)) counted))
-        (sym (map-map tombstone_held tombstone_of (rows 44 m tombs)) ∙ ap (λ (k : ℕ). map tombstone_held (map tombstone_of (rows 44 k tombs))) em)
+        ap₂ (merge (λ (s : Slotted). s.slot))
+        (sym (map-map (carried_held h.cells.now) carried_of (rows 57 h.n h.carried.now))
+        ∙ ap (map (carried_held h.cells.now)) (sym (table_capped carried_codec d.carried count h.n h.carried.now (en ∙ ap (λ (l : ℕ). held l 57 (min d.carried count)) (sym el)))
+        ∙ ap (λ (k : ℕ). take k (table_of carried_codec d.carried h.carried.now)) counted))
+        (sym (map-map tombstone_held tombstone_of (rows 44 h.m h.tombstones.now)) ∙ ap (λ (k : ℕ). map tombstone_held (map tombstone_of (rows 44 k h.tombstones.now))) em)
 
-    pub says_saved : (r : ℕ) (back : List ℕ) → Filled (saved_file d.next_slot (left cells carried tombs n m 0 0)) lent r back → Says (save_answer.Wrote r) back
+    pub says_saved : (r : ℕ) (back : List ℕ) → Filled (saved_file d.next_slot (left h 0 0)) lent r back
+        → Says d h.carried.now h.tombstones.now h.cells.now lent a count counted (Ok r) back
     unfolding step tests perform save_tests save_held view
     says_saved r back F =
-        bytes_call (saved_file d.next_slot (saved_rows (view B))) (not_here _ _ _ (tested fits) (no_test _))
-        (ap save_answer.Wrote (F.count ∙ ap (λ (l : List Slotted). length (saved_file d.next_slot l)) same_rows))
+        bytes_call (saved_file d.next_slot (saved_rows (view H))) (not_here _ _ _ (tested d h.carried.now h.tombstones.now h.cells.now lent a count counted fits) (no_test _))
+        (ap Ok (F.count ∙ ap (λ (l : List Slotted). length (saved_file d.next_slot l)) same_rows))
         (F.area ∙ ap (λ (l : List Slotted). splice lent 0 (saved_file d.next_slot l)) same_rows)
 
 -- A file that the call wrote is what document 01 fixes of one: its bytes are those of the held rows, each once.
 pub is_saved : (s : State) (before after : Areas) (lent back : List ℕ) (n : ℕ)
-    → Written save_says (step s (save (length lent))) (save_answer.Wrote n) before after (bytes_lent lent) (bytes_lent back) → IsSaved s (take n back)
+    → Written save_says (step s (save (length lent))) (Ok n) before after (bytes_lent lent) (bytes_lent back) → IsSaved s (take n back)
 unfolding step step_of tests perform save_tests save_held answer_areas splice
 is_saved s before after lent back n W = go (ltb (length lent) (saved_size s)) W
   where
     go : (b : Bool)
-        → Written save_says (step_of ((b, refusal.ShortArea) ∷ []) (save_held s)) (save_answer.Wrote n) before after (bytes_lent lent) (bytes_lent back)
+        → Written save_says (step_of ((b, refusal.ShortArea) ∷ []) (save_held s)) (Ok n) before after (bytes_lent lent) (bytes_lent back)
         → IsSaved s (take n back)
     go true w = let e = w.answer in let z : ◌≡◌ {A = ℕ} 0 1 = cc in absurd (omega arith)
     go false w =

@@ -1,21 +1,18 @@
 -- Held rows by slot, and as blobs; what the row blob call says.
 -- Assumes nothing.
-use Rattle.std.specs.Prelude.{◌≡◌, ℕ, ◌≤◌, Bool, List, length, ◌==◌}
+use Rattle.std.specs.Prelude.{◌≡◌, ℕ, ◌≤◌, Bool, List, length, ◌==◌, Option, Some, None, Result, Ok, Err}
+use Rattle.courier_core.specs.declared.Refusal.{Refusal}
 use Rattle.octets.specs.Bytes.{part, splice, num}
 use Rattle.state.specs.declared.Carried.{Carried as HeldCarried}
 use Rattle.state.specs.declared.Tombstone.{Tombstone as HeldTombstone}
-use Rattle.state.specs.declared.RowAnswer.{RowAnswer}
-use Rattle.state.specs.declared.RowAnswer.TheVariants as row_answer
 use Rattle.state.specs.Held.{held_row}
 use Rattle.rows.specs.declared.Carried.{Carried}
 use Rattle.rows.specs.declared.Tombstone.{Tombstone}
 use Rattle.rows.specs.declared.Device.{Device}
-use Rattle.model.specs.Calls.{Answer, Result, refused, malformed, done, ours, found, missing, own_row, no_envelope, wrote}
+use Rattle.model.specs.Calls.{Answer, Result as Outcome, refused, malformed, done, ours, found, missing, own_row, no_envelope, wrote}
 use Rattle.model.specs.Areas.{Areas}
 use Rattle.model.specs.Lent.{device_in, carried_in, tombstones_in, carried_cells_in}
 use Rattle.model.specs.Saved.{Slotted}
-use Rattle.saved.specs.declared.BlobAnswer.{BlobAnswer}
-use Rattle.saved.specs.declared.BlobAnswer.TheVariants as blob_answer
 
 -- ---- rows by slot: every row of the two tables starts with it
 
@@ -36,11 +33,6 @@ held_carried r = record { depositor = r.depositor; header = record { tag = r.tag
 abbrev pub held_tombstone : Tombstone → HeldTombstone
 held_tombstone t = record { tag = t.tag; s = t.s; expiry_min = t.expiry_min }
 
--- how many bytes a row that was written has
-abbrev pub count_of : RowAnswer → ℕ
-count_of (row_answer.Refused why) = 0
-count_of (row_answer.Written n) = n
-
 -- the row's n bytes, at most so many, stand at the front of an area that was before and is now after
 pub record Blobbed (most : ℕ) (h : Slotted) (before : List ℕ) (n : ℕ) (after : List ℕ) : Type 0 where
   pub count : n ≡ length (held_row h.held)
@@ -49,18 +41,18 @@ pub record Blobbed (most : ℕ) (h : Slotted) (before : List ℕ) (n : ℕ) (aft
 
 -- ---- the call
 
-abbrev pub blob_of : Answer → BlobAnswer
-blob_of (refused why) = blob_answer.Refused why
-blob_of malformed = blob_answer.Missing
-blob_of done = blob_answer.Missing
-blob_of (ours contact generation idx) = blob_answer.Missing
-blob_of (found cells position len) = blob_answer.Missing
-blob_of missing = blob_answer.Missing
-blob_of (own_row row) = blob_answer.Missing
-blob_of no_envelope = blob_answer.Missing
-blob_of (wrote count) = blob_answer.Wrote count
+abbrev pub blob_of : Answer → Result (Option ℕ) Refusal
+blob_of (refused why) = Err why
+blob_of malformed = Ok None
+blob_of done = Ok None
+blob_of (ours contact generation idx) = Ok None
+blob_of (found cells position len) = Ok None
+blob_of missing = Ok None
+blob_of (own_row row) = Ok None
+blob_of no_envelope = Ok None
+blob_of (wrote count) = Ok (Some count)
 
-abbrev pub blob_says : Result → BlobAnswer
+abbrev pub blob_says : Outcome → Result (Option ℕ) Refusal
 blob_says o = blob_of o.answer
 
 -- the held rows that are lent, set into areas that are anything otherwise

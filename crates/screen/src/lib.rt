@@ -20,11 +20,13 @@ pub const PAGE_ROWS: usize = 19;
 
 pub const PAGE: usize = 1_620;
 
-// What the call answers: a refusal, or how many bytes the page has.
-#[derive(Drop)]
-pub enum PageAnswer {
-    Refused(Refusal),
-    Wrote(usize),
+// The tables that are shown: n carried rows and m tombstones.
+#[derive(Clone, Copy)]
+struct Tables<'a> {
+    carried: &'a [u8],
+    n: usize,
+    tombstones: &'a [u8],
+    m: usize,
 }
 
 // The next carried row and the next tombstone.
@@ -76,8 +78,7 @@ fn put_carried(area: &mut [u8], at: usize, row: Carried, minute: u32)
     requires { at + 81 ≤ length area.old }
     ensures { area.new ≡ splice area.old at (screen_line minute (carried_row row)) }
 {
-    let tag = row.tag;
-    put_front(area, at, row.slot, b'C', tag);
+    put_front(area, at, row.slot, b'C', row.tag);
     put_minutes(area, at + 40, minute, row.expiry_min);
     put_carried_end(area, at + 50, row.copies, row.depositor);
 }
@@ -87,8 +88,7 @@ fn put_tombstone(area: &mut [u8], at: usize, row: Tombstone, minute: u32)
     requires { at + 81 ≤ length area.old }
     ensures { area.new ≡ splice area.old at (screen_line minute (tombstone_row row)) }
 {
-    let tag = row.tag;
-    put_front(area, at, row.slot, b'T', tag);
+    put_front(area, at, row.slot, b'T', row.tag);
     put_minutes(area, at + 40, minute, row.expiry_min);
     put_blanks(area, at + 50, 30);
     octets::copy_in(area, at + 80, b"\n");
@@ -107,78 +107,65 @@ fn rows_before(total: usize, page: u64) -> usize
     PAGE_ROWS * page as usize
 }
 
-// Passes k rows.
-fn pass_rows(carried: &[u8], n: usize, tombstones: &[u8], m: usize, k: usize) -> Turn
-    requires { InTables (length carried.now) (length tombstones.now) n m × (k ≤ n + m) }
-    ensures { Passed carried.now tombstones.now n m k result }
-{
-    let mut p = 0;
-    let mut q = 0;
-    while p + q < k {
-        if by_slot::tombstone_first(carried, n, p, tombstones, m, q) {
-            q += 1;
-        } else {
-            p += 1;
-        }
-    }
-    Turn {
-        carried: p,
-        tombstones: q,
-    }
-}
-
-// Writes the line of the next row.
-fn put_next(
-    carried: &[u8],
-    n: usize,
-    tombstones: &[u8],
-    m: usize,
-    t: Turn,
-    minute: u32,
-    area: &mut [u8],
-    at: usize,
-) -> Turn
-    requires { Reached (length carried.now) (length tombstones.now) n m t.carried t.tombstones × (at + 81 ≤ length area.old) }
-    ensures { RowPut carried.now tombstones.now n m minute t at area.old result area.new }
-{
-    let p = t.carried;
-    let q = t.tombstones;
-    if by_slot::tombstone_first(carried, n, p, tombstones, m, q) {
-        let row = rows::tombstone_at(tombstones, q * rows::TOMBSTONE_WIDTH);
-        put_tombstone(area, at, row, minute);
-        return Turn {
-            carried: p,
-            tombstones: q + 1,
+impl<'a> Tables<'a> {
+    // Passes k rows.
+    fn pass_rows(self, k: usize) -> Turn
+        requires { InTables self × (k ≤ self.n + self.m) }
+        ensures { Passed self.entry k result }
+    {
+        let mut t = Turn {
+            carried: 0,
+            tombstones: 0,
         };
+        for _row in 0..k {
+            if by_slot::tombstone_first(
+                self.carried,
+                self.n,
+                t.carried,
+                self.tombstones,
+                self.m,
+                t.tombstones,
+            ) {
+                t.tombstones += 1;
+            } else {
+                t.carried += 1;
+            }
+        }
+        t
     }
-    let row = rows::carried_at(carried, p * rows::CARRIED_WIDTH);
-    put_carried(area, at, row, minute);
-    Turn {
-        carried: p + 1,
-        tombstones: q,
-    }
-}
 
-// Writes the lines of so many rows behind the heading's.
-fn put_rows(
-    carried: &[u8],
-    n: usize,
-    tombstones: &[u8],
-    m: usize,
-    from: Turn,
-    count: usize,
-    minute: u32,
-    area: &mut [u8],
-)
-    requires { RowsFit (length carried.now) (length tombstones.now) n m from count (length area.old) }
-    ensures { RowsPut carried.now tombstones.now n m minute from count area.old area.new }
-{
-    let mut t = from;
-    let mut j = 0;
-    while j < count {
-        let next = put_next(carried, n, tombstones, m, t, minute, area, LINE + LINE * j);
-        t = next;
-        j += 1;
+    // Writes the line of the next row.
+    fn put_next(self, t: &mut Turn, minute: u32, area: &mut [u8], at: usize)
+        requires { Reached (length self.carried.now) (length self.tombstones.now) self.n self.m t.old.carried t.old.tombstones × (at + 81 ≤ length area.old) }
+        ensures { RowPut self.entry minute t.old at area.old t.new area.new }
+    {
+        if by_slot::tombstone_first(
+            self.carried,
+            self.n,
+            t.carried,
+            self.tombstones,
+            self.m,
+            t.tombstones,
+        ) {
+            let row = rows::tombstone_at(self.tombstones, t.tombstones * rows::TOMBSTONE_WIDTH);
+            put_tombstone(area, at, row, minute);
+            t.tombstones += 1;
+            return;
+        }
+        let row = rows::carried_at(self.carried, t.carried * rows::CARRIED_WIDTH);
+        put_carried(area, at, row, minute);
+        t.carried += 1;
+    }
+
+    // Writes the lines of so many rows from a place on, behind the heading's.
+    fn put_rows(self, from: Turn, count: usize, minute: u32, area: &mut [u8])
+        requires { RowsFit self from count (length area.old) }
+        ensures { RowsPut self.entry minute from count area.old area.new }
+    {
+        let mut t = from;
+        for j in 0..count {
+            self.put_next(&mut t, minute, area, LINE + LINE * j);
+        }
     }
 }
 
@@ -200,22 +187,25 @@ pub fn page(
     carried: &[u8; 14592],
     tombstones: &[u8],
     area: &mut [u8],
-) -> PageAnswer
+) -> Result<usize, Refusal>
     ensures { Does page_says (page_call (length area.old) number) result
         (held_in device carried.now tombstones.now)
         (held_in device carried.now tombstones.now)
         (bytes_lent area.old) (bytes_lent area.new) }
 {
     if area.len() < PAGE {
-        return PageAnswer::Refused(Refusal::ShortArea);
+        return Err(Refusal::ShortArea);
     }
-    let n = table::fit(carried.len(), rows::CARRIED_WIDTH, device.carried);
-    let m = table::fit(tombstones.len(), rows::TOMBSTONE_WIDTH, device.tombstones);
-    let k = rows_before(n + m, number);
-    let count = octets::least(PAGE_ROWS, n + m - k);
-    let from = pass_rows(carried, n, tombstones, m, k);
-    let minute = contacts::now_min(device.now_s);
+    let shown = Tables {
+        carried,
+        n: table::fit(carried.len(), rows::CARRIED_WIDTH, device.carried),
+        tombstones,
+        m: table::fit(tombstones.len(), rows::TOMBSTONE_WIDTH, device.tombstones),
+    };
+    let k = rows_before(shown.n + shown.m, number);
+    let count = PAGE_ROWS.min(shown.n + shown.m - k);
+    let from = shown.pass_rows(k);
     put_heading(area);
-    put_rows(carried, n, tombstones, m, from, count, minute, area);
-    PageAnswer::Wrote(LINE + LINE * count)
+    shown.put_rows(from, count, contacts::now_min(device.now_s), area);
+    Ok(LINE + LINE * count)
 }

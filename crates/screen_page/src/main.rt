@@ -3,13 +3,10 @@
 
 use courier_core::ContactId;
 use rows::{Carried, Device, Tombstone};
-use screen::PageAnswer;
-
-// Standard output.
-const STDOUT: i32 = 1;
+use std::io;
 
 // What a post shows: its device and its two tables of held rows, with room for 40 tombstones.
-#[derive(Drop)]
+#[derive(Clone, Copy)]
 struct Post {
     device: Device,
     carried: [u8; 14592],
@@ -23,62 +20,43 @@ const MOST_EXPIRY: u32 = 0xFFFF_FFFF;
 // What stands in an area before a page is written.
 const BEFORE: u8 = b'.';
 
-// ---- what is written
-
-fn text(s: &[u8]) {
-    io::write_all(STDOUT, s);
-}
-
-fn number(n: u64) {
-    text(b" ");
-    io::print_decimal(STDOUT, n);
-}
-
-fn end() {
-    text(b"\n");
-}
-
-// The first n bytes, or as many as there are.
-fn front(area: &[u8], n: usize) -> &[u8] {
-    let e = octets::least(n, area.len());
-    &area[0..e]
-}
-
-// How many bytes at the end of an area are as they were before.
-fn left_alone(area: &[u8]) -> usize {
-    let mut n = area.len();
-    while 0 < n {
-        if area[n - 1] != BEFORE {
-            return area.len() - n;
-        }
-        n -= 1;
-    }
-    area.len()
-}
-
 // ---- posts
 
-fn fresh() -> Post {
-    Post {
-        device: Device::fresh(),
-        carried: [0; 14592],
-        tombstones: [0; 1760],
+impl Post {
+    fn fresh() -> Post {
+        Post {
+            device: Device::fresh(),
+            carried: [0; 14592],
+            tombstones: [0; 1760],
+        }
     }
-}
 
-// The device with other counts and another clock.
-fn device_of(carried: usize, tombstones: usize, seconds: u64) -> Device {
-    let d = Device::fresh();
-    let courier = d.courier;
-    Device {
-        courier,
-        now_s: seconds,
-        contacts: 0,
-        own: 0,
-        carried,
-        tombstones,
-        bad_tags: 0,
-        next_slot: 0,
+    // One carried row more; the last one's place is taken where there is no room.
+    fn carry(&mut self, row: Carried) {
+        let n = self.device.carried.min(255);
+        let bytes = rows::carried_bytes(row);
+        octets::copy_in(&mut self.carried, n * rows::CARRIED_WIDTH, &bytes);
+        self.device.carried = n + 1;
+    }
+
+    // The same, of a tombstone.
+    fn entomb(&mut self, slot: u64, tag: u8, expiry: u32) {
+        let m = self.device.tombstones.min(39);
+        let bytes = rows::tombstone_bytes(Tombstone {
+            slot,
+            tag: [tag; 16],
+            s: [0; 16],
+            expiry_min: expiry,
+        });
+        octets::copy_in(&mut self.tombstones, m * rows::TOMBSTONE_WIDTH, &bytes);
+        self.device.tombstones = m + 1;
+    }
+
+    // The post at another clock.
+    fn at_clock(self, seconds: u64) -> Post {
+        let mut post = self;
+        post.device.now_s = seconds;
+        post
     }
 }
 
@@ -95,168 +73,101 @@ fn carried_row(slot: u64, depositor: u64, tag: u8, expiry: u32, copies: u8) -> C
     }
 }
 
-// Writes a row, where there is room for it.
-fn put_row(table: &mut [u8], at: usize, row: &[u8]) {
-    if at <= table.len() {
-        if row.len() <= table.len() - at {
-            octets::copy_in(table, at, row);
-        }
-    }
-}
-
-// One carried row more.
-fn carry(post: Post, row: Carried) -> Post {
-    let n = octets::least(post.device.carried, 255);
-    let m = post.device.tombstones;
-    let seconds = post.device.now_s;
-    let b = rows::carried_bytes(row);
-    let mut carried = post.carried;
-    put_row(&mut carried, n * rows::CARRIED_WIDTH, &b);
-    let tombstones = post.tombstones;
-    Post {
-        device: device_of(n + 1, m, seconds),
-        carried,
-        tombstones,
-    }
-}
-
-// One tombstone more.
-fn entomb(post: Post, slot: u64, tag: u8, expiry: u32) -> Post {
-    let n = post.device.carried;
-    let m = octets::least(post.device.tombstones, 39);
-    let seconds = post.device.now_s;
-    let b = rows::tombstone_bytes(Tombstone {
-        slot,
-        tag: [tag; 16],
-        s: [0; 16],
-        expiry_min: expiry,
-    });
-    let mut tombstones = post.tombstones;
-    put_row(&mut tombstones, m * rows::TOMBSTONE_WIDTH, &b);
-    let carried = post.carried;
-    Post {
-        device: device_of(n, m + 1, seconds),
-        carried,
-        tombstones,
-    }
-}
-
-// The post at another clock.
-fn at_clock(post: &Post, seconds: u64) -> Post {
-    let n = post.device.carried;
-    let m = post.device.tombstones;
-    let carried = post.carried;
-    let tombstones = post.tombstones;
-    Post {
-        device: device_of(n, m, seconds),
-        carried,
-        tombstones,
-    }
-}
-
 // Slots from 0 on: every third row is a tombstone.
 fn mixed(count: u8) -> Post {
-    let mut post = fresh();
-    let mut i = 0;
-    while i < count {
+    let mut post = Post::fresh();
+    for i in 0..count {
+        let slot = u64::from(i);
+        let expiry = 90 + u32::from(i);
         if i % 3 == 2 {
-            let next = entomb(post, i as u64, i, 90 + i as u32);
-            post = next;
+            post.entomb(slot, i, expiry);
         } else {
-            let row = carried_row(i as u64, 1000 + i as u64, i, 90 + i as u32, i);
-            let next = carry(post, row);
-            post = next;
+            post.carry(carried_row(slot, 1000 + slot, i, expiry, i));
         }
-        i += 1;
     }
     post
 }
 
 // ---- pages
 
+// How many bytes at the end of an area are as they were before.
+fn left_alone(area: &[u8]) -> usize {
+    area.iter().rev().take_while(|b| **b == BEFORE).count()
+}
+
 // The page with an area of so many bytes: what is answered, the page's bytes, and how many behind them are as they were.
-fn show(what: &[u8], post: Post, page: u64, size: usize) {
+fn show(rt: &impl Print, what: &str, post: &Post, page: u64, size: usize) -> io::Result<()> {
     let mut whole = [BEFORE; 2000];
-    let area = &mut whole[0..octets::least(size, 2000)];
-    let carried = post.carried;
-    let tombstones = post.tombstones;
-    text(what);
-    text(b": page");
-    number(page);
-    text(b", area");
-    number(size as u64);
-    match screen::page(post.device, page, &carried, &tombstones, area) {
-        PageAnswer::Refused(why) => {
-            text(b": refused");
-            number(courier_core::refusal_number(why) as u64);
-            text(b", left alone");
-            number(left_alone(area) as u64);
-            end();
+    let area = &mut whole[..size.min(2000)];
+    print!(rt; "{what}: page {page}, area {size}: ")?;
+    match screen::page(post.device, page, &post.carried, &post.tombstones, area) {
+        Err(why) => {
+            let number = courier_core::refusal_number(why);
+            println!(rt; "refused {number}, left alone {}", left_alone(area))
         }
-        PageAnswer::Wrote(n) => {
-            text(b": bytes");
-            number(n as u64);
-            text(b", left alone");
-            number(left_alone(area) as u64);
-            end();
-            text(front(area, n));
+        Ok(n) => {
+            println!(rt; "bytes {n}, left alone {}", left_alone(area))?;
+            rt.write_all(&area[..n.min(area.len())])
         }
     }
 }
 
-fn counts() {
-    show(b"no row", fresh(), 0, 1620);
-    show(b"no row", fresh(), 1, 1620);
-    show(b"1 row", mixed(1), 0, 1620);
-    show(b"1 row", mixed(1), 1, 1620);
-    show(b"19 rows", mixed(19), 0, 1620);
-    show(b"19 rows", mixed(19), 1, 1620);
-    show(b"20 rows", mixed(20), 0, 1620);
-    show(b"20 rows", mixed(20), 1, 1620);
-    show(b"38 rows", mixed(38), 1, 1620);
-    show(b"38 rows", mixed(38), 2, 1620);
-    show(b"38 rows", mixed(38), MOST_SLOT, 1620);
+fn counts(rt: &impl Print) -> io::Result<()> {
+    show(rt, "no row", &Post::fresh(), 0, 1620)?;
+    show(rt, "no row", &Post::fresh(), 1, 1620)?;
+    show(rt, "1 row", &mixed(1), 0, 1620)?;
+    show(rt, "1 row", &mixed(1), 1, 1620)?;
+    show(rt, "19 rows", &mixed(19), 0, 1620)?;
+    show(rt, "19 rows", &mixed(19), 1, 1620)?;
+    show(rt, "20 rows", &mixed(20), 0, 1620)?;
+    show(rt, "20 rows", &mixed(20), 1, 1620)?;
+    show(rt, "38 rows", &mixed(38), 1, 1620)?;
+    show(rt, "38 rows", &mixed(38), 2, 1620)?;
+    show(rt, "38 rows", &mixed(38), MOST_SLOT, 1620)
 }
 
 // The greatest numbers, and none.
-fn numbers() {
-    let most = carried_row(MOST_SLOT - 1, MOST_SLOT, 0xFF, MOST_EXPIRY, 255);
-    let a = carry(fresh(), carried_row(0, 0, 0, 1, 0));
-    let b = carry(a, most);
-    let post = entomb(b, MOST_SLOT, 0xAB, MOST_EXPIRY);
-    show(b"least and greatest numbers", post, 0, 1620);
-    let held = carry(fresh(), carried_row(7, 12, 0x0A, MOST_EXPIRY, 1));
-    show(b"the last minute", at_clock(&held, MOST_SLOT), 0, 1620);
+fn numbers(rt: &impl Print) -> io::Result<()> {
+    let mut post = Post::fresh();
+    post.carry(carried_row(0, 0, 0, 1, 0));
+    post.carry(carried_row(MOST_SLOT - 1, MOST_SLOT, 0xFF, MOST_EXPIRY, 255));
+    post.entomb(MOST_SLOT, 0xAB, MOST_EXPIRY);
+    show(rt, "least and greatest numbers", &post, 0, 1620)?;
+    let mut held = Post::fresh();
+    held.carry(carried_row(7, 12, 0x0A, MOST_EXPIRY, 1));
+    show(rt, "the last minute", &held.at_clock(MOST_SLOT), 0, 1620)
 }
 
 // A carried row and a tombstone that expire at minute 10: a second before it, at it, and a minute later.
-fn clocks() {
-    let a = carry(fresh(), carried_row(3, 5, 0x11, 10, 6));
-    let post = entomb(a, 4, 0x22, 10);
-    show(b"clock 599", at_clock(&post, 599), 0, 1620);
-    show(b"clock 600", at_clock(&post, 600), 0, 1620);
-    show(b"clock 660", at_clock(&post, 660), 0, 1620);
+fn clocks(rt: &impl Print) -> io::Result<()> {
+    let mut post = Post::fresh();
+    post.carry(carried_row(3, 5, 0x11, 10, 6));
+    post.entomb(4, 0x22, 10);
+    show(rt, "clock 599", &post.at_clock(599), 0, 1620)?;
+    show(rt, "clock 600", &post.at_clock(600), 0, 1620)?;
+    show(rt, "clock 660", &post.at_clock(660), 0, 1620)
 }
 
-fn areas() {
-    show(b"short area", mixed(1), 0, 1619);
-    show(b"no area", mixed(1), 0, 0);
-    show(b"longer area", mixed(1), 0, 1621);
-    show(b"full page", mixed(19), 0, 1621);
+fn areas(rt: &impl Print) -> io::Result<()> {
+    show(rt, "short area", &mixed(1), 0, 1619)?;
+    show(rt, "no area", &mixed(1), 0, 0)?;
+    show(rt, "longer area", &mixed(1), 0, 1621)?;
+    show(rt, "full page", &mixed(19), 0, 1621)
 }
 
 // Slots that no call leaves: one of both kinds, and one that falls.
-fn garbage() {
-    let a = carry(fresh(), carried_row(9, 5, 0x11, 100, 6));
-    let b = carry(a, carried_row(2, 5, 0x33, 100, 6));
-    let post = entomb(b, 9, 0x22, 100);
-    show(b"slots that do not rise", post, 0, 1620);
+fn garbage(rt: &impl Print) -> io::Result<()> {
+    let mut post = Post::fresh();
+    post.carry(carried_row(9, 5, 0x11, 100, 6));
+    post.carry(carried_row(2, 5, 0x33, 100, 6));
+    post.entomb(9, 0x22, 100);
+    show(rt, "slots that do not rise", &post, 0, 1620)
 }
 
-pub fn main() {
-    counts();
-    numbers();
-    clocks();
-    areas();
-    garbage();
+fn main(rt: HostRuntime) -> io::Result<()> {
+    counts(&rt)?;
+    numbers(&rt)?;
+    clocks(&rt)?;
+    areas(&rt)?;
+    garbage(&rt)
 }

@@ -2,12 +2,12 @@
 -- Assumes nothing.
 use mathlib.Core.Path.{◌≡◌, sym, ap, ap₂, ◌∙◌}
 use mathlib.Core.List.{List, [], ◌++◌, append_assoc}
-use Prim.Native.Nat.{ℕ, ◌+◌, ◌-◌, ◌*◌, ◌/◌, ◌≤◌, ◌<◌}
+use Prim.Native.Nat.{ℕ, ◌+◌, ◌*◌, ◌/◌, ◌<◌}
 use native.Mathlib.Omega.{arith}
 use lib.ListN.{length, take, drop, length-append, length-drop, take-append-drop, drop_of_length-le}
 use lib.Seq.{length-take-le}
 use Rattle.octets.specs.Bytes.{part}
-use Rattle.octets.proofs.Parts.{part_left, part_right, part_take}
+use Rattle.octets.proofs.Parts.{part_left, part_right}
 use Rattle.sha_block.specs.Loop.{turns}
 use Rattle.sha_block.specs.Block.{compress}
 use Rattle.sha_block.proofs.Loop.{turns_add, turns_same}
@@ -37,18 +37,6 @@ hashed_append h x y =
     ∙ hash_same (x ++ y) v (length v / 128) (0 + q) 0 (turns (next x) q 0 h) (λ i l.
     let e : 128 * (0 + q + i) ≡ 128 * q + 128 * (0 + i) = omega arith in
     ap₂ (λ (l : List ℕ) (k : ℕ). part l k 128) split e ∙ part_right u v (128 * q) (128 * (0 + i)) 128 lu)
-
--- the whole blocks of m, then those of its padded end, which x starts with
-pub rest : (g m p : List ℕ) (e : ℕ) (x : List ℕ) {h r : List ℕ} → h ≡ turns (next m) (length m / 128) 0 g
-    → e ≤ length x → take e x ≡ drop (128 * (length m / 128)) m ++ p → r ≡ turns (next x) (e / 128) 0 h → r ≡ hashed g (m ++ p)
-unfolding hashed
-rest g m p e x {h} {r} eh l ex er =
-    let lx : length (take e x) ≡ e = length-take-le e x l in
-    er
-    ∙ sym (hash_same (take e x) x (e / 128) 0 0 h (λ i k. part_take x (128 * (0 + i)) 128 e (omega arith)))
-    ∙ ap (λ (k : ℕ). turns (next (take e x)) (k / 128) 0 h) (sym lx)
-    ∙ ap₂ (λ (g l : List ℕ). hashed g l) eh ex
-    ∙ sym (hashed_append g m p)
 
 pub whole : (m : List ℕ) {g h d : List ℕ} → g ≡ H0 → h ≡ hashed g (m ++ padding (0 + length m)) → d ≡ digest h → d ≡ sha384 m
 unfolding sha384 padded

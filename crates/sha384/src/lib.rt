@@ -1,14 +1,12 @@
 // SHA-384 of a message of bytes: FIPS 180-4. The message is read where it lies: only its padded end is built.
 #![tactic(auto)]
 
-ghost use Rattle.std.specs.Prelude.{◌≡◌, ◌++◌, ◌+◌, ◌*◌, ◌/◌, ◌%◌, ◌^◌, ◌≤◌, ◌<◌, length, take, drop};
-ghost use Rattle.sha_block.specs.Loop.{turns};
-ghost use Rattle.sha_block.specs.Constants.{K};
+ghost use Rattle.std.specs.Prelude.{◌≡◌, ◌++◌, ◌+◌, ◌*◌, ◌/◌, ◌%◌, ◌^◌, ◌<◌, length, take, drop};
 ghost use Rattle.sha384.specs.Padding.{zero_bits, padding};
-ghost use Rattle.sha384.specs.Sha384.{H0, next, hashed, digest, sha384};
+ghost use Rattle.sha384.specs.Sha384.{H0, hashed, digest, sha384};
 
 use octets::{copy_in, put_u64};
-use sha_block::{block, constants};
+use sha_block::block;
 
 // 5.3.4: the initial hash value.
 pub fn start() -> [u64; 8]
@@ -26,17 +24,14 @@ pub fn start() -> [u64; 8]
     ]
 }
 
-// The hash value after the first n blocks of m, from the hash value g.
-fn blocks(k: &[u64; 80], g: [u64; 8], m: &[u8], n: usize) -> [u64; 8]
-    requires { (k.now ≡ K) × (128 * n ≤ length m.now) }
-    ensures { result ≡ turns (next m.now) n 0 g }
+// The hash value after the whole blocks of m, from the hash value g.
+pub fn blocks(g: [u64; 8], m: &[u8]) -> [u64; 8]
+    ensures { result ≡ hashed g m.now }
 {
     let mut h = g;
-    let mut i: usize = 0;
-    while i < n {
-        let x = block(k, h, m, 128 * i);
-        h = x;
-        i += 1;
+    for i in 0..m.len() / 128 {
+        let next = block(h, m, 128 * i);
+        h = next;
     }
     h
 }
@@ -54,7 +49,7 @@ fn padded_end(m: &[u8], n: usize, e: usize) -> [u8; 256]
     ensures { take e result ≡ drop (128 * (length m.now / 128)) m.now ++ padding n }
 {
     let from = 128 * (m.len() / 128);
-    let mut x = [0u8; 256];
+    let mut x = [0; 256];
     copy_in(&mut x, 0, &m[from..]);
     x[n % 128] = 128;
     put_u64(&mut x, e - 16, (n >> 61) as u64);
@@ -63,26 +58,24 @@ fn padded_end(m: &[u8], n: usize, e: usize) -> [u8; 256]
 }
 
 // The hash value of a message that ends in m, from the hash value g of its blocks before m, p bytes in all.
-pub fn hash_rest(k: &[u64; 80], g: [u64; 8], p: usize, m: &[u8]) -> [u64; 8]
-    requires { (k.now ≡ K) × (p % 128 ≡ 0) × (p + length m.now < 2 ^ 64) }
+pub fn hash_rest(g: [u64; 8], p: usize, m: &[u8]) -> [u64; 8]
+    requires { (p % 128 ≡ 0) × (p + length m.now < 2 ^ 64) }
     ensures { result ≡ hashed g (m.now ++ padding (p + length m.now)) }
 {
-    let h = blocks(k, g, m, m.len() / 128);
+    let h = blocks(g, m);
     let n = p + m.len();
     let e = end_of(n);
     let x = padded_end(m, n, e);
-    blocks(k, h, &x, e / 128)
+    blocks(h, &x[..e])
 }
 
 // 6.5: the digest.
 pub fn digest_of(h: [u64; 8]) -> [u8; 48]
     ensures { result ≡ digest h }
 {
-    let mut d = [0u8; 48];
-    let mut i: usize = 0;
-    while i < 6 {
+    let mut d = [0; 48];
+    for i in 0..6 {
         put_u64(&mut d, 8 * i, h[i]);
-        i += 1;
     }
     d
 }
@@ -91,15 +84,13 @@ pub fn digest_of(h: [u64; 8]) -> [u8; 48]
 pub fn hash(m: &[u8]) -> [u8; 48]
     ensures { result ≡ sha384 m.now }
 {
-    let k = constants();
-    digest_of(hash_rest(&k, start(), 0, m))
+    digest_of(hash_rest(start(), 0, m))
 }
 
 // SHA-384 of a block of 128 bytes with m after it, which HMAC asks for.
 pub fn hash_after(first: &[u8; 128], m: &[u8]) -> [u8; 48]
     ensures { result ≡ sha384 (first.now ++ m.now) }
 {
-    let k = constants();
-    let g = block(&k, start(), first, 0);
-    digest_of(hash_rest(&k, g, 128, m))
+    let g = block(start(), first, 0);
+    digest_of(hash_rest(g, 128, m))
 }

@@ -1,7 +1,7 @@
 // One block of SHA-384: FIPS 180-4, 6.4.2.
 #![tactic(auto)]
 
-ghost use Rattle.std.specs.Prelude.{◌≡◌, ℕ, ◌+◌, ◌≤◌, List, length, take};
+ghost use Rattle.std.specs.Prelude.{◌≡◌, ℕ, ◌+◌, ◌≤◌, ◌<◌, List, length, take, slice_index};
 ghost use Rattle.octets.specs.Bytes.{part};
 ghost use Rattle.sha_block.specs.Loop.{turns};
 ghost use Rattle.sha_block.specs.Constants.{K};
@@ -9,9 +9,9 @@ ghost use Rattle.sha_block.specs.Block.{mixed, longer, schedule, T1, T2, turned,
 
 use octets::get_u64;
 use sha_word::{big_sigma0, big_sigma1, ch, maj, small_sigma0, small_sigma1};
-use std::num::wrapping_add_u64;
 
-const TABLE: [u64; 80] = [
+// 4.2.3: the constants.
+static TABLE: [u64; 80] = [
     0x428a_2f98_d728_ae22,
     0x7137_4491_23ef_65cd,
     0xb5c0_fbcf_ec4d_3b2f,
@@ -94,20 +94,14 @@ const TABLE: [u64; 80] = [
     0x6c44_198c_4a47_5817,
 ];
 
-// 4.2.3: the constants. A caller makes them once for a message and lends them: a constant array is built anew wherever it is named.
-pub fn constants() -> [u64; 80]
-    ensures { result ≡ K }
-{
-    TABLE
-}
-
 // Step 1: the word t, from the words t - 2, t - 7, t - 15 and t - 16.
 fn mix(x: u64, y: u64, z: u64, v: u64) -> u64
     ensures { result ≡ mixed x y z v }
 {
-    let a = wrapping_add_u64(small_sigma1(x), y);
-    let b = wrapping_add_u64(small_sigma0(z), v);
-    wrapping_add_u64(a, b)
+    small_sigma1(x)
+        .wrapping_add(y)
+        .wrapping_add(small_sigma0(z))
+        .wrapping_add(v)
 }
 
 // Step 1 for t = 0 to 15: the words of the block at `at`, with room for the others.
@@ -115,11 +109,9 @@ fn load(m: &[u8], at: usize) -> [u64; 80]
     requires { at + 128 ≤ length m.now }
     ensures { schedule (part m.now at 128) ≡ turns (longer (part m.now at 128)) 64 16 (take 16 result) }
 {
-    let mut w = [0u64; 80];
-    let mut t: usize = 0;
-    while t < 16 {
+    let mut w = [0; 80];
+    for t in 0..16 {
         w[t] = get_u64(m, at + 8 * t);
-        t += 1;
     }
     w
 }
@@ -129,10 +121,8 @@ fn extend(v: [u64; 80]) -> [u64; 80]
     ensures { (b : List ℕ) → result ≡ turns (longer b) 64 16 (take 16 v) }
 {
     let mut w = v;
-    let mut t: usize = 16;
-    while t < 80 {
+    for t in 16..80 {
         w[t] = mix(w[t - 2], w[t - 7], w[t - 15], w[t - 16]);
-        t += 1;
     }
     w
 }
@@ -141,51 +131,56 @@ fn extend(v: [u64; 80]) -> [u64; 80]
 fn t1_of(e: u64, f: u64, g: u64, h: u64, k: u64, w: u64) -> u64
     ensures { result ≡ T1 e f g h k w }
 {
-    let a = wrapping_add_u64(h, big_sigma1(e));
-    let b = wrapping_add_u64(a, ch(e, f, g));
-    wrapping_add_u64(b, wrapping_add_u64(k, w))
+    h.wrapping_add(big_sigma1(e))
+        .wrapping_add(ch(e, f, g))
+        .wrapping_add(k)
+        .wrapping_add(w)
 }
 
 // Step 3: T2.
 fn t2_of(a: u64, b: u64, c: u64) -> u64
     ensures { result ≡ T2 a b c }
 {
-    wrapping_add_u64(big_sigma0(a), maj(a, b, c))
+    big_sigma0(a).wrapping_add(maj(a, b, c))
 }
 
 // Step 3: one round, with the constant k and the word w.
 fn turn(s: [u64; 8], k: u64, w: u64) -> [u64; 8]
     ensures { result ≡ turned s k w }
 {
-    let t1 = t1_of(s[4], s[5], s[6], s[7], k, w);
-    let t2 = t2_of(s[0], s[1], s[2]);
-    let a = wrapping_add_u64(t1, t2);
-    let e = wrapping_add_u64(s[3], t1);
-    [a, s[0], s[1], s[2], e, s[4], s[5], s[6]]
+    let [a, b, c, d, e, f, g, h] = s;
+    let t1 = t1_of(e, f, g, h, k, w);
+    let t2 = t2_of(a, b, c);
+    [t1.wrapping_add(t2), a, b, c, d.wrapping_add(t1), e, f, g]
+}
+
+// Step 3: round t.
+fn one(w: &[u64; 80], s: [u64; 8], t: usize) -> [u64; 8]
+    requires { t < 80 }
+    ensures { result ≡ round w.now s t }
+{
+    turn(s, TABLE[t], w[t])
 }
 
 // Step 3: four rounds, from t on. Four to a turn of the loop save the moves from variable to variable.
-fn four(k: &[u64; 80], w: &[u64; 80], s: [u64; 8], t: usize) -> [u64; 8]
-    requires { (k.now ≡ K) × (t + 4 ≤ 80) }
+fn four(w: &[u64; 80], s: [u64; 8], t: usize) -> [u64; 8]
+    requires { t + 4 ≤ 80 }
     ensures { result ≡ turns (round w.now) 4 t s }
 {
-    let a = turn(s, k[t], w[t]);
-    let b = turn(a, k[t + 1], w[t + 1]);
-    let c = turn(b, k[t + 2], w[t + 2]);
-    turn(c, k[t + 3], w[t + 3])
+    let a = one(w, s, t);
+    let b = one(w, a, t + 1);
+    let c = one(w, b, t + 2);
+    one(w, c, t + 3)
 }
 
 // Step 3: the eighty rounds.
-fn rounds(k: &[u64; 80], w: &[u64; 80], h: [u64; 8]) -> [u64; 8]
-    requires { k.now ≡ K }
+fn rounds(w: &[u64; 80], h: [u64; 8]) -> [u64; 8]
     ensures { result ≡ turns (round w.now) 80 0 h }
 {
     let mut s = h;
-    let mut t: usize = 0;
-    while t < 80 {
-        let n = four(k, w, s, t);
-        s = n;
-        t += 4;
+    for i in 0..20 {
+        let next = four(w, s, 4 * i);
+        s = next;
     }
     s
 }
@@ -195,23 +190,22 @@ fn add_to(s: [u64; 8], h: [u64; 8]) -> [u64; 8]
     ensures { result ≡ summed s h }
 {
     [
-        wrapping_add_u64(s[0], h[0]),
-        wrapping_add_u64(s[1], h[1]),
-        wrapping_add_u64(s[2], h[2]),
-        wrapping_add_u64(s[3], h[3]),
-        wrapping_add_u64(s[4], h[4]),
-        wrapping_add_u64(s[5], h[5]),
-        wrapping_add_u64(s[6], h[6]),
-        wrapping_add_u64(s[7], h[7]),
+        s[0].wrapping_add(h[0]),
+        s[1].wrapping_add(h[1]),
+        s[2].wrapping_add(h[2]),
+        s[3].wrapping_add(h[3]),
+        s[4].wrapping_add(h[4]),
+        s[5].wrapping_add(h[5]),
+        s[6].wrapping_add(h[6]),
+        s[7].wrapping_add(h[7]),
     ]
 }
 
 // The hash value after the block of m at `at`, from the hash value h before it.
-pub fn block(k: &[u64; 80], h: [u64; 8], m: &[u8], at: usize) -> [u64; 8]
-    requires { (k.now ≡ K) × (at + 128 ≤ length m.now) }
+pub fn block(h: [u64; 8], m: &[u8], at: usize) -> [u64; 8]
+    requires { at + 128 ≤ length m.now }
     ensures { result ≡ compress h (part m.now at 128) }
 {
     let w = extend(load(m, at));
-    let s = rounds(k, &w, h);
-    add_to(s, h)
+    add_to(rounds(&w, h), h)
 }

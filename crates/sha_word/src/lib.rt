@@ -9,7 +9,7 @@ pub fn rotr(x: u64, n: u64) -> u64
     requires { (0 < n) × (n < 64) }
     ensures { result ≡ ROTR n x }
 {
-    (x >> n) | (x << (64 - n))
+    x.rotate_right(n as u32)
 }
 
 // (4.8): each bit of x chooses between that of y and that of z.

@@ -3,7 +3,7 @@
 use Rattle.std.proofs.Common.{◌≡◌, ℕ, ◌≤◌, Bool, true, false, ◌&&◌, leb, refl, le-leb, leb-true}
 use Rattle.courier.proofs.Laws.{both}
 use Rattle.courier_core.specs.declared.Refusal.TheVariants as refusal
-use Rattle.state.specs.declared.Configured.TheVariants as configured
+use Rattle.std.specs.Prelude.{Ok, Err}
 use Rattle.state.specs.Config.{in_range, config_new, IsConfigured}
 
 -- each of the four ends
@@ -19,16 +19,16 @@ module _ (enabled : Bool) (copies lifetime : ℕ) where
       let k = both (leb 1 copies) (leb copies 16) l.0 in
       (leb-true 1 copies k.0, leb-true copies 16 k.1, leb-true 60 lifetime l.1, leb-true lifetime 10080 d.1)
 
-  pub refused : (Within copies lifetime → ⊥) → IsConfigured enabled copies lifetime (configured.Refused refusal.Configuration)
+  pub refused : (Within copies lifetime → ⊥) → IsConfigured enabled copies lifetime (Err refusal.Configuration)
   unfolding config_new
   refused k = go (in_range copies lifetime) refl
     where
-      go : (b : Bool) → in_range copies lifetime ≡ b → IsConfigured enabled copies lifetime (configured.Refused refusal.Configuration)
+      go : (b : Bool) → in_range copies lifetime ≡ b → IsConfigured enabled copies lifetime (Err refusal.Configuration)
       go true e = absurd (k (in_range_lem e))
       go false e = record { answer = rw e; number = rw e }
 
   pub taken : Within copies lifetime
-      → IsConfigured enabled copies lifetime (configured.As (record { enabled = enabled; copies = copies; lifetime_min = lifetime }))
+      → IsConfigured enabled copies lifetime (Ok (record { enabled = enabled; copies = copies; lifetime_min = lifetime }))
   unfolding config_new in_range
   taken w =
       let e : in_range copies lifetime ≡ true =

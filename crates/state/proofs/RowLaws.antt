@@ -9,7 +9,7 @@ use Rattle.courier.specs.Courier.{header_bytes}
 use Rattle.courier_core.specs.declared.Refusal.TheVariants as refusal
 use Rattle.state.specs.declared.Carried.{Carried}
 use Rattle.state.specs.declared.Tombstone.{Tombstone}
-use Rattle.state.specs.declared.RowAnswer.TheVariants as row_answer
+use Rattle.std.specs.Prelude.{Ok, Err}
 use Rattle.state.specs.Held.{carried, tombstone, carried_head, held_row, row_answered, row_area, RowWritten}
 
 -- what the types of a tombstone's fields say of them
@@ -50,23 +50,23 @@ tombstone_made t p x y w ex ey ew =
 -- ---- the area
 
 module _ (row area : List ℕ) where
-  pub row_refused : length area < 2110 → RowWritten row area (row_answer.Refused refusal.ShortArea) area
+  pub row_refused : length area < 2110 → RowWritten row area (Err refusal.ShortArea) area
   unfolding row_answered row_area
   row_refused h =
       let e : ltb (length area) 2110 ≡ true = lt-ltb (length area) 2110 h in
       record { answer = rw e; number = rw e; area = rw e }
 
-  pub row_answered_lem : 2110 ≤ length area → row_answered row area ≡ row_answer.Written (length row)
+  pub row_answered_lem : 2110 ≤ length area → row_answered row area ≡ Ok (length row)
   unfolding row_answered
   row_answered_lem h = rw (le-ltb (length area) 2110 h)
 
   -- the row's bytes, however they were made, at the front of the area
   pub row_written : (b : List ℕ) (n : ℕ) (after : List ℕ) → 2110 ≤ length area → b ≡ row → length b ≡ n → after ≡ splice area 0 b
-      → RowWritten row area (row_answer.Written n) after
+      → RowWritten row area (Ok n) after
   unfolding row_answered row_area
   row_written b n after h eb en ea =
       let e : ltb (length area) 2110 ≡ false = le-ltb (length area) 2110 h in
-      record { answer = ap row_answer.Written (sym en ∙ ap length eb) ∙ rw e; number = rw e; area = ea ∙ ap (splice area 0) eb ∙ rw e }
+      record { answer = ap Ok (sym en ∙ ap length eb) ∙ rw e; number = rw e; area = ea ∙ ap (splice area 0) eb ∙ rw e }
 
 -- what lies inside a cell, by its length
 take_min : (m : ℕ) (l : List ℕ) → take (min m (length l)) l ≡ take m l
@@ -77,7 +77,7 @@ take_min m l =
 -- a carried row: its head, then what lies inside the cell
 pub carried_written : (r : Carried) (ct area h x after : List ℕ) (n : ℕ) → 2110 ≤ length area → h ≡ carried_head r → length h ≡ 46
     → n ≡ min 2064 (length ct) → x ≡ splice area 0 h → after ≡ splice x 46 (take (n - 0) ct)
-    → RowWritten (held_row (carried r ct)) area (row_answer.Written (46 + n)) after
+    → RowWritten (held_row (carried r ct)) area (Ok (46 + n)) after
 unfolding held_row
 carried_written r ct area h x after n ha eh lh en ex ea =
     let z : n - 0 ≡ n = omega arith in

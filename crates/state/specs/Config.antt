@@ -1,27 +1,26 @@
 -- Document 01's `CourierConfig::new` and its default.
 -- Assumes nothing.
-use Rattle.std.specs.Prelude.{◌≡◌, ℕ, Bool, true, cond, ◌&&◌, nat_le}
+use Rattle.std.specs.Prelude.{◌≡◌, ℕ, Bool, true, cond, ◌&&◌, nat_le, Result, Ok, Err}
 use Rattle.courier_core.specs.Core.{refusal_number}
+use Rattle.courier_core.specs.declared.Refusal.{Refusal}
 use Rattle.courier_core.specs.declared.Refusal.TheVariants as refusal
 use Rattle.state.specs.declared.CourierConfig.{CourierConfig}
-use Rattle.state.specs.declared.Configured.{Configured}
-use Rattle.state.specs.declared.Configured.TheVariants as configured
 
 -- copies 1 to 16 and a lifetime of 60 to 10,080 minutes
 unfoldable pub in_range : ℕ → ℕ → Bool
 in_range copies lifetime = nat_le 1 copies && nat_le copies 16 && nat_le 60 lifetime && nat_le lifetime 10080
 
-unfoldable pub config_new : Bool → ℕ → ℕ → Configured
+unfoldable pub config_new : Bool → ℕ → ℕ → Result CourierConfig Refusal
 config_new enabled copies lifetime =
-    cond (in_range copies lifetime) (configured.As (record { enabled = enabled; copies = copies; lifetime_min = lifetime }))
-    (configured.Refused refusal.Configuration)
+    cond (in_range copies lifetime) (Ok (record { enabled = enabled; copies = copies; lifetime_min = lifetime }))
+    (Err refusal.Configuration)
 
 -- the number by which a configuration is refused, or 0
-abbrev pub config_number : Configured → ℕ
-config_number (configured.Refused why) = refusal_number why
-config_number (configured.As config) = 0
+abbrev pub config_number : Result CourierConfig Refusal → ℕ
+config_number (Err why) = refusal_number why
+config_number (Ok config) = 0
 
-pub record IsConfigured (enabled : Bool) (copies lifetime : ℕ) (said : Configured) : Type 0 where
+pub record IsConfigured (enabled : Bool) (copies lifetime : ℕ) (said : Result CourierConfig Refusal) : Type 0 where
   pub answer : said ≡ config_new enabled copies lifetime
   pub number : config_number said ≡ cond (in_range copies lifetime) 0 7
 

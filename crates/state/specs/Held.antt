@@ -1,20 +1,16 @@
 -- Document 01's held rows: `Held::row` as bytes and into a blob area, and `Held::decode`.
 -- Assumes nothing.
-use Rattle.std.specs.Prelude.{◌≡◌, ℕ, ◌-◌, cond, ◌&&◌, List, [], ◌∷◌, ◌++◌, length, take, drop, replicate, ◌==◌, nat_le, nat_lt, slice_index}
-use Rattle.std.proofs.Math.Option.{Option, none, some}
+use Rattle.std.specs.Prelude.{◌≡◌, ℕ, ◌-◌, cond, ◌&&◌, List, [], ◌∷◌, ◌++◌, length, take, drop, ◌==◌, nat_le, nat_lt, slice_index, Result, Ok, Err, Some, None, Option}
+use Rattle.std.specs.Prelude
 use Rattle.octets.specs.Bytes.{part, splice, num, be}
 use Rattle.courier_core.specs.Core.{refusal_number}
+use Rattle.courier_core.specs.declared.Refusal.{Refusal}
 use Rattle.courier_core.specs.declared.Refusal.TheVariants as refusal
-use Rattle.courier.specs.Courier.{header_bytes, header_of, no_header, envelope_valid}
+use Rattle.courier.specs.Courier.{header_bytes, header_of, envelope_valid}
 use Rattle.state.specs.declared.Carried.{Carried}
 use Rattle.state.specs.declared.Tombstone.{Tombstone}
-use Rattle.state.specs.declared.RowAnswer.{RowAnswer}
-use Rattle.state.specs.declared.RowAnswer.TheVariants as row_answer
-use Rattle.state.specs.declared.ByteRead.{ByteRead}
-use Rattle.state.specs.declared.ByteRead.TheVariants as byte_read
-use Rattle.state.specs.declared.HeldKind.{HeldKind}
-use Rattle.state.specs.declared.HeldKind.TheVariants as kind
-use Rattle.state.specs.declared.HeldRead.{HeldRead}
+use Rattle.state.specs.declared.Held.{Held as Row}
+use Rattle.state.specs.declared.Held.TheVariants as row
 
 -- a held row; a carried one with its ciphertext
 pub data Held : Type 0 where
@@ -31,18 +27,18 @@ held_row (carried r ct) = carried_head r ++ take 2064 ct
 held_row (tombstone t) = (1 ∷ []) ++ t.tag ++ t.s ++ be 4 t.expiry_min
 
 -- a row written to a blob area: an area shorter than 2,110 is refused and stays; else the row's bytes are its first and the rest stays
-unfoldable pub row_answered : List ℕ → List ℕ → RowAnswer
-row_answered row area = cond (nat_lt (length area) 2110) (row_answer.Refused refusal.ShortArea) (row_answer.Written (length row))
+unfoldable pub row_answered : List ℕ → List ℕ → Result ℕ Refusal
+row_answered row area = cond (nat_lt (length area) 2110) (Err refusal.ShortArea) (Ok (length row))
 
 unfoldable pub row_area : List ℕ → List ℕ → List ℕ
 row_area row area = cond (nat_lt (length area) 2110) area (splice area 0 row)
 
 -- the number by which a row is refused, or 0
-abbrev pub row_number : RowAnswer → ℕ
-row_number (row_answer.Refused why) = refusal_number why
-row_number (row_answer.Written n) = 0
+abbrev pub row_number : Result ℕ Refusal → ℕ
+row_number (Err why) = refusal_number why
+row_number (Ok n) = 0
 
-pub record RowWritten (row before : List ℕ) (said : RowAnswer) (after : List ℕ) : Type 0 where
+pub record RowWritten (row before : List ℕ) (said : Result ℕ Refusal) (after : List ℕ) : Type 0 where
   pub answer : said ≡ row_answered row before
   pub number : row_number said ≡ cond (nat_lt (length before) 2110) 1 0
   pub area : after ≡ row_area row before
@@ -54,32 +50,21 @@ carried_of b = record { depositor = record { 0 = num (part b 1 8) }; header = he
 unfoldable pub carried_in : List ℕ → Option Held
 carried_in b =
     cond (nat_le 46 (length b) && envelope_valid (length b - 46) (carried_of b).header.copies (carried_of b).header.expiry_min 0)
-    (some (carried (carried_of b) (drop 46 b))) none
+    (Some (carried (carried_of b) (drop 46 b))) None
 
 -- the same of a tombstone, which ends with its expiry
 unfoldable pub tombstone_of : List ℕ → Tombstone
 tombstone_of b = record { tag = part b 1 16; s = part b 17 16; expiry_min = num (part b 33 4) }
 
 unfoldable pub tombstone_in : List ℕ → Option Held
-tombstone_in b = cond (length b == 37) (some (tombstone (tombstone_of b))) none
-
--- the kind that a first byte says: 0 carried, 1 a tombstone
-unfoldable pub kind_of : ByteRead → HeldKind
-kind_of (byte_read.Got k) = cond (k == 0) kind.Carried (cond (k == 1) kind.Tombstone kind.None)
-kind_of byte_read.Short = kind.None
+tombstone_in b = cond (length b == 37) (Some (tombstone (tombstone_of b))) None
 
 -- `Held::decode`, by the kind byte. (An empty blob has none; it is too short for either kind.)
 unfoldable pub held_decode : List ℕ → Option Held
-held_decode b = cond (slice_index b 0 == 0) (carried_in b) (cond (slice_index b 0 == 1) (tombstone_in b) none)
-
-abbrev pub no_carried : Carried
-no_carried = record { depositor = record { 0 = 0 }; header = no_header }
-
-abbrev pub no_tombstone : Tombstone
-no_tombstone = record { tag = replicate 16 0; s = replicate 16 0; expiry_min = 0 }
+held_decode b = cond (slice_index b 0 == 0) (carried_in b) (cond (slice_index b 0 == 1) (tombstone_in b) None)
 
 -- what `decode` answers for each case; a carried row's ciphertext is the blob's from 46 on
-abbrev pub held_read : Option Held → HeldRead
-held_read none = record { kind = kind.None; carried = no_carried; tombstone = no_tombstone }
-held_read (some (carried r ct)) = record { kind = kind.Carried; carried = r; tombstone = no_tombstone }
-held_read (some (tombstone t)) = record { kind = kind.Tombstone; carried = no_carried; tombstone = t }
+abbrev pub held_read : Option Held → Prelude.Option Row
+held_read None = None
+held_read (Some (carried r ct)) = Some (row.Carried r)
+held_read (Some (tombstone t)) = Some (row.Tombstone t)

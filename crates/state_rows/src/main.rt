@@ -2,37 +2,22 @@
 #![tactic(auto)]
 
 use chain::Dir;
-use courier::{Custody, CustodyRead, Header};
-use courier_core::ContactId;
-use state::{Carried, Configured, CourierConfig, HeldKind, RowAnswer, Tombstone};
+use courier::{Custody, Header};
+use courier_core::{ContactId, Refusal};
+use state::{Carried, CourierConfig, Held, Tombstone};
+use std::io;
 
-// Standard output.
-const STDOUT: i32 = 1;
-
-fn text(s: &[u8]) {
-    io::write_all(STDOUT, s);
-}
-
-fn number(n: u64) {
-    text(b" ");
-    io::print_decimal(STDOUT, n);
-}
-
-fn end() {
-    text(b"\n");
-}
-
-fn yes(b: bool) {
-    if b { text(b" yes\n") } else { text(b" no\n") }
+fn yes(b: bool) -> &'static str {
+    if b { "yes" } else { "no" }
 }
 
 // ---- courier: tags and commitments
 
-fn hex(a: [u8; 16]) {
-    text(b" ");
-    io::print_hex(STDOUT, octets::get_u64(&a, 0), 16);
-    io::print_hex(STDOUT, octets::get_u64(&a, 8), 16);
-    end();
+fn line_of_hex(rt: &impl Print, a: [u8; 16]) -> io::Result<()> {
+    for byte in &a {
+        print!(rt; "{byte:02x}")?;
+    }
+    println!(rt;)
 }
 
 fn key() -> [u8; 32] {
@@ -42,160 +27,121 @@ fn key() -> [u8; 32] {
     k
 }
 
-fn show_tag(dir: Dir, generation: u8, idx: u32) {
-    text(b"tag");
-    number(generation as u64);
-    number(idx as u64);
-    hex(courier::route_tag(key(), dir, generation, idx));
+fn show_tag(rt: &impl Print, dir: Dir, generation: u8, idx: u32) -> io::Result<()> {
+    print!(rt; "tag {generation} {idx} ")?;
+    line_of_hex(rt, courier::route_tag(key(), dir, generation, idx))
 }
 
 // An index has one to five bytes.
-fn tags() {
-    show_tag(Dir::I, 0, 0);
-    show_tag(Dir::R, 0, 0);
-    show_tag(Dir::I, 255, 127);
-    show_tag(Dir::I, 1, 128);
-    show_tag(Dir::R, 1, 16384);
-    show_tag(Dir::I, 1, 2097152);
-    show_tag(Dir::R, 255, 4294967295);
-}
-
-fn secrets() {
-    let s = courier::delivered(key());
-    text(b"delivered");
-    hex(s);
-    let c = courier::commitment(s);
-    text(b"commitment");
-    hex(c);
-    text(b"matches");
-    yes(courier::tombstone_matches(c, s));
-    text(b"matches");
-    yes(courier::tombstone_matches(s, s));
+fn tags(rt: &impl Print) -> io::Result<()> {
+    show_tag(rt, Dir::I, 0, 0)?;
+    show_tag(rt, Dir::R, 0, 0)?;
+    show_tag(rt, Dir::I, 255, 127)?;
+    show_tag(rt, Dir::I, 1, 128)?;
+    show_tag(rt, Dir::R, 1, 16384)?;
+    show_tag(rt, Dir::I, 1, 2097152)?;
+    show_tag(rt, Dir::R, 255, 4294967295)
 }
 
 // A commitment of which one byte is another does not match.
-fn near_miss() {
+fn secrets(rt: &impl Print) -> io::Result<()> {
     let s = courier::delivered(key());
-    let mut c = courier::commitment(s);
-    c[15] = c[15] ^ 1;
-    text(b"matches");
-    yes(courier::tombstone_matches(c, s));
+    let c = courier::commitment(s);
+    let mut near = c;
+    near[15] ^= 1;
+    print!(rt; "delivered ")?;
+    line_of_hex(rt, s)?;
+    print!(rt; "commitment ")?;
+    line_of_hex(rt, c)?;
+    for x in [c, s, near] {
+        println!(rt; "matches {}", yes(courier::tombstone_matches(x, s)))?;
+    }
+    Ok(())
 }
 
 // ---- courier: valid, codes
 
-fn show_valid(len: usize, copies: u8, expiry: u32, minute: u32) {
-    text(b"valid");
-    number(len as u64);
-    number(copies as u64);
-    number(expiry as u64);
-    number(minute as u64);
-    yes(courier::valid(len, copies, expiry, minute));
+fn show_valid(rt: &impl Print, len: usize, copies: u8, expiry: u32, minute: u32) -> io::Result<()> {
+    let valid = courier::valid(len, copies, expiry, minute);
+    println!(rt; "valid {len} {copies} {expiry} {minute} {}", yes(valid))
 }
 
-// A bucket's ciphertext length, and one either side.
-fn around(inner: u16) {
-    let len = inner as usize + 16;
-    show_valid(len - 1, 1, 11, 10);
-    show_valid(len, 1, 11, 10);
-    show_valid(len + 1, 1, 11, 10);
-}
-
-fn buckets() {
-    around(0);
-    around(32);
-    around(64);
-    around(128);
-    around(256);
-    around(512);
-    around(1024);
-    around(2048);
-    around(4048);
-}
-
-fn copies_and_expiry() {
-    show_valid(0, 1, 11, 10);
-    show_valid(48, 0, 11, 10);
-    show_valid(48, 255, 11, 10);
-    show_valid(48, 1, 9, 10);
-    show_valid(48, 1, 10, 10);
-    show_valid(48, 1, 0, 0);
-    show_valid(48, 1, 1, 0);
-    show_valid(48, 1, 4294967294, 4294967295);
-    show_valid(48, 1, 4294967295, 4294967295);
-    show_valid(48, 1, 4294967295, 4294967294);
-}
-
-// A known code with its byte again.
-fn show_code(byte: u8) {
-    match Custody::from_code(byte) {
-        CustodyRead::Known(custody) => {
-            text(b"code");
-            number(byte as u64);
-            number(custody.code() as u64);
-            end();
+// Each bucket's ciphertext length, and one either side.
+fn buckets(rt: &impl Print) -> io::Result<()> {
+    for inner in [0, 32, 64, 128, 256, 512, 1024, 2048, 4048] {
+        for len in inner + 15..inner + 18 {
+            show_valid(rt, len, 1, 11, 10)?;
         }
-        CustodyRead::Unknown => {}
     }
+    Ok(())
 }
 
-// Of all 256 bytes those that are codes.
-fn codes() {
-    let mut byte: u16 = 0;
-    while byte < 256 {
-        show_code(byte as u8);
-        byte += 1;
+fn copies_and_expiry(rt: &impl Print) -> io::Result<()> {
+    show_valid(rt, 0, 1, 11, 10)?;
+    show_valid(rt, 48, 0, 11, 10)?;
+    show_valid(rt, 48, 255, 11, 10)?;
+    show_valid(rt, 48, 1, 9, 10)?;
+    show_valid(rt, 48, 1, 10, 10)?;
+    show_valid(rt, 48, 1, 0, 0)?;
+    show_valid(rt, 48, 1, 1, 0)?;
+    show_valid(rt, 48, 1, 4294967294, 4294967295)?;
+    show_valid(rt, 48, 1, 4294967295, 4294967295)?;
+    show_valid(rt, 48, 1, 4294967295, 4294967294)
+}
+
+// Of all 256 bytes those that are codes, each with its byte again.
+fn codes(rt: &impl Print) -> io::Result<()> {
+    for byte in 0..=255u8 {
+        if let Some(custody) = Custody::from_code(byte) {
+            println!(rt; "code {byte} {}", custody.code())?;
+        }
     }
+    Ok(())
 }
 
 // ---- state: configurations
 
-fn show_config(config: CourierConfig) {
-    number(config.copies as u64);
-    number(config.lifetime_min as u64);
-    yes(config.enabled);
+fn show_config(rt: &impl Print, config: CourierConfig) -> io::Result<()> {
+    println!(rt;
+        " {} {} {}",
+        config.copies,
+        config.lifetime_min,
+        yes(config.enabled)
+    )
 }
 
-fn show_new(enabled: bool, copies: u8, lifetime: u16) {
-    text(b"new");
-    number(copies as u64);
-    number(lifetime as u64);
+fn show_new(rt: &impl Print, enabled: bool, copies: u8, lifetime: u16) -> io::Result<()> {
+    print!(rt; "new {copies} {lifetime}")?;
     match CourierConfig::new(enabled, copies, lifetime) {
-        Configured::Refused(why) => {
-            text(b" refused");
-            number(courier_core::refusal_number(why) as u64);
-            end();
-        }
-        Configured::As(config) => show_config(config),
+        Ok(config) => show_config(rt, config),
+        Err(why) => println!(rt; " refused {}", why.number()),
     }
 }
 
-fn configs() {
-    show_new(true, 0, 60);
-    show_new(true, 1, 60);
-    show_new(false, 16, 10080);
-    show_new(true, 17, 10080);
-    show_new(true, 255, 1440);
-    show_new(true, 6, 0);
-    show_new(true, 6, 59);
-    show_new(false, 6, 61);
-    show_new(true, 6, 10079);
-    show_new(true, 6, 10081);
-    show_new(true, 6, 65535);
-    text(b"default");
-    show_config(CourierConfig::default());
+fn configs(rt: &impl Print) -> io::Result<()> {
+    show_new(rt, true, 0, 60)?;
+    show_new(rt, true, 1, 60)?;
+    show_new(rt, false, 16, 10080)?;
+    show_new(rt, true, 17, 10080)?;
+    show_new(rt, true, 255, 1440)?;
+    show_new(rt, true, 6, 0)?;
+    show_new(rt, true, 6, 59)?;
+    show_new(rt, false, 6, 61)?;
+    show_new(rt, true, 6, 10079)?;
+    show_new(rt, true, 6, 10081)?;
+    show_new(rt, true, 6, 65535)?;
+    print!(rt; "default")?;
+    show_config(rt, CourierConfig::default())
 }
 
 // ---- state: rows
 
 fn envelope(copies: u8, expiry: u32) -> Carried {
-    let tag = [0x11u8; 16];
-    let c = [0x22u8; 16];
     Carried {
         depositor: ContactId(0x0102_0304_0506_0708),
         header: Header {
-            tag,
-            c,
+            tag: [0x11; 16],
+            c: [0x22; 16],
             expiry_min: expiry,
             copies,
         },
@@ -203,203 +149,145 @@ fn envelope(copies: u8, expiry: u32) -> Carried {
 }
 
 fn delivered() -> Tombstone {
-    let tag = [0x33u8; 16];
-    let s = [0x44u8; 16];
     Tombstone {
-        tag,
-        s,
+        tag: [0x33; 16],
+        s: [0x44; 16],
         expiry_min: 0,
     }
 }
 
-fn show_answer(r: RowAnswer) {
-    match r {
-        RowAnswer::Refused(why) => {
-            text(b" refused");
-            number(courier_core::refusal_number(why) as u64);
-        }
-        RowAnswer::Written(n) => {
-            text(b" written");
-            number(n as u64);
-        }
+// What was answered, and how many bytes are no longer 0xEE.
+fn show_area(
+    rt: &impl Print,
+    name: &str,
+    area: &[u8],
+    answer: Result<usize, Refusal>,
+) -> io::Result<()> {
+    print!(rt; "{name} into {}", area.len())?;
+    match answer {
+        Ok(n) => print!(rt; " written {n}")?,
+        Err(why) => print!(rt; " refused {}", why.number())?,
     }
+    println!(rt;
+        " changed {}",
+        area.iter().filter(|byte| **byte != 0xEE).count()
+    )
 }
 
-fn length_of(r: RowAnswer) -> usize {
-    match r {
-        RowAnswer::Refused(_) => 0,
-        RowAnswer::Written(n) => n,
-    }
+fn carried_area(rt: &impl Print, area: &mut [u8]) -> io::Result<()> {
+    let answer = state::carried_row(envelope(9, 100), &[7; 48], area);
+    show_area(rt, "carried", area, answer)
 }
 
-// How many bytes are no longer 0xEE.
-fn changed(area: &[u8]) -> usize {
-    let mut n: usize = 0;
-    let mut i = 0;
-    while i < area.len() {
-        if area[i] != 0xEE {
-            n += 1;
-        }
-        i += 1;
-    }
-    n
+fn tombstone_area(rt: &impl Print, area: &mut [u8]) -> io::Result<()> {
+    let answer = state::tombstone_row(delivered(), area);
+    show_area(rt, "tombstone", area, answer)
 }
 
-fn show_area(name: &[u8], area: &[u8], r: RowAnswer) {
-    text(name);
-    number(area.len() as u64);
-    show_answer(r);
-    text(b" changed");
-    number(changed(area) as u64);
-    end();
+fn areas(rt: &impl Print) -> io::Result<()> {
+    let mut short = [0xEEu8; 2109];
+    carried_area(rt, &mut short)?;
+    tombstone_area(rt, &mut short)?;
+    carried_area(rt, &mut [0xEE; 2110])?;
+    tombstone_area(rt, &mut [0xEE; 2111])
 }
 
-fn carried_area(area: &mut [u8]) {
-    let ct = [7u8; 48];
-    let r = state::carried_row(envelope(9, 100), &ct, area);
-    show_area(b"carried into", area, r);
+fn show_carried(rt: &impl Print, row: Carried) -> io::Result<()> {
+    let depositor = row.depositor.0;
+    let Header {
+        tag,
+        c,
+        expiry_min,
+        copies,
+    } = row.header;
+    println!(rt;
+        " carried {depositor} {} {} {expiry_min} {copies}",
+        tag[0], c[15]
+    )
 }
 
-fn tombstone_area(area: &mut [u8]) {
-    let r = state::tombstone_row(delivered(), area);
-    show_area(b"tombstone into", area, r);
+fn show_tombstone(rt: &impl Print, t: Tombstone) -> io::Result<()> {
+    let Tombstone { tag, s, expiry_min } = t;
+    println!(rt; " tombstone {} {} {expiry_min}", tag[0], s[15])
 }
 
-fn areas() {
-    let mut a = [0xEEu8; 2109];
-    carried_area(&mut a);
-    tombstone_area(&mut a);
-    let mut b = [0xEEu8; 2110];
-    carried_area(&mut b);
-    let mut d = [0xEEu8; 2111];
-    tombstone_area(&mut d);
-}
-
-fn show_carried(row: Carried) {
-    let depositor = row.depositor;
-    let header = row.header;
-    let tag = header.tag;
-    let c = header.c;
-    text(b" carried");
-    number(depositor.0);
-    number(tag[0] as u64);
-    number(c[15] as u64);
-    number(header.expiry_min as u64);
-    number(header.copies as u64);
-    end();
-}
-
-fn show_tombstone(t: Tombstone) {
-    let tag = t.tag;
-    let s = t.s;
-    text(b" tombstone");
-    number(tag[0] as u64);
-    number(s[15] as u64);
-    number(t.expiry_min as u64);
-    end();
-}
-
-fn show_read(blob: &[u8]) {
-    let r = state::decode(blob);
-    let kind = r.kind;
-    match kind {
-        HeldKind::None => text(b" none\n"),
-        HeldKind::Carried => show_carried(r.carried),
-        HeldKind::Tombstone => show_tombstone(r.tombstone),
+fn show_read(rt: &impl Print, blob: &[u8]) -> io::Result<()> {
+    match state::decode(blob) {
+        None => println!(rt; " none"),
+        Some(Held::Carried(row)) => show_carried(rt, row),
+        Some(Held::Tombstone(t)) => show_tombstone(rt, t),
     }
 }
 
 // A carried row with n bytes of ciphertext, one more than a cell at most, written and read back.
-fn carried_back(copies: u8, expiry: u32, n: usize) {
+fn carried_back(rt: &impl Print, copies: u8, expiry: u32, n: usize) -> io::Result<()> {
     let ct = [7u8; 2065];
     let mut area = [0xEEu8; 2110];
-    if 2065 < n {
-        return;
-    }
-    let len = length_of(state::carried_row(envelope(copies, expiry), &ct[0..n], &mut area));
-    text(b"row");
-    number(n as u64);
-    number(len as u64);
-    if len <= 2110 {
-        show_read(&area[0..len]);
-    }
+    let ct = &ct[..n.min(2065)];
+    let len = state::carried_row(envelope(copies, expiry), ct, &mut area).unwrap_or(0);
+    print!(rt; "row {n} {len}")?;
+    show_read(rt, &area[..len.min(2110)])
 }
 
-fn rows() {
-    carried_back(9, 100, 48);
-    carried_back(255, 4294967295, 80);
-    carried_back(1, 1, 144);
-    carried_back(9, 100, 272);
-    carried_back(9, 100, 528);
-    carried_back(9, 100, 1040);
-    carried_back(9, 100, 2064);
-    carried_back(9, 100, 2065);
-    carried_back(0, 100, 48);
-    carried_back(9, 0, 48);
-    carried_back(0, 0, 48);
-    carried_back(9, 100, 0);
-    carried_back(9, 100, 47);
-    carried_back(9, 100, 49);
+fn rows(rt: &impl Print) -> io::Result<()> {
+    carried_back(rt, 9, 100, 48)?;
+    carried_back(rt, 255, 4294967295, 80)?;
+    carried_back(rt, 1, 1, 144)?;
+    carried_back(rt, 9, 100, 272)?;
+    carried_back(rt, 9, 100, 528)?;
+    carried_back(rt, 9, 100, 1040)?;
+    carried_back(rt, 9, 100, 2064)?;
+    carried_back(rt, 9, 100, 2065)?;
+    carried_back(rt, 0, 100, 48)?;
+    carried_back(rt, 9, 0, 48)?;
+    carried_back(rt, 0, 0, 48)?;
+    carried_back(rt, 9, 100, 0)?;
+    carried_back(rt, 9, 100, 47)?;
+    carried_back(rt, 9, 100, 49)
 }
 
-// The length of a front of a blob, if it is a row.
-fn show_front(blob: &[u8], n: usize) {
-    if blob.len() < n {
-        return;
-    }
-    let r = state::decode(&blob[0..n]);
-    let kind = r.kind;
-    match kind {
-        HeldKind::None => {}
-        HeldKind::Carried => number(n as u64),
-        HeldKind::Tombstone => number(n as u64),
-    }
-}
-
-// Of the fronts of 0 to 48 bytes those that are rows.
-fn fronts(blob: &[u8]) {
-    let mut n: usize = 0;
-    while n < 49 {
-        show_front(blob, n);
-        n += 1;
-    }
-    end();
-}
-
-fn tombstone_fronts() {
+fn tombstone_blob() -> [u8; 2110] {
     let mut blob = [0xEEu8; 2110];
-    state::tombstone_row(delivered(), &mut blob);
-    text(b"fronts");
-    fronts(&blob);
+    let _ = state::tombstone_row(delivered(), &mut blob);
+    blob
+}
+
+// Of a tombstone's fronts of 0 to 48 bytes those that are rows.
+fn tombstone_fronts(rt: &impl Print) -> io::Result<()> {
+    let blob = tombstone_blob();
+    print!(rt; "fronts")?;
+    for n in 0..49 {
+        if state::decode(&blob[..n]).is_some() {
+            print!(rt; " {n}")?;
+        }
+    }
+    println!(rt;)
 }
 
 // A tombstone's 37 bytes, at another kind.
-fn show_kind(kind: u8) {
-    let mut blob = [0xEEu8; 2110];
-    state::tombstone_row(delivered(), &mut blob);
+fn show_kind(rt: &impl Print, kind: u8) -> io::Result<()> {
+    let mut blob = tombstone_blob();
     blob[0] = kind;
-    text(b"kind");
-    number(kind as u64);
-    show_read(&blob[0..37]);
+    print!(rt; "kind {kind}")?;
+    show_read(rt, &blob[0..37])
 }
 
-fn kinds() {
-    show_kind(1);
-    show_kind(2);
-    show_kind(255);
-    show_kind(0);
+fn kinds(rt: &impl Print) -> io::Result<()> {
+    for kind in [1, 2, 255, 0] {
+        show_kind(rt, kind)?;
+    }
+    Ok(())
 }
 
-fn main() {
-    tags();
-    secrets();
-    near_miss();
-    buckets();
-    copies_and_expiry();
-    codes();
-    configs();
-    areas();
-    rows();
-    tombstone_fronts();
-    kinds();
+fn main(rt: HostRuntime) -> io::Result<()> {
+    tags(&rt)?;
+    secrets(&rt)?;
+    buckets(&rt)?;
+    copies_and_expiry(&rt)?;
+    codes(&rt)?;
+    configs(&rt)?;
+    areas(&rt)?;
+    rows(&rt)?;
+    tombstone_fronts(&rt)?;
+    kinds(&rt)
 }

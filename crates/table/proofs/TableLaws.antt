@@ -9,7 +9,7 @@ use native.Mathlib.Omega.{arith}
 use lib.ListN.{length, take, drop, get_or, length-map, take-append-drop}
 use lib.Seq.{length-take-le}
 use Rattle.octets.specs.Bytes.{Bytes, part, splice}
-use Rattle.table.specs.declared.Found.{Found}
+use Rattle.std.specs.Prelude.{Option}
 use Rattle.table.specs.Lists.{All, none, more, insert_at, remove_at, replace_at, filter, any, position, is_at}
 use Rattle.table.specs.Rows.{held, rows, join, written, RowsNow}
 use Rattle.table.specs.Codec.{Codec, CodecLaws, table_of, with_table, TableNow}
@@ -48,7 +48,7 @@ module _ {A : Type 0} (c : Codec A) (count : ℕ) (a : List ℕ) where
 
 -- a search through the rows of bytes is the search through the typed rows, where the tests are the same
 module _ {A : Type 0} (c : Codec A) (count n : ℕ) (a : List ℕ) (held-n : n ≡ held (length a) c.width count)
-    (p : List ℕ → Bool) (q : A → Bool) (same : (b : List ℕ) → p b ≡ q (c.decode b)) (f : Found) (e : f ≡ position p (rows c.width n a)) where
+    (p : List ℕ → Bool) (q : A → Bool) (same : (b : List ℕ) → p b ≡ q (c.decode b)) (f : Option ℕ) (e : f ≡ position p (rows c.width n a)) where
   pub table_find : f ≡ position q (table_of c count a)
   unfolding table_of
   table_find =

@@ -1,3 +1,4 @@
 pub mod Lists
 pub mod Rows
 pub mod Codec
+pub mod Tests

@@ -1,8 +1,6 @@
 -- Lists of anything: the changes that a table knows, and what is asked of its rows. The same definitions serve rows of bytes and typed rows.
 -- Assumes nothing.
-use Rattle.std.specs.Prelude.{ℕ, suc, ◌+◌, Bool, true, false, cond, ◌||◌, List, [], ◌∷◌, ◌++◌, take, drop}
-use Rattle.table.specs.declared.Found.{Found}
-use Rattle.table.specs.declared.Found.TheVariants.{At, Nothing}
+use Rattle.std.specs.Prelude.{ℕ, suc, ◌+◌, Bool, true, false, cond, ◌||◌, List, [], ◌∷◌, ◌++◌, take, drop, Option, Some, None}
 
 -- each element has the property
 pub data All {A : Type 0} (P : A → Type 0) : List A → Type 0 where
@@ -34,18 +32,18 @@ module _ {A : Type 0} where
   any p (x ∷ xs) = p x || any p xs
 
   -- where the first one stands of which the test holds, the first of the list standing at i
-  unfoldable pub position_from : ℕ → (A → Bool) → List A → Found
-  position_from i p [] = Nothing
-  position_from i p (x ∷ xs) = cond (p x) (At i) (position_from (suc i) p xs)
+  unfoldable pub position_from : ℕ → (A → Bool) → List A → Option ℕ
+  position_from i p [] = None
+  position_from i p (x ∷ xs) = cond (p x) (Some i) (position_from (suc i) p xs)
 
-  abbrev pub position : (A → Bool) → List A → Found
+  abbrev pub position : (A → Bool) → List A → Option ℕ
   position = position_from 0
 
-abbrev pub is_at : Found → Bool
-is_at (At i) = true
-is_at Nothing = false
+abbrev pub is_at : Option ℕ → Bool
+is_at (Some i) = true
+is_at None = false
 
 -- the index found, or the one given
-abbrev pub unwrap_or : ℕ → Found → ℕ
-unwrap_or d (At i) = i
-unwrap_or d Nothing = d
+abbrev pub unwrap_or : ℕ → Option ℕ → ℕ
+unwrap_or d (Some i) = i
+unwrap_or d None = d

@@ -2,16 +2,13 @@
 // A table's rows stand at the front of its area, in the order in which they are read; n says how many there are.
 #![tactic(auto)]
 
-ghost use Rattle.std.specs.Prelude.{◌≡◌, [], ◌∷◌, ◌++◌, ◌+◌, ◌-◌, ◌*◌, ◌≤◌, ◌<◌, min, length};
+ghost use Rattle.std.specs.Prelude.{◌≡◌, ℕ, Bool, List, [], ◌∷◌, ◌++◌, ◌+◌, ◌-◌, ◌*◌, ◌≤◌, ◌<◌, min, length};
 ghost use Rattle.octets.specs.Bytes.{splice, part};
-ghost use Rattle.table.specs.Lists.{insert_at, remove_at, replace_at, position};
+ghost use Rattle.table.specs.Lists.{insert_at, remove_at, replace_at, position, any};
 ghost use Rattle.table.specs.Rows.{rows, has_key, Fits, RowsNow};
+ghost use Rattle.table.specs.Tests.{TakesRows, TestsRows};
 
-#[derive(Drop)]
-pub enum Found {
-    At(usize),
-    Nothing,
-}
+pub mod typed;
 
 // How many rows an area of len bytes has by a count that may be anything.
 pub fn fit(len: usize, width: usize, count: usize) -> usize
@@ -33,34 +30,53 @@ pub fn fit_to(len: usize, width: usize, count: usize, cap: usize) -> usize
     fit(len, width, cap)
 }
 
+// The first of the n rows of which the test holds.
+pub fn position<F: Fn(&[u8]) -> bool>(area: &[u8], width: usize, n: usize, test: F) -> Option<usize>
+    requires fits { n * width ≤ length area.now }
+    requires callable { TakesRows F.Fn test width }
+    ensures { (p : List ℕ → Bool) → TestsRows F.Fn test width p → result ≡ position p (rows width n area.now) }
+{
+    for i in 0..n {
+        let at = i * width;
+        if test(&area[at..at + width]) {
+            return Some(i);
+        }
+    }
+    None
+}
+
+// Does the test hold of one of the n rows?
+pub fn any<F: Fn(&[u8]) -> bool>(area: &[u8], width: usize, n: usize, test: F) -> bool
+    requires fits { n * width ≤ length area.now }
+    requires callable { TakesRows F.Fn test width }
+    ensures { (p : List ℕ → Bool) → TestsRows F.Fn test width p → result ≡ any p (rows width n area.now) }
+{
+    position(area, width, n, test).is_some()
+}
+
 // The first row that has the key at the offset.
-pub fn find(area: &[u8], width: usize, n: usize, offset: usize, key: &[u8]) -> Found
+pub fn find(area: &[u8], width: usize, n: usize, offset: usize, key: &[u8]) -> Option<usize>
     requires { (n * width ≤ length area.now) × (offset + length key.now ≤ width) }
     ensures { result ≡ position (has_key offset key.now) (rows width n area.now) }
 {
-    let len = key.len();
-    let mut i = 0;
-    while i < n {
-        if octets::same(area, i * width + offset, key, 0, len) {
-            return Found::At(i);
-        }
-        i += 1;
-    }
-    Found::Nothing
+    position(
+        area,
+        width,
+        n,
+        |row| octets::same(row, offset, key, 0, key.len()),
+    )
 }
 
 // The same, by a walk through every row, from the last to the first, with no early exit.
-pub fn scan(area: &[u8], width: usize, n: usize, offset: usize, key: &[u8]) -> Found
+pub fn scan(area: &[u8], width: usize, n: usize, offset: usize, key: &[u8]) -> Option<usize>
     requires { (n * width ≤ length area.now) × (offset + length key.now ≤ width) }
     ensures { result ≡ position (has_key offset key.now) (rows width n area.now) }
 {
     let len = key.len();
-    let mut found = Found::Nothing;
-    let mut i = n;
-    while 0 < i {
-        i -= 1;
+    let mut found = None;
+    for i in (0..n).rev() {
         if octets::same(area, i * width + offset, key, 0, len) {
-            found = Found::At(i);
+            found = Some(i);
         }
     }
     found

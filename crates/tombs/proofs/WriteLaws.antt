@@ -1,6 +1,6 @@
 -- Laws of the rows that are written: a carried row turned tombstone, an own row ended, a bad tag added.
 -- Assumes nothing.
-use Rattle.std.proofs.Common.{◌≡◌, ℕ, ◌+◌, ◌*◌, ◌<◌, ◌≤◌, Bool, true, false, cond, List, [], ◌∷◌, ◌++◌, map, length, get_or, sym, refl, ap, ◌∙◌, subst, arith}
+use Rattle.std.proofs.Common.{◌≡◌, ℕ, ◌+◌, ◌*◌, ◌<◌, ◌≤◌, Bool, true, false, cond, List, [], ◌∷◌, ◌++◌, map, length, get_or, sym, refl, ap, ◌∙◌, subst, arith, Ok}
 use lib.ListN.{length-map}
 use Rattle.octets.specs.Bytes.{part, splice}
 use Rattle.octets.proofs.Parts.{splice_then}
@@ -9,7 +9,7 @@ use Rattle.table.specs.Rows.{held, rows, join, written, RowsNow}
 use Rattle.table.specs.Codec.{table_of, with_table, TableNow}
 use Rattle.table.proofs.ListLaws.{all_each, all_map}
 use Rattle.table.proofs.RowLaws.{length_join}
-use Rattle.table.proofs.TableLaws.{length_table, get_d_table, with_one, table_insert}
+use Rattle.table.proofs.TableLaws.{length_table, get_d_table, with_one, table_insert, table_remove}
 use Rattle.rows.specs.declared.Device.{Device}
 use Rattle.rows.specs.declared.Own.{Own}
 use Rattle.rows.specs.declared.Carried.{Carried}
@@ -17,9 +17,9 @@ use Rattle.rows.specs.declared.Tombstone.{Tombstone}
 use Rattle.rows.specs.declared.Action.{Action}
 use Rattle.rows.specs.Rows.{own_codec, own_of, carried_codec, carried_of, tombstone_codec, tombstone_bytes, action_codec, action_bytes}
 use Rattle.rows.specs.Proper.{ProperTombstone}
-use Rattle.rows.proofs.Laws.{tombstone_laws}
+use Rattle.rows.proofs.Laws.{own_laws, carried_laws, tombstone_laws}
 use Rattle.model.specs.State.{Change, nothing, own_now, carried_now, tombstones_now, next_slot_now, ◌and◌}
-use Rattle.model.specs.Calls.{Answer, Result, result, done, put_courier, put_queued}
+use Rattle.model.specs.Calls.{Answer, Result as Outcome, result, done, put_courier, put_queued}
 use Rattle.model.specs.Exchange.{no_carried, no_own}
 use Rattle.model.specs.Tombs.{tombstoned, remaining, insert_by_slot, turned, turn, end_own, store_tombstone, store_actions}
 use Rattle.model.specs.Areas.{Areas, Written, view, store, store_device, store_session, bytes_after, answer_areas}
@@ -30,7 +30,7 @@ use Rattle.tombstones.specs.Tombstones.{Reads, how_to_store, Stores, StoredAs}
 use Rattle.tombstones.proofs.StoreLaws.{length_action}
 use Rattle.tombstones.proofs.CallLaws.{with_actions}
 use Rattle.tombs.specs.declared.Said.TheVariants as said
-use Rattle.tombs.specs.Tombs.{higher, device_with, says, held_lent, own_lent}
+use Rattle.tombs.specs.Tombs.{higher, says, held_lent, own_lent}
 
 -- a tombstone among others by its slot
 pub by_slot_lem : (count n : ℕ) (a x : List ℕ) (m i : ℕ) (b : List ℕ) (t : Tombstone) → n ≡ held (length a) 44 count → ProperTombstone t → b ≡ tombstone_bytes t
@@ -67,16 +67,17 @@ module _ (d : Device) (i : ℕ) (tag secret carried to ac : List ℕ) (a : Areas
   abbrev listed : Carried → List Action
   listed r = put_courier r.slot ∷ []
 
-  pub turns : {row : Carried} {t : Tombstone} {r : Device} {n m : ℕ} {x y z : List ℕ} → row ≡ carried_of (part carried (i * 57) 57) → t ≡ turned row tag secret
-      → TableNow tombstone_codec to (insert_by_slot t Tt) m x → TableNow carried_codec carried (remove_at i Tc) n y
-      → z ≡ splice ac 0 (action_bytes (put_courier row.slot)) → r ≡ device_with d.own n m d.bad_tags d
-      → Written says (turn (view B) i tag secret) (said.Done 1) B (held_lent r y x a) (actions_lent ac) (actions_lent z)
+  pub turns : {row : Carried} {t : Tombstone} {n m : ℕ} {x y z : List ℕ} → row ≡ carried_of (part carried (i * 57) 57) → t ≡ turned row tag secret
+      → TableNow tombstone_codec to (insert_by_slot t Tt) m x → RowsNow 57 carried (remove_at i (rows 57 (held (length carried) 57 d.carried) carried)) n y
+      → z ≡ splice ac 0 (action_bytes (put_courier row.slot))
+      → Written says (turn (view B) i tag secret) (Ok (said.Done 1)) B (held_lent (record d { carried = n; tombstones = m }) y x a) (actions_lent ac) (actions_lent z)
   unfolding view turn store store_device store_session
-  turns {row} {t} er et N M ez q =
+  turns {row} {t} er et N R ez =
+      let M = table_remove carried_laws _ _ _ _ _ refl i R in
       let k : get_or Tc i no_carried ≡ row = get_d_table carried_codec d.carried carried i no_carried inside ∙ sym er in
       answering_call (result done [] (listed row) (changed t))
       ((λ j. result done [] (listed (k j)) (changed (turned (k j) tag secret))) ∙ ap (λ (u : Tombstone). result done [] (listed row) (changed u)) (sym et)) refl
-      (λ j. held_lent ((q ∙ (λ l. device_with d.own (M.count l) (N.count l) d.bad_tags d)) j) (M.area j) (N.area j) a)
+      (λ j. held_lent (record d { carried = M.count j; tombstones = N.count j }) (M.area j) (N.area j) a)
       (acted done (listed row) (changed t) ac _ (with_one action_codec ac _ _ (put_courier row.slot) refl ez))
 
 -- ---- an own row ended
@@ -88,11 +89,7 @@ module _ (d : Device) (i : ℕ) (how : Storing) (tag secret own to ac : List ℕ
   abbrev O : Areas
   O = own_lent d own to a
 
-  reads : Reads (view O) d to
-  unfolding view
-  reads = record { tombstones = refl; next_slot = refl; rows = refl }
-
-  abbrev ended : Own → Result
+  abbrev ended : Own → Outcome
   ended o = result done [] (put_queued o.contact o.msgno ∷ store_actions (view O) tag) (own_now (remove_at i To) and store_tombstone (view O) tag secret o.expiry_min)
 
   step_ends : {o : Own} → get_or To i no_own ≡ o → end_own (view O) i tag secret ≡ ended o
@@ -103,25 +100,30 @@ module _ (d : Device) (i : ℕ) (how : Storing) (tag secret own to ac : List ℕ
   abbrev c : Bool → List Tombstone → ℕ → Change
   c b ts n = cond b nothing (tombstones_now ts and next_slot_now n)
 
-  abbrev without : Device → Device
-  without x = device_with (length (remove_at i To)) x.carried x.tombstones x.bad_tags x
+  abbrev without : ℕ → Device
+  without n = record d { own = n }
+
+  reads : (n : ℕ) → Reads (view O) (without n) to
+  unfolding view
+  reads n = record { tombstones = refl; next_slot = refl; rows = refl }
 
   by : (b : Bool) (ts : List Tombstone) (n : ℕ)
-      → own_lent (without (store_device d (c b ts n))) (with_table own_codec own (remove_at i To)) (bytes_after tombstone_codec to (c b ts n).tombstones) a
+      → own_lent (store_device (without (length (remove_at i To))) (c b ts n)) (with_table own_codec own (remove_at i To)) (bytes_after tombstone_codec to (c b ts n).tombstones) a
       ≡ store O (own_now (remove_at i To) and c b ts n)
   unfolding store store_device store_session
   by true ts n = refl
   by false ts n = refl
 
-  areas_ended : {at expiry k n : ℕ} {r : Device} {x y z w : List ℕ} → TableNow own_codec own (remove_at i To) n y → StoredAs (view O) d tag secret expiry at to z r k x w
-      → own_lent (device_with n r.carried r.tombstones r.bad_tags r) y x a ≡ store O (own_now (remove_at i To) and store_tombstone (view O) tag secret expiry)
+  areas_ended : {at expiry k n : ℕ} {r : Device} {x y z w : List ℕ} → TableNow own_codec own (remove_at i To) n y
+      → StoredAs (view O) (without n) tag secret expiry at to z r k x w → own_lent r y x a ≡ store O (own_now (remove_at i To) and store_tombstone (view O) tag secret expiry)
   unfolding store_tombstone
-  areas_ended N S =
-      (λ j. own_lent (device_with (N.count j) (S.device j).carried (S.device j).tombstones (S.device j).bad_tags (S.device j)) (N.area j) (S.tombstones j) a)
+  areas_ended {expiry = expiry} N S =
+      (λ j. own_lent (S.device j) (N.area j) (S.tombstones j) a)
+      ∙ (λ j. own_lent (store_device (without (N.count j)) (store_tombstone (view O) tag secret expiry)) (with_table own_codec own (remove_at i To)) (bytes_after tombstone_codec to (store_tombstone (view O) tag secret expiry).tombstones) a)
       ∙ by (tombstoned (view O).tombstones tag) (remaining (view O).tombstones ++ _) ((view O).next_slot + 1)
 
   -- the action of the own row, and those of the tombstone behind it
-  behind : {expiry k : ℕ} {r : Device} {x z w : List ℕ} (p : Action) → z ≡ splice ac 0 (action_bytes p) → StoredAs (view O) d tag secret expiry 13 to z r k x w → k ≤ 2
+  behind : {expiry k n : ℕ} {r : Device} {x z w : List ℕ} (p : Action) → z ≡ splice ac 0 (action_bytes p) → StoredAs (view O) (without n) tag secret expiry 13 to z r k x w → k ≤ 2
       → w ≡ with_table action_codec ac (p ∷ store_actions (view O) tag)
   unfolding join
   behind {z = z} {w} p ez S few =
@@ -131,13 +133,14 @@ module _ (d : Device) (i : ℕ) (how : Storing) (tag secret own to ac : List ℕ
       splice_then ac z w 0 13 (action_bytes p) (join (map action_bytes acts)) ez S.actions (omega (arith, length_action p))
       (omega (arith, l, S.count, few)) ∙ with_actions ac (p ∷ acts)
 
-  pub row_ends : how ≡ how_to_store (view O) tag → {row : Own} {r q : Device} {k n : ℕ} {x y z w : List ℕ} → row ≡ own_of (part own (i * 54) 54)
-      → z ≡ splice ac 0 (action_bytes (put_queued row.contact row.msgno)) → TableNow own_codec own (remove_at i To) n y
-      → Stores how d tag secret row.expiry_min 13 to z r k x w → k ≤ 2 → q ≡ device_with n r.carried r.tombstones r.bad_tags r
-      → Written says (end_own (view O) i tag secret) (said.Done (1 + k)) O (own_lent q y x a) (actions_lent ac) (actions_lent w)
-  row_ends h {row} {k = k} {x = x} {y} er ez N S few eq =
-      let D = S (view O) reads h in
+  pub row_ends : how ≡ how_to_store (view O) tag → {row : Own} {r : Device} {k n : ℕ} {x y z w : List ℕ} → row ≡ own_of (part own (i * 54) 54)
+      → z ≡ splice ac 0 (action_bytes (put_queued row.contact row.msgno)) → RowsNow 54 own (remove_at i (rows 54 (held (length own) 54 d.own) own)) n y
+      → Stores how (without n) tag secret row.expiry_min 13 to z r k x w → k ≤ 2
+      → Written says (end_own (view O) i tag secret) (Ok (said.Done (1 + k))) O (own_lent r y x a) (actions_lent ac) (actions_lent w)
+  row_ends h {row} {k = k} er ez R S few =
+      let N = table_remove own_laws _ _ _ _ _ refl i R in
+      let D = S (view O) (reads _) h in
       let g : get_or To i no_own ≡ row = get_d_table own_codec d.own own i no_own inside ∙ sym er in
       let e : 1 + k ≡ length (put_queued row.contact row.msgno ∷ store_actions (view O) tag) = omega (arith, D.count) in
-      answering_call (ended row) (step_ends g) (ap said.Done e) (ap (λ (u : Device). own_lent u y x a) eq ∙ areas_ended N D)
+      answering_call (ended row) (step_ends g) (ap (λ (m : ℕ). Ok (said.Done m)) e) (areas_ended N D)
       (acted done _ _ ac _ (behind (put_queued row.contact row.msgno) ez D few))

@@ -1,6 +1,6 @@
 -- What a tomb meets, what the calls of this crate answer, and what they are lent.
 -- Assumes nothing.
-use Rattle.std.specs.Prelude.{◌≡◌, ℕ, ◌<◌, Bool, List, [], ◌∷◌, length, nat_lt}
+use Rattle.std.specs.Prelude.{◌≡◌, ℕ, ◌<◌, Bool, Result, Ok, Err, List, [], ◌∷◌, length, nat_lt}
 use Rattle.courier_core.specs.declared.Refusal.{Refusal}
 use Rattle.courier_core.specs.declared.Refusal.TheVariants as refusal
 use Rattle.table.specs.Rows.{held}
@@ -10,7 +10,7 @@ use Rattle.rows.specs.declared.Tombstone.{Tombstone}
 use Rattle.rows.specs.Rows.{own_width, own_codec, carried_width, carried_codec}
 use Rattle.model.specs.State.{State}
 use Rattle.model.specs.Calls as calls
-use Rattle.model.specs.Calls.{Answer, Result, step_of}
+use Rattle.model.specs.Calls.{Answer, Result as Outcome, step_of}
 use Rattle.model.specs.Tombs as model
 use Rattle.model.specs.Tombs.{no_row_to_meet, no_slot_to_meet, receive_tomb, end_own}
 use Rattle.model.specs.Areas.{Areas, AnswerAreas, Written, view}
@@ -30,7 +30,7 @@ met_of (met.OwnAt i) = model.own_at i
 met_of met.Wrong = model.wrong
 met_of met.Unknown = model.unknown
 
-unfoldable pub Inside : Met → (own carried : ℕ) → Type 0
+abbrev pub Inside : Met → (own carried : ℕ) → Type 0
 Inside (met.CarriedAt i) own carried = i < carried
 Inside (met.OwnAt i) own carried = i < own
 Inside met.Wrong own carried = Unit {0}
@@ -44,33 +44,20 @@ pub record Meets (d : Device) (own carried tag secret : List ℕ) (r : Met) : Ty
 abbrev pub higher : ℕ → Tombstone → Bool
 higher slot t = nat_lt slot t.slot
 
--- the device with other counts of own rows, carried rows, tombstones and bad tags
-abbrev pub device_with : (own carried tombstones bad : ℕ) → Device → Device
-device_with own carried tombstones bad d = record {
-  courier = d.courier;
-  now_s = d.now_s;
-  contacts = d.contacts;
-  own = own;
-  carried = carried;
-  tombstones = tombstones;
-  bad_tags = bad;
-  next_slot = d.next_slot;
-}
+-- ---- what the calls answer: a refusal, malformed, or how many actions are listed
 
--- ---- what the calls answer: document 01's number of a refusal, malformed, or how many actions are listed
+abbrev pub said_of : Answer → ℕ → Result Said Refusal
+said_of (calls.refused why) n = Err why
+said_of calls.malformed n = Ok said.Malformed
+said_of calls.done n = Ok (said.Done n)
+said_of (calls.ours contact generation idx) n = Ok (said.Done n)
+said_of (calls.found cells position len) n = Ok (said.Done n)
+said_of calls.missing n = Ok (said.Done n)
+said_of (calls.own_row row) n = Ok (said.Done n)
+said_of calls.no_envelope n = Ok (said.Done n)
+said_of (calls.wrote count) n = Ok (said.Done n)
 
-abbrev pub said_of : Answer → ℕ → Said
-said_of (calls.refused why) n = said.Refused why
-said_of calls.malformed n = said.Malformed
-said_of calls.done n = said.Done n
-said_of (calls.ours contact generation idx) n = said.Done n
-said_of (calls.found cells position len) n = said.Done n
-said_of calls.missing n = said.Done n
-said_of (calls.own_row row) n = said.Done n
-said_of calls.no_envelope n = said.Done n
-said_of (calls.wrote count) n = said.Done n
-
-abbrev pub says : Result → Said
+abbrev pub says : Outcome → Result Said Refusal
 says o = said_of o.answer (length o.actions)
 
 -- ---- a tomb, once it is known what it meets
@@ -78,15 +65,15 @@ says o = said_of o.answer (length o.actions)
 unfoldable pub met_tests : State → List ℕ → model.Met → List (Bool × Refusal)
 met_tests s tag m = (no_row_to_meet s tag m, refusal.NoTombstoneRow) ∷ (no_slot_to_meet s tag m, refusal.NoSlot) ∷ []
 
-unfoldable pub after_meeting : State → (tag secret : List ℕ) → model.Met → Result
+unfoldable pub after_meeting : State → (tag secret : List ℕ) → model.Met → Outcome
 after_meeting s tag secret m = step_of (met_tests s tag m) (receive_tomb s tag secret m)
 
-abbrev pub Ends : (tag secret : List ℕ) → model.Met → Said → (Areas → Areas) → (Areas → Areas) → AnswerAreas → AnswerAreas → Type 0
+abbrev pub Ends : (tag secret : List ℕ) → model.Met → Result Said Refusal → (Areas → Areas) → (Areas → Areas) → AnswerAreas → AnswerAreas → Type 0
 Ends tag secret m r before after lent back =
     (a : Areas) → Written says (after_meeting (view (before a)) tag secret m) r (before a) (after a) lent back
 
 -- an own row is ended, and its tombstone stored as it was chosen
-abbrev pub EndsBy : Storing → ℕ → (tag secret : List ℕ) → Said → (Areas → Areas) → (Areas → Areas) → AnswerAreas → AnswerAreas → Type 0
+abbrev pub EndsBy : Storing → ℕ → (tag secret : List ℕ) → Result Said Refusal → (Areas → Areas) → (Areas → Areas) → AnswerAreas → AnswerAreas → Type 0
 EndsBy how i tag secret r before after lent back =
     (a : Areas) → how ≡ how_to_store (view (before a)) tag → Written says (end_own (view (before a)) i tag secret) r (before a) (after a) lent back
 

@@ -1,6 +1,6 @@
 -- Laws of the calls that store a tombstone: what the choice says of the model's tests, and what storing leaves in the areas.
 -- Assumes nothing.
-use Rattle.std.proofs.Common.{◌≡◌, ℕ, ◌+◌, ◌*◌, ◌/◌, Bool, true, false, cond, ltb, List, [], ◌∷◌, ◌++◌, map, length, sym, refl, ap, ◌∙◌, arith}
+use Rattle.std.proofs.Common.{◌≡◌, ℕ, ◌+◌, ◌*◌, ◌/◌, Bool, true, false, cond, Result, Ok, Err, ltb, List, [], ◌∷◌, ◌++◌, map, length, sym, refl, ap, ◌∙◌}
 use Rattle.courier_core.specs.declared.Refusal.{Refusal}
 use Rattle.courier_core.specs.declared.Refusal.TheVariants as refusal
 use Rattle.courier_core.specs.Core.{first_of}
@@ -13,43 +13,39 @@ use Rattle.rows.specs.declared.Tombstone.{Tombstone}
 use Rattle.rows.specs.declared.Action.{Action}
 use Rattle.rows.specs.Rows.{tombstone_codec, action_codec, action_bytes}
 use Rattle.model.specs.State.{State, Change, nothing, tombstones_now, next_slot_now, ◌and◌}
-use Rattle.model.specs.Calls.{Call, Result, only, refused, step_of, stored_tombstone}
+use Rattle.model.specs.Calls.{Call, Result as Outcome, only, refused, step_of, stored_tombstone}
 use Rattle.model.specs.Tombs.{tombstoned, remaining, store_tombstone, store_actions, stored_tests, stored, no_row_to_store, no_slot_to_store}
 use Rattle.model.specs.Step.{tests, perform, step}
 use Rattle.model.specs.Areas.{Areas, Written, view, store, store_device, store_session, bytes_after, answer_areas}
 use Rattle.model.proofs.CallLaws.{refused_here, not_here, answering_call, refused_call}
 use Rattle.model.specs.Lent.{actions_lent}
 use Rattle.tombstones.specs.declared.Storing.{Storing}
-use Rattle.tombstones.specs.declared.Choice.{Choice}
-use Rattle.tombstones.specs.declared.Choice.TheVariants as choice
-use Rattle.tombstones.specs.declared.Stored.{Stored}
-use Rattle.tombstones.specs.declared.Stored.TheVariants as says
 use Rattle.tombstones.specs.Tombstones.{Reads, ChoiceOf, how_to_store, store_tests, store_choice, Stores, StoredAs, says_stored, tombstones_lent}
 
 -- ---- the choice, and the tests that it stands for
 
-module _ (s : State) (tag : List ℕ) (p : Result) where
+module _ (s : State) (tag : List ℕ) (p : Outcome) where
   abbrev told : {A : Type 0} → Bool → Bool → (Refusal → A) → A → A
   told full last f x = first_of ((full, refusal.NoTombstoneRow) ∷ (last, refusal.NoSlot) ∷ []) f x
 
-  pub cannot_store : (why : Refusal) → choice.Refused why ≡ store_choice s tag → step_of (store_tests s tag) p ≡ only (refused why)
+  pub cannot_store : (why : Refusal) → Err why ≡ store_choice s tag → step_of (store_tests s tag) p ≡ only (refused why)
   unfolding store_choice store_tests step_of
   cannot_store why e = go (no_row_to_store s tag) (no_slot_to_store s tag) e
     where
-      go : (full last : Bool) → choice.Refused why ≡ told full last choice.Refused (choice.Store (how_to_store s tag))
+      go : (full last : Bool) → Err why ≡ told full last Err (Ok (how_to_store s tag))
           → told full last (λ (w : Refusal). only (refused w)) p ≡ only (refused why)
-      go true last q = let k : refusal.NoTombstoneRow ≡ why = cc in ap (λ (w : Refusal). only (refused w)) k
-      go false true q = let k : refusal.NoSlot ≡ why = cc in ap (λ (w : Refusal). only (refused w)) k
-      go false false q = let z : ◌≡◌ {A = ℕ} 0 1 = cc in absurd (omega arith)
+      go true last q = cc
+      go false true q = cc
+      go false false q = cc
 
-  pub can_store : (h : Storing) → choice.Store h ≡ store_choice s tag → (step_of (store_tests s tag) p ≡ p) × (h ≡ how_to_store s tag)
+  pub can_store : (h : Storing) → Ok h ≡ store_choice s tag → (step_of (store_tests s tag) p ≡ p) × (h ≡ how_to_store s tag)
   unfolding store_choice store_tests step_of
   can_store h e = go (no_row_to_store s tag) (no_slot_to_store s tag) e
     where
-      go : (full last : Bool) → choice.Store h ≡ told full last choice.Refused (choice.Store (how_to_store s tag))
+      go : (full last : Bool) → Ok h ≡ told full last Err (Ok (how_to_store s tag))
           → (told full last (λ (w : Refusal). only (refused w)) p ≡ p) × (h ≡ how_to_store s tag)
-      go true last q = let z : ◌≡◌ {A = ℕ} 0 1 = cc in absurd (omega arith)
-      go false true q = let z : ◌≡◌ {A = ℕ} 0 1 = cc in absurd (omega arith)
+      go true last q = cc
+      go false true q = cc
       go false false q = (refl, cc)
 
 -- ---- what is lent
@@ -91,25 +87,25 @@ module _ (d : Device) (tag secret : List ℕ) (expiry : ℕ) (to ac : List ℕ) 
   abbrev short : Bool
   short = ltb (length ac) (13 * (512 + length to / 44))
 
-  abbrev Says : Stored → Device → (x y : List ℕ) → Type 0
+  abbrev Says : Result ℕ Refusal → Device → (x y : List ℕ) → Type 0
   Says v r x y = Written says_stored (step (view B) C) v B (tombstones_lent r x a) (actions_lent ac) (actions_lent y)
 
-  pub says_short : short ≡ true → Says (says.Refused refusal.ShortArea) d to ac
+  pub says_short : true ≡ short → Says (Err refusal.ShortArea) d to ac
   unfolding step tests perform stored_tests view
-  says_short e = refused_call refusal.ShortArea (refused_here _ _ _ e) refl refl
+  says_short e = refused_call refusal.ShortArea (refused_here _ _ _ (sym e)) refl refl
 
-  module _ (long : short ≡ false) (ch : Choice) (q : ChoiceOf d to tag ch) where
-    past : {o : Result} → step_of (store_tests (view B) tag) (stored (view B) tag secret expiry) ≡ o → step (view B) C ≡ o
+  module _ (long : false ≡ short) where
+    past : {o : Outcome} → step_of (store_tests (view B) tag) (stored (view B) tag secret expiry) ≡ o → step (view B) C ≡ o
     unfolding step tests perform stored_tests store_tests view
-    past e = not_here _ _ _ long e
+    past e = not_here _ _ _ (sym long) e
 
-    pub says_refused : (why : Refusal) → ch ≡ choice.Refused why → Says (says.Refused why) d to ac
-    says_refused why e = refused_call why (past (cannot_store (view B) tag _ why (sym e ∙ q (view B) (lent_reads d to a)))) refl refl
+    pub says_refused : (why : Refusal) → ChoiceOf d to tag (Err why) → Says (Err why) d to ac
+    says_refused why q = refused_call why (past (cannot_store (view B) tag _ why (q (view B) (lent_reads d to a)))) refl refl
 
-    pub says_stored_lem : (h : Storing) (r : Device) (n : ℕ) (x y : List ℕ) → ch ≡ choice.Store h → Stores h d tag secret expiry 0 to ac r n x y → Says (says.Done n) r x y
+    pub says_stored_lem : (h : Storing) (r : Device) (n : ℕ) (x y : List ℕ) → ChoiceOf d to tag (Ok h) → Stores h d tag secret expiry 0 to ac r n x y → Says (Ok n) r x y
     unfolding stored answer_areas with_table written join splice
-    says_stored_lem h r n x y e S =
-        let k = can_store (view B) tag (stored (view B) tag secret expiry) h (sym e ∙ q (view B) (lent_reads d to a)) in
+    says_stored_lem h r n x y q S =
+        let k = can_store (view B) tag (stored (view B) tag secret expiry) h (q (view B) (lent_reads d to a)) in
         let D = S (view B) (lent_reads d to a) k.1 in
-        answering_call (stored (view B) tag secret expiry) (past k.0) (ap says.Done D.count) (areas_stored d to a (view B) tag secret expiry 0 ac D)
+        answering_call (stored (view B) tag secret expiry) (past k.0) (ap Ok D.count) (areas_stored d to a (view B) tag secret expiry 0 ac D)
         (ap actions_lent (D.actions ∙ with_actions ac (store_actions (view B) tag)))

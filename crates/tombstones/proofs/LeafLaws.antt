@@ -1,9 +1,8 @@
 -- Laws of the searches through the tombstones.
 -- Assumes nothing.
-use Rattle.std.proofs.Common.{◌≡◌, ℕ, suc, ◌+◌, ◌*◌, ◌<◌, ◌≤◌, Bool, true, false, cond, ltb, List, length, drop, sym, ap, ◌∙◌, ap₂, add-one, arith, drop_of_length-le, le-ltb, lt-ltb}
+use Rattle.std.proofs.Common.{◌≡◌, ℕ, suc, ◌+◌, ◌*◌, ◌<◌, ◌≤◌, Bool, true, false, cond, ltb, List, length, drop, sym, ap, ◌∙◌, ap₂, add-one, arith, drop_of_length-le, le-ltb, lt-ltb, refl, Option, Some, None, is_some}
 use Rattle.octets.specs.Bytes.{part, num, same_bytes}
 use Rattle.octets.proofs.Parts.{part_part}
-use Rattle.table.specs.declared.Found.{Found}
 use Rattle.table.specs.Lists.{position, is_at}
 use Rattle.table.specs.Rows.{held, rows, has_key}
 use Rattle.table.specs.Codec.{table_of}
@@ -19,11 +18,15 @@ same_tag : (tag b : List ℕ) → length tag ≡ 16 → has_key 8 tag b ≡ tomb
 unfolding has_key tombstone_of
 same_tag tag b l = ap (λ (k : ℕ). same_bytes (part b 8 k) tag) l
 
-pub tag_found : (tag : List ℕ) (count n : ℕ) (a : List ℕ) (f g : Found) → length tag ≡ 16 → n ≡ held (length a) 44 count
-    → f ≡ position (has_key 8 tag) (rows 44 n a) → f ≡ g → is_at g ≡ tombstoned (table_of tombstone_codec count a) tag
+some_at : (f : Option ℕ) → is_some f ≡ is_at f
+some_at (Some i) = refl
+some_at None = refl
+
+pub tag_found : (tag : List ℕ) (count n : ℕ) (a : List ℕ) (f : Option ℕ) → length tag ≡ 16 → n ≡ held (length a) 44 count
+    → f ≡ position (has_key 8 tag) (rows 44 n a) → is_some f ≡ tombstoned (table_of tombstone_codec count a) tag
 unfolding tombstoned
-tag_found tag count n a f g l en ef eg =
-    ap is_at (sym eg) ∙ table_any tombstone_codec count n a en (has_key 8 tag) (tombstone_of_tag tag) (λ b. same_tag tag b l) f ef
+tag_found tag count n a f l en e =
+    some_at f ∙ table_any tombstone_codec count n a en (has_key 8 tag) (tombstone_of_tag tag) (λ b. same_tag tag b l) f e
 
 -- ---- the least expiry
 

@@ -1,6 +1,6 @@
 -- What the functions say of the tombstones, by the model's definitions.
 -- Assumes nothing.
-use Rattle.std.specs.Prelude.{◌≡◌, ℕ, ◌+◌, ◌-◌, ◌*◌, ◌/◌, ◌<◌, ◌≤◌, Bool, cond, List, [], ◌∷◌, ◌++◌, map, length, nat_le}
+use Rattle.std.specs.Prelude.{◌≡◌, ℕ, ◌+◌, ◌-◌, ◌*◌, ◌/◌, ◌<◌, ◌≤◌, Bool, cond, Result, Ok, Err, List, [], ◌∷◌, ◌++◌, map, length, nat_le}
 use Rattle.courier_core.specs.Core.{first_of}
 use Rattle.courier_core.specs.declared.Refusal.{Refusal}
 use Rattle.courier_core.specs.declared.Refusal.TheVariants as refusal
@@ -12,16 +12,12 @@ use Rattle.rows.specs.declared.Tombstone.{Tombstone}
 use Rattle.rows.specs.Rows.{tombstone_width, tombstone_codec, action_bytes}
 use Rattle.rows.specs.Proper.{ProperTombstone}
 use Rattle.model.specs.State.{State}
-use Rattle.model.specs.Calls.{Result}
+use Rattle.model.specs.Calls.{Result as Outcome}
 use Rattle.model.specs.Tombs.{tombstoned, least_expiry, max_tombstones, no_row_to_store, no_slot_to_store, store_tombstone, store_actions}
 use Rattle.model.specs.Areas.{Areas, store_device, bytes_after}
 use Rattle.model.specs.Lent.{refused_or, device_in, tombstones_in}
 use Rattle.tombstones.specs.declared.Storing.{Storing}
 use Rattle.tombstones.specs.declared.Storing.TheVariants as way
-use Rattle.tombstones.specs.declared.Choice.{Choice}
-use Rattle.tombstones.specs.declared.Choice.TheVariants as choice
-use Rattle.tombstones.specs.declared.Stored.{Stored}
-use Rattle.tombstones.specs.declared.Stored.TheVariants as stored
 
 -- r is where the tombstone of least expiry stands, and is within the table if there is one
 pub record Least (ts : List Tombstone) (r : ℕ) : Type 0 where
@@ -38,8 +34,8 @@ how_to_store s tag =
 unfoldable pub store_tests : State → List ℕ → List (Bool × Refusal)
 store_tests s tag = (no_row_to_store s tag, refusal.NoTombstoneRow) ∷ (no_slot_to_store s tag, refusal.NoSlot) ∷ []
 
-unfoldable pub store_choice : State → List ℕ → Choice
-store_choice s tag = first_of (store_tests s tag) choice.Refused (choice.Store (how_to_store s tag))
+unfoldable pub store_choice : State → List ℕ → Result Storing Refusal
+store_choice s tag = first_of (store_tests s tag) Err (Ok (how_to_store s tag))
 
 -- the parts of a state that the choice reads, by the areas
 pub record Reads (s : State) (d : Device) (area : List ℕ) : Type 0 where
@@ -47,7 +43,7 @@ pub record Reads (s : State) (d : Device) (area : List ℕ) : Type 0 where
   pub next_slot : s.next_slot ≡ d.next_slot
   pub rows : s.tombstone_rows ≡ length area / tombstone_width
 
-abbrev pub ChoiceOf : Device → List ℕ → List ℕ → Choice → Type 0
+abbrev pub ChoiceOf : Device → List ℕ → List ℕ → Result Storing Refusal → Type 0
 ChoiceOf d area tag r = (s : State) → Reads s d area → r ≡ store_choice s tag
 
 -- ---- what the writes rely on: there is a slot, and a row to write
@@ -70,14 +66,14 @@ space_for d area = Space (held_tombstones d area) (length area) d.next_slot
 abbrev pub spare_at : ℕ → Device → List ℕ → Type 0
 spare_at i d area = Spare i (held_tombstones d area) (length area) d.next_slot
 
-unfoldable pub Room : Storing → Device → List ℕ → Type 0
+abbrev pub Room : Storing → Device → List ℕ → Type 0
 Room way.Nothing d area = Unit {0}
 Room way.Append d area = space_for d area
 Room (way.Evict i) d area = spare_at i d area
 
-unfoldable pub RoomFor : Choice → Device → List ℕ → Type 0
-RoomFor (choice.Refused why) d area = Unit {0}
-RoomFor (choice.Store how) d area = Room how d area
+abbrev pub RoomFor : Result Storing Refusal → Device → List ℕ → Type 0
+RoomFor (Err why) d area = Unit {0}
+RoomFor (Ok how) d area = Room how d area
 
 -- ---- what the writes leave
 
@@ -88,21 +84,9 @@ pub record Pushed (n : ℕ) (a : List ℕ) (t : Tombstone) (r : ℕ) (x : List �
   pub bytes : Bytes a
   pub proper : ProperTombstone t
 
-abbrev pub HasSlot : Device → Type 0
-HasSlot d = d.next_slot < 18446744073709551615
-
 -- one tombstone more was stored: so many are held now, and the next slot is taken
 unfoldable pub device_after : Device → ℕ → Device
-device_after d n = record {
-  courier = d.courier;
-  now_s = d.now_s;
-  contacts = d.contacts;
-  own = d.own;
-  carried = d.carried;
-  tombstones = n;
-  bad_tags = d.bad_tags;
-  next_slot = d.next_slot + 1;
-}
+device_after d n = record d { tombstones = n; next_slot = d.next_slot + 1 }
 
 -- the tombstone that is stored, at the next slot
 abbrev pub new_tombstone : Device → List ℕ → List ℕ → ℕ → Tombstone
@@ -127,8 +111,8 @@ Stores how d tag secret expiry at to ac r n x y =
 -- ---- the call
 
 -- a refusal, or how many actions are listed
-abbrev pub says_stored : Result → Stored
-says_stored o = refused_or stored.Refused (stored.Done (length o.actions)) o.answer
+abbrev pub says_stored : Outcome → Result ℕ Refusal
+says_stored o = refused_or Err (Ok (length o.actions)) o.answer
 
 abbrev pub tombstones_lent : Device → List ℕ → Areas → Areas
 tombstones_lent d area a = device_in d (tombstones_in area a)

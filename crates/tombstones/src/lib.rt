@@ -6,14 +6,50 @@ ghost use Rattle.octets.specs.Bytes.{part, num};
 ghost use Rattle.table.specs.Lists.{remove_at};
 ghost use Rattle.table.specs.Rows.{held};
 ghost use Rattle.table.specs.Codec.{table_of};
-ghost use Rattle.rows.specs.Rows.{tombstone_codec};
+ghost use Rattle.rows.specs.Rows.{action_width, tombstone_width, tombstone_codec};
 ghost use Rattle.model.specs.Calls.{stored_tombstone};
 ghost use Rattle.model.specs.Tombs.{tombstoned as some_tombstone, no_tombstone};
 ghost use Rattle.model.specs.Lent.{Does, actions_lent};
-ghost use Rattle.tombstones.specs.Tombstones.{Least, ChoiceOf, RoomFor, Room, space_for, spare_at, Pushed, HasSlot, device_after, new_tombstone, Grown, Stores, says_stored, tombstones_lent};
+ghost use Rattle.tombstones.specs.Tombstones.{Least, ChoiceOf, RoomFor, Room, Space, space_for, spare_at, Pushed, device_after, Grown, Stores, says_stored, tombstones_lent};
 
 use courier_core::Refusal;
-use rows::{Device, Tombstone};
+use rows::{ACTION_WIDTH, Device, TOMBSTONE_WIDTH, Tombstone};
+
+// At so many tombstones, one goes before another is stored.
+const MAX_TOMBSTONES: usize = 1024;
+
+// How many actions a call can list, beside one for each tombstone row.
+const LISTED_ACTIONS: usize = 512;
+
+// Above every expiry.
+const NO_EXPIRY: u64 = 1 << 32;
+
+// Where a tombstone's tag and expiry stand in its row.
+const TAG_AT: usize = 8;
+
+const EXPIRY_AT: usize = 40;
+
+// A tag, and the secret that opens the commitment of its envelope.
+#[derive(Clone, Copy)]
+pub struct Tomb {
+    pub tag: [u8; 16],
+    pub s: [u8; 16],
+}
+
+impl Tomb {
+    // The tombstone that a device keeps of it.
+    pub fn tombstone(self, slot: u64, expiry_min: u32) -> Tombstone
+        ensures { result ≡ record { slot = slot; tag = self.tag; s = self.s; expiry_min = expiry_min } }
+    {
+        let Tomb { tag, s } = self;
+        Tombstone {
+            slot,
+            tag,
+            s,
+            expiry_min,
+        }
+    }
+}
 
 // What storing a tombstone does: nothing if its tag has one, and the one at a place goes first if there are too many.
 #[derive(Drop)]
@@ -23,238 +59,154 @@ pub enum Storing {
     Evict(usize),
 }
 
-#[derive(Drop)]
-pub enum Choice {
-    Refused(Refusal),
-    Store(Storing),
-}
-
-// The device after a tombstone is stored, and how many actions are listed.
-#[derive(Drop)]
-pub struct After {
-    pub device: Device,
-    pub actions: usize,
-}
-
-// What the call answers: a refusal, or how many actions are listed.
-#[derive(Drop)]
-pub enum Stored {
-    Refused(Refusal),
-    Done(usize),
-}
-
-#[derive(Drop)]
-pub struct Outcome {
-    pub device: Device,
-    pub answer: Stored,
-}
+// A table's area and its count stand apart: the host lends the area across the C interface, and the device has the count.
 
 // Has one of the tombstones the tag?
 pub fn tombstoned(tombstones: &[u8], count: usize, tag: [u8; 16]) -> bool
     ensures { result ≡ some_tombstone (table_of tombstone_codec count tombstones.now) tag }
 {
-    let n = table::fit(tombstones.len(), 44, count);
-    match table::find(tombstones, 44, n, 8, &tag) {
-        table::Found::At(_) => true,
-        table::Found::Nothing => false,
-    }
+    let n = table::fit(tombstones.len(), TOMBSTONE_WIDTH, count);
+    table::find(tombstones, TOMBSTONE_WIDTH, n, TAG_AT, &tag).is_some()
 }
 
 // The expiry of the tombstone whose bytes start at a place.
 fn expiry_at(tombstones: &[u8], at: usize) -> u64
-    requires { at + 44 ≤ length tombstones.now }
+    requires { at + tombstone_width ≤ length tombstones.now }
     ensures { (result ≡ num (part tombstones.now (at + 40) 4)) × (result < 4294967296) }
 {
-    octets::get_u32(tombstones, at + 40) as u64
+    u64::from(octets::get_u32(tombstones, at + EXPIRY_AT))
 }
 
 // The tombstone of least expiry, the first among equals: the table has them by slot.
 pub fn least_expiry(tombstones: &[u8], count: usize) -> usize
     ensures { Least (table_of tombstone_codec count tombstones.now) result }
 {
-    let n = table::fit(tombstones.len(), 44, count);
+    let n = table::fit(tombstones.len(), TOMBSTONE_WIDTH, count);
     let mut best = 0;
-    let mut low = 4294967296;
-    let mut i = 0;
-    while i < n {
-        let e = expiry_at(tombstones, i * 44);
+    let mut low = NO_EXPIRY;
+    for i in 0..n {
+        let e = expiry_at(tombstones, i * TOMBSTONE_WIDTH);
         if e < low {
             best = i;
             low = e;
         }
-        i += 1;
     }
     best
 }
 
 // Is an action area too short for so many bytes of tombstones?
 pub fn short_actions(actions: usize, tombstones: usize) -> bool
-    ensures { result ≡ nat_lt actions (13 * (512 + tombstones / 44)) }
+    ensures { result ≡ nat_lt actions (action_width * (512 + tombstones / tombstone_width)) }
 {
-    actions < 13 * (512 + tombstones / 44)
+    actions < ACTION_WIDTH * (LISTED_ACTIONS + tombstones / TOMBSTONE_WIDTH)
 }
 
 // Numbers 5 and 6 of a tombstone that is to be stored, or how it is. It reads only.
-pub fn store_choice(device: Device, tag: [u8; 16], tombstones: &[u8]) -> Choice
+pub fn store_choice(device: Device, tag: [u8; 16], tombstones: &[u8]) -> Result<Storing, Refusal>
     ensures { ChoiceOf device tombstones.now tag result × RoomFor result device tombstones.now }
 {
     if tombstoned(tombstones, device.tombstones, tag) {
-        return Choice::Store(Storing::Nothing);
+        return Ok(Storing::Nothing);
     }
-    let room = tombstones.len() / 44;
-    let n = table::fit(tombstones.len(), 44, device.tombstones);
-    if n < 1024 {
-        if room <= n {
-            return Choice::Refused(Refusal::NoTombstoneRow);
-        }
-        if device.next_slot == 18446744073709551615 {
-            return Choice::Refused(Refusal::NoSlot);
-        }
-        return Choice::Store(Storing::Append);
+    let n = table::fit(tombstones.len(), TOMBSTONE_WIDTH, device.tombstones);
+    if n < MAX_TOMBSTONES && tombstones.len() / TOMBSTONE_WIDTH <= n {
+        return Err(Refusal::NoTombstoneRow);
     }
-    let i = least_expiry(tombstones, device.tombstones);
-    if device.next_slot == 18446744073709551615 {
-        return Choice::Refused(Refusal::NoSlot);
+    if device.next_slot == u64::MAX {
+        return Err(Refusal::NoSlot);
     }
-    Choice::Store(Storing::Evict(i))
+    if n < MAX_TOMBSTONES {
+        return Ok(Storing::Append);
+    }
+    Ok(Storing::Evict(least_expiry(tombstones, device.tombstones)))
 }
 
-// Puts a tombstone behind the n that are there.
-fn push_tombstone(tombstones: &mut [u8], n: usize, row: Tombstone) -> usize
-    requires { n * 44 + 44 ≤ length tombstones.old }
-    ensures { Pushed n tombstones.old row result tombstones.new }
+// Puts a tombstone behind the n that are there, and takes the next slot.
+fn push_tombstone(device: &mut Device, n: usize, row: Tombstone, tombstones: &mut [u8])
+    requires { Space n (length tombstones.old) device.old.next_slot }
+    ensures { Pushed n tombstones.old row device.new.tombstones tombstones.new × (device.new ≡ device_after device.old device.new.tombstones) }
 {
     let b = rows::tombstone_bytes(row);
-    table::push(tombstones, 44, n, &b)
-}
-
-// The device with a tombstone more stored, so that n are held.
-fn device_after(device: Device, n: usize) -> Device
-    requires { HasSlot device }
-    ensures { result ≡ device_after device n }
-{
-    let courier = device.courier;
-    Device {
-        courier,
-        now_s: device.now_s,
-        contacts: device.contacts,
-        own: device.own,
-        carried: device.carried,
-        tombstones: n,
-        bad_tags: device.bad_tags,
-        next_slot: device.next_slot + 1,
-    }
-}
-
-fn new_tombstone(device: Device, tag: [u8; 16], s: [u8; 16], expiry: u32) -> Tombstone
-    ensures { result ≡ new_tombstone device tag s expiry }
-{
-    Tombstone {
-        slot: device.next_slot,
-        tag,
-        s,
-        expiry_min: expiry,
-    }
+    device.tombstones = table::push(tombstones, TOMBSTONE_WIDTH, n, &b);
+    device.next_slot += 1;
 }
 
 // Adds a tombstone.
-fn append(device: Device, row: Tombstone, tombstones: &mut [u8]) -> Device
-    requires { space_for device tombstones.old }
-    ensures { Grown device result tombstones.old tombstones.new (table_of tombstone_codec device.tombstones tombstones.old ++ (row ∷ [])) }
+fn append(device: &mut Device, row: Tombstone, tombstones: &mut [u8])
+    requires { space_for device.old tombstones.old }
+    ensures { Grown device.old device.new tombstones.old tombstones.new (table_of tombstone_codec device.old.tombstones tombstones.old ++ (row ∷ [])) }
 {
-    let n = table::fit(tombstones.len(), 44, device.tombstones);
-    let m = push_tombstone(tombstones, n, row);
-    device_after(device, m)
+    let n = table::fit(tombstones.len(), TOMBSTONE_WIDTH, device.tombstones);
+    push_tombstone(device, n, row, tombstones);
 }
 
 // Takes the tombstone at i out, and adds one.
-fn evict(device: Device, i: usize, row: Tombstone, tombstones: &mut [u8]) -> Device
-    requires { spare_at i device tombstones.old }
-    ensures { Grown device result tombstones.old tombstones.new (remove_at i (table_of tombstone_codec device.tombstones tombstones.old) ++ (row ∷ [])) }
+fn evict(device: &mut Device, i: usize, row: Tombstone, tombstones: &mut [u8])
+    requires { spare_at i device.old tombstones.old }
+    ensures { Grown device.old device.new tombstones.old tombstones.new (remove_at i (table_of tombstone_codec device.old.tombstones tombstones.old) ++ (row ∷ [])) }
 {
-    let n = table::fit(tombstones.len(), 44, device.tombstones);
-    let k = table::remove(tombstones, 44, n, i);
-    let m = push_tombstone(tombstones, k, row);
-    device_after(device, m)
+    let n = table::fit(tombstones.len(), TOMBSTONE_WIDTH, device.tombstones);
+    let left = table::remove(tombstones, TOMBSTONE_WIDTH, n, i);
+    push_tombstone(device, left, row, tombstones);
 }
 
 // The slot of the tombstone at i.
 fn slot_at(tombstones: &[u8], count: usize, i: usize) -> u64
-    requires { (i < held (length tombstones.now) 44 count) × (held (length tombstones.now) 44 count * 44 ≤ length tombstones.now) }
+    requires { (i < held (length tombstones.now) tombstone_width count) × (held (length tombstones.now) tombstone_width count * tombstone_width ≤ length tombstones.now) }
     ensures { result ≡ (slice_index_or (table_of tombstone_codec count tombstones.now) i no_tombstone).slot }
 {
-    octets::get_u64(tombstones, i * 44)
+    octets::get_u64(tombstones, i * TOMBSTONE_WIDTH)
 }
 
-// Stores a tombstone as it was chosen, at the next slot; its actions are listed from a place on.
+// Stores a tombstone as it was chosen, at the next slot; its actions are listed from a place on, and how many is answered.
 pub fn store_tombstone(
-    device: Device,
+    device: &mut Device,
     how: Storing,
-    tag: [u8; 16],
-    s: [u8; 16],
+    tomb: Tomb,
     expiry: u32,
     tombstones: &mut [u8],
     actions: &mut [u8],
     at: usize,
-) -> After
-    requires { Room how device tombstones.old × (at + 26 ≤ length actions.old) }
-    ensures { Stores how device tag s expiry at tombstones.old actions.old result.device result.actions tombstones.new actions.new × (result.actions ≤ 2) }
+) -> usize
+    requires { Room how device.old tombstones.old × (at + 2 * action_width ≤ length actions.old) }
+    ensures { Stores how device.old tomb.tag tomb.s expiry at tombstones.old actions.old device.new result tombstones.new actions.new × (result ≤ 2) }
 {
-    let row = new_tombstone(device, tag, s, expiry);
+    let slot = device.next_slot;
+    let row = tomb.tombstone(slot, expiry);
     match how {
-        Storing::Nothing => After { device, actions: 0 },
+        Storing::Nothing => 0,
         Storing::Append => {
-            let d = append(device, row, tombstones);
-            answers::put_courier(actions, at, device.next_slot);
-            After {
-                device: d,
-                actions: 1,
-            }
+            append(device, row, tombstones);
+            answers::put_courier(actions, at, slot);
+            1
         }
         Storing::Evict(i) => {
-            let slot = slot_at(tombstones, device.tombstones, i);
-            let d = evict(device, i, row, tombstones);
-            answers::delete_courier(actions, at, slot);
-            answers::put_courier(actions, at + 13, device.next_slot);
-            After {
-                device: d,
-                actions: 2,
-            }
+            let gone = slot_at(tombstones, device.tombstones, i);
+            evict(device, i, row, tombstones);
+            answers::delete_courier(actions, at, gone);
+            answers::put_courier(actions, at + ACTION_WIDTH, slot);
+            2
         }
     }
 }
 
 // A tombstone to be stored: nothing if its tag has one, and at 1,024 or more the one of least expiry goes first.
+// It answers how many actions are listed.
 pub fn stored_tombstone(
-    device: Device,
+    device: &mut Device,
     tag: [u8; 16],
     s: [u8; 16],
     expiry: u32,
     tombstones: &mut [u8],
     actions: &mut [u8],
-) -> Outcome
-    ensures { Does says_stored (stored_tombstone (length actions.old) tag s expiry) result.answer
-        (tombstones_lent device tombstones.old) (tombstones_lent result.device tombstones.new)
+) -> Result<usize, Refusal>
+    ensures { Does says_stored (stored_tombstone (length actions.old) tag s expiry) result
+        (tombstones_lent device.old tombstones.old) (tombstones_lent device.new tombstones.new)
         (actions_lent actions.old) (actions_lent actions.new) }
 {
     if short_actions(actions.len(), tombstones.len()) {
-        return Outcome {
-            device,
-            answer: Stored::Refused(Refusal::ShortArea),
-        };
+        return Err(Refusal::ShortArea);
     }
-    match store_choice(device, tag, tombstones) {
-        Choice::Refused(why) => Outcome {
-            device,
-            answer: Stored::Refused(why),
-        },
-        Choice::Store(how) => {
-            let after = store_tombstone(device, how, tag, s, expiry, tombstones, actions, 0);
-            let d = after.device;
-            Outcome {
-                device: d,
-                answer: Stored::Done(after.actions),
-            }
-        }
-    }
+    let how = store_choice(*device, tag, tombstones)?;
+    Ok(store_tombstone(device, how, Tomb { tag, s }, expiry, tombstones, actions, 0))
 }

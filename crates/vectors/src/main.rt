@@ -2,7 +2,8 @@
 // data.rs on fixed inputs, and writes what it got. `stdout` has the values of an independent implementation.
 #![tactic(auto)]
 
-use std::num::wrapping_add_u8;
+use hasher::Hasher;
+use kdf::Refused;
 
 // Standard output.
 const STDOUT: i32 = 1;
@@ -16,17 +17,13 @@ fn say(text: &[u8]) {
 
 fn digit(x: u8) -> u8 {
     let d = x % 16;
-    if d < 10 { 48 + d } else { 87 + d }
+    if d < 10 { b'0' + d } else { b'a' + (d - 10) }
 }
 
 // The bytes in hexadecimal.
 fn say_hex(bytes: &[u8]) {
-    let mut i = 0;
-    while i < bytes.len() {
-        let b = bytes[i];
-        let two = [digit(b / 16), digit(b)];
-        say(&two);
-        i += 1;
+    for b in bytes {
+        say(&[digit(*b / 16), digit(*b)]);
     }
 }
 
@@ -37,11 +34,7 @@ fn say_line(bytes: &[u8]) {
 
 // The first n bytes, or all where there are fewer.
 fn front(bytes: &[u8], n: usize) -> &[u8] {
-    if n <= bytes.len() {
-        &bytes[0..n]
-    } else {
-        bytes
-    }
+    &bytes[..n.min(bytes.len())]
 }
 
 fn say_number(n: usize) {
@@ -51,21 +44,18 @@ fn say_number(n: usize) {
 
 // Bytes that rise by a step, from a first one on, modulo 256.
 fn rising(first: u8, step: u8) -> [u8; 300] {
-    let mut p = [0u8; 300];
-    let mut x = first;
-    let mut i: usize = 0;
-    while i < 300 {
-        p[i] = x;
-        x = wrapping_add_u8(x, step);
-        i += 1;
+    let mut bytes = [0; 300];
+    let mut next = first;
+    for b in &mut bytes {
+        *b = next;
+        next = next.wrapping_add(step);
     }
-    p
+    bytes
 }
 
 fn hash_line(name: &[u8], m: &[u8]) {
     say(name);
-    let d = sha384::hash(m);
-    say_line(&d);
+    say_line(&sha384::hash(m));
 }
 
 fn hash_of_length(n: usize) {
@@ -85,37 +75,26 @@ fn hashes() {
 
 // A million bytes, in sixteen parts.
 fn million() {
-    let k = sha_block::constants();
-    let part = [97u8; 62500];
-    let mut h = hasher::start();
-    let mut i: usize = 0;
-    while i < 16 {
-        let next = hasher::update(&k, h, &part);
+    let part = [b'a'; 62500];
+    let mut h = Hasher::new();
+    for _turn in 0..16usize {
+        let next = h.update(&part);
         h = next;
-        i += 1;
     }
-    let d = hasher::finish(&k, h);
     say(b"a million a ");
-    say_line(&d);
+    say_line(&h.finish());
 }
 
 fn hash_lengths() {
     say(b"SHA-384, lengths\n");
-    hash_of_length(0);
-    hash_of_length(1);
-    hash_of_length(111);
-    hash_of_length(112);
-    hash_of_length(127);
-    hash_of_length(128);
-    hash_of_length(239);
-    hash_of_length(240);
-    hash_of_length(256);
+    for n in [0, 1, 111, 112, 127, 128, 239, 240, 256] {
+        hash_of_length(n);
+    }
 }
 
 fn hmac_line(name: &[u8], key: &[u8], text: &[u8]) {
     say(name);
-    let d = hmac::hmac(key, text);
-    say_line(&d);
+    say_line(&hmac::hmac(key, text));
 }
 
 fn hmac_of_length(n: usize) {
@@ -126,35 +105,34 @@ fn hmac_of_length(n: usize) {
 
 fn hmacs() {
     say(b"HMAC-SHA-384, RFC 4231\n");
-    hmac_line(b"case 1 ", &[0x0bu8; 20], b"Hi There");
+    hmac_line(b"case 1 ", &[0x0b; 20], b"Hi There");
     hmac_line(b"case 2 ", b"Jefe", b"what do ya want for nothing?");
-    hmac_line(b"case 3 ", &[0xaau8; 20], &[0xddu8; 50]);
+    hmac_line(b"case 3 ", &[0xaa; 20], &[0xdd; 50]);
     let key = rising(1, 1);
-    hmac_line(b"case 4 ", front(&key, 25), &[0xcdu8; 50]);
-    hmac_line(b"case 5 ", &[0x0cu8; 20], b"Test With Truncation");
+    hmac_line(b"case 4 ", front(&key, 25), &[0xcd; 50]);
+    hmac_line(b"case 5 ", &[0x0c; 20], b"Test With Truncation");
     hmac_line(
         b"case 6 ",
-        &[0xaau8; 131],
+        &[0xaa; 131],
         b"Test Using Larger Than Block-Size Key - Hash Key First",
     );
     hmac_line(
         b"case 7 ",
-        &[0xaau8; 131],
+        &[0xaa; 131],
         b"This is a test using a larger than block-size key and a larger than block-size data. The key needs to be hashed before being used by the HMAC algorithm.",
     );
 }
 
 fn hmac_lengths() {
     say(b"HMAC-SHA-384, key lengths\n");
-    hmac_of_length(0);
-    hmac_of_length(127);
-    hmac_of_length(128);
-    hmac_of_length(129);
+    for n in [0, 127, 128, 129] {
+        hmac_of_length(n);
+    }
 }
 
 fn hkdf_line(name: &[u8], ikm: &[u8], salt: &[u8], info: &[u8], out: &mut [u8]) {
     say(name);
-    hmac::hkdf(ikm, salt, info, out);
+    let _ = hmac::hkdf(ikm, salt, info, out);
     say_line(out);
 }
 
@@ -162,13 +140,7 @@ fn hkdf_line(name: &[u8], ikm: &[u8], salt: &[u8], info: &[u8], out: &mut [u8]) 
 fn hkdf_basic(name: &[u8], ikm: &[u8]) {
     let salt = rising(0, 1);
     let info = rising(0xf0, 1);
-    hkdf_line(
-        name,
-        ikm,
-        front(&salt, 13),
-        front(&info, 10),
-        &mut [0u8; 42],
-    );
+    hkdf_line(name, ikm, front(&salt, 13), front(&info, 10), &mut [0; 42]);
 }
 
 fn hkdf_longer() {
@@ -180,70 +152,66 @@ fn hkdf_longer() {
         front(&ikm, 80),
         front(&salt, 80),
         front(&info, 80),
-        &mut [0u8; 82],
+        &mut [0; 82],
     );
 }
 
 fn hkdfs() {
     say(b"HKDF-SHA-384, inputs of RFC 5869\n");
-    hkdf_basic(b"case 1 ", &[0x0bu8; 22]);
+    hkdf_basic(b"case 1 ", &[0x0b; 22]);
     hkdf_longer();
-    hkdf_line(b"case 3 ", &[0x0bu8; 22], b"", b"", &mut [0u8; 42]);
-    hkdf_basic(b"case 4 ", &[0x0bu8; 11]);
-    hkdf_line(b"case 5 ", &[0x0cu8; 22], b"", b"", &mut [0u8; 42]);
+    hkdf_line(b"case 3 ", &[0x0b; 22], b"", b"", &mut [0; 42]);
+    hkdf_basic(b"case 4 ", &[0x0b; 11]);
+    hkdf_line(b"case 5 ", &[0x0c; 22], b"", b"", &mut [0; 42]);
 }
 
 // By the length of the output.
 fn hkdf_sized(name: &[u8], out: &mut [u8]) {
-    hkdf_line(name, &[0x0bu8; 22], b"", b"", out);
+    hkdf_line(name, &[0x0b; 22], b"", b"", out);
 }
 
 // The longest output, by its hash, and one byte more.
 fn hkdf_longest() {
-    let mut out = [0u8; 12240];
-    hmac::hkdf(&[0x0bu8; 22], b"", b"", &mut out);
+    let mut out = [0; 12240];
+    let _ = hmac::hkdf(&[0x0b; 22], b"", b"", &mut out);
     hash_line(b"12240, its hash ", &out);
-    let mut more = [0u8; 12241];
-    match hmac::hkdf(&[0x0bu8; 22], b"", b"", &mut more) {
-        hmac::Derived::Done => say(b"12241 done\n"),
-        hmac::Derived::TooLong => say(b"12241 too long\n"),
+    let mut more = [0; 12241];
+    match hmac::hkdf(&[0x0b; 22], b"", b"", &mut more) {
+        Ok(()) => say(b"12241 done\n"),
+        Err(_) => say(b"12241 too long\n"),
     }
 }
 
 fn hkdf_lengths() {
     say(b"HKDF-SHA-384, lengths\n");
-    hkdf_sized(b"0 ", &mut [0u8; 0]);
-    hkdf_sized(b"1 ", &mut [0u8; 1]);
-    hkdf_sized(b"48 ", &mut [0u8; 48]);
-    hkdf_sized(b"49 ", &mut [0u8; 49]);
+    hkdf_sized(b"0 ", &mut [0; 0]);
+    hkdf_sized(b"1 ", &mut [0; 1]);
+    hkdf_sized(b"48 ", &mut [0; 48]);
+    hkdf_sized(b"49 ", &mut [0; 49]);
     hkdf_longest();
 }
 
-// By value: the bytes, and where the label is too long that it is; the bytes are zeros then.
-fn value_line(name: &[u8], fits: bool, bytes: &[u8]) {
+// By value: the bytes, or that the label is too long, and as many zeros.
+fn value_line<const N: usize>(name: &[u8], value: Option<[u8; N]>) {
     say(name);
-    if !fits {
-        say(b"too long ");
+    match value {
+        Some(bytes) => say_line(&bytes),
+        None => {
+            say(b"too long ");
+            say_line(&[0; N]);
+        }
     }
-    say_line(bytes);
-}
-
-fn key_line(name: &[u8], k: kdf::Key) {
-    let bytes = k.bytes;
-    value_line(name, k.fits, &bytes);
 }
 
 // The eleven bytes before a label.
 fn head_line(name: &[u8], label: &[u8]) {
-    let h = kdf::labelled(label);
-    let head = h.bytes;
-    value_line(name, h.fits, &head);
+    value_line(name, kdf::labelled(label));
 }
 
 fn keys() {
     let key = rising(3, 7);
-    key_line(b"mac ", kdf::mac(front(&key, 32), b"route", b"I\x01\x07"));
-    key_line(
+    value_line(b"mac ", kdf::mac(front(&key, 32), b"route", b"I\x01\x07"));
+    value_line(
         b"kdf ",
         kdf::kdf_16(front(&key, 32), b"", b"delivered", b""),
     );
@@ -253,7 +221,7 @@ fn key_with_salt() {
     let key = rising(3, 7);
     let salt = rising(3, 7);
     let info = rising(3, 7);
-    key_line(
+    value_line(
         b"kdf with salt and info ",
         kdf::kdf_16(front(&key, 32), front(&salt, 5), b"mk", front(&info, 40)),
     );
@@ -261,15 +229,12 @@ fn key_with_salt() {
 
 fn digest_line(name: &[u8], label: &[u8]) {
     let p = rising(3, 7);
-    let d = kdf::hash(label, front(&p, 16));
-    let bytes = d.bytes;
-    value_line(name, d.fits, &bytes);
+    value_line(name, kdf::hash(label, front(&p, 16)));
 }
 
 fn commit_line(name: &[u8], nonce: [u8; 16]) {
     say(name);
-    let c = kdf::commit(nonce);
-    say_line(&c);
+    say_line(&kdf::commit(nonce));
 }
 
 fn labels() {
@@ -278,7 +243,7 @@ fn labels() {
     keys();
     key_with_salt();
     digest_line(b"hash ", b"delivered");
-    commit_line(b"commit to zeros ", [0u8; 16]);
+    commit_line(b"commit to zeros ", [0; 16]);
     commit_line(
         b"commit ",
         [0, 1, 2, 3, 4, 5, 6, 7, 8, 9, 10, 11, 12, 13, 14, 15],
@@ -286,11 +251,11 @@ fn labels() {
 }
 
 // The answer for a lent area.
-fn say_made(made: kdf::Made) {
-    match made {
-        kdf::Made::Done => say(b"done "),
-        kdf::Made::LabelTooLong => say(b"label too long "),
-        kdf::Made::OutTooLong => say(b"too long "),
+fn say_answer(answer: Result<(), Refused>) {
+    match answer {
+        Ok(()) => say(b"done "),
+        Err(Refused::LabelTooLong) => say(b"label too long "),
+        Err(Refused::OutTooLong) => say(b"too long "),
     }
 }
 
@@ -298,7 +263,7 @@ fn say_made(made: kdf::Made) {
 fn tag_sized(name: &[u8], label: &[u8], out: &mut [u8]) {
     let key = rising(3, 7);
     say(name);
-    say_made(kdf::tag(front(&key, 32), label, b"I\x01\x07", out));
+    say_answer(kdf::tag(front(&key, 32), label, b"I\x01\x07", out));
     say_line(out);
 }
 
@@ -317,7 +282,7 @@ fn kdf_of(name: &[u8], label: &[u8], out: &mut [u8]) {
     let salt = rising(5, 11);
     let info = rising(9, 13);
     say(name);
-    say_made(kdf::kdf(
+    say_answer(kdf::kdf(
         front(&ikm, 32),
         front(&salt, 5),
         label,
@@ -358,8 +323,8 @@ fn with_label(label: &[u8]) {
     let key = rising(3, 7);
     say_number(label.len());
     head_line(b"before the label ", label);
-    key_line(b"mac ", kdf::mac(front(&key, 32), label, b""));
-    key_line(b"kdf ", kdf::kdf_16(front(&key, 32), b"", label, b""));
+    value_line(b"mac ", kdf::mac(front(&key, 32), label, b""));
+    value_line(b"kdf ", kdf::kdf_16(front(&key, 32), b"", label, b""));
     digest_line(b"hash ", label);
     tag_sized(b"tag ", label, &mut [BEFORE; 48]);
     tag_sized(b"tag of 49 ", label, &mut [BEFORE; 49]);
@@ -368,30 +333,23 @@ fn with_label(label: &[u8]) {
 
 fn longest_labels() {
     say(b"kdf.rs, lengths of labels\n");
-    with_label(&[97u8; 65526]);
-    with_label(&[97u8; 65527]);
+    with_label(&[b'a'; 65526]);
+    with_label(&[b'a'; 65527]);
 }
 
 fn leb_line(v: u32) {
     say_number(v as usize);
     let e = data::leb128(v);
-    let bytes = e.bytes;
-    say_line(front(&bytes, e.len));
+    say_line(front(&e.bytes, e.len));
 }
 
 fn lebs() {
     say(b"data.rs, leb128\n");
-    leb_line(0);
-    leb_line(1);
-    leb_line(127);
-    leb_line(128);
-    leb_line(16383);
-    leb_line(16384);
-    leb_line(2097151);
-    leb_line(2097152);
-    leb_line(268435455);
-    leb_line(268435456);
-    leb_line(4294967295);
+    for v in [
+        0, 1, 127, 128, 16383, 16384, 2097151, 2097152, 268435455, 268435456, 4294967295,
+    ] {
+        leb_line(v);
+    }
 }
 
 fn main() {

@@ -1,15 +1,12 @@
 -- The log's grammar (document 01, "Drill program" and number 13): a record is a mark of two letters, two bytes of body length, a body.
 -- Assumes nothing.
-use Rattle.std.specs.Prelude.{ℕ, ◌-◌, ◌%◌, Bool, true, false, cond, ◌&&◌, List, length, drop, ◌==◌, nat_le, nat_lt}
-use Rattle.std.proofs.Math.Option.{Option, none, some}
+use Rattle.std.specs.Prelude.{ℕ, ◌-◌, ◌%◌, Bool, true, false, cond, ◌&&◌, List, length, drop, ◌==◌, nat_le, nat_lt, Option, Some, None}
 use Rattle.octets.specs.Bytes.{part, num}
 use Rattle.courier_core.specs.declared.ContactId.{ContactId}
 use Rattle.courier_core.specs.declared.Verification.{Verification}
-use Rattle.courier_core.specs.declared.Verification.TheVariants as verification
+use Rattle.courier_core.specs.Core.{verification_from}
 use Rattle.courier.specs.declared.Header.{Header}
 use Rattle.courier.specs.declared.Custody.{Custody}
-use Rattle.courier.specs.declared.CustodyRead.{CustodyRead}
-use Rattle.courier.specs.declared.CustodyRead.TheVariants as custody_read
 use Rattle.courier.specs.Courier.{header_of, from_code}
 use Rattle.wire.specs.declared.Mark.{Mark}
 use Rattle.wire.specs.declared.Mark.TheVariants as mark
@@ -76,38 +73,33 @@ head_of s =
 -- ---- the body
 
 abbrev pub mapped : {A B : Type 0} → (A → B) → Option A → Option B
-mapped f none = none
-mapped f (some a) = some (f a)
+mapped f None = None
+mapped f (Some a) = Some (f a)
 
 -- the bytes for a verification, and for enabled; anything else is none
-unfoldable pub verification_of : ℕ → Option Verification
-verification_of v =
-    cond (v == 0) (some verification.Unverified) (cond (v == 1) (some verification.Verified) (cond (v == 2) (some verification.Compromised) none))
+abbrev pub verification_of : ℕ → Option Verification
+verification_of v = verification_from v
 
 unfoldable pub enabled_of : ℕ → Option Bool
-enabled_of e = cond (e == 0) (some false) (cond (e == 1) (some true) none)
-
-abbrev pub code_read : CustodyRead → Option Custody
-code_read (custody_read.Known code) = some code
-code_read custody_read.Unknown = none
+enabled_of e = cond (e == 0) (Some false) (cond (e == 1) (Some true) None)
 
 abbrev pub peer_in : List ℕ → ContactId
 peer_in b = record { 0 = num (part b 0 8) }
 
 -- what a body says that has its mark's shape: none where a verification, a code or enabled is wrong
 unfoldable pub values_of : Mark → List ℕ → Option Record
-values_of mark.Clock b = some (clock (num (part b 0 8)))
+values_of mark.Clock b = Some (clock (num (part b 0 8)))
 values_of mark.Contact b = mapped (contact (peer_in b)) (verification_of (num (part b 8 1)))
-values_of mark.Session b = some (session (peer_in b))
-values_of mark.Envelope b = some (envelope (peer_in b) (header_of (part b 8 37)) (drop 45 b))
-values_of mark.Inventory b = some (inventory (peer_in b) (drop 8 b))
-values_of mark.Fetch b = some (fetch (peer_in b) (part b 8 16))
-values_of mark.Custody b = mapped (custody (peer_in b) (part b 8 16)) (code_read (from_code (num (part b 24 1))))
-values_of mark.Tomb b = some (tomb (peer_in b) (part b 8 16) (part b 24 16))
-values_of mark.Maintenance b = some maintenance
+values_of mark.Session b = Some (session (peer_in b))
+values_of mark.Envelope b = Some (envelope (peer_in b) (header_of (part b 8 37)) (drop 45 b))
+values_of mark.Inventory b = Some (inventory (peer_in b) (drop 8 b))
+values_of mark.Fetch b = Some (fetch (peer_in b) (part b 8 16))
+values_of mark.Custody b = mapped (custody (peer_in b) (part b 8 16)) (from_code (num (part b 24 1)))
+values_of mark.Tomb b = Some (tomb (peer_in b) (part b 8 16) (part b 24 16))
+values_of mark.Maintenance b = Some maintenance
 values_of mark.Setting b = mapped (λ enabled. setting enabled (num (part b 1 1)) (num (part b 2 2))) (enabled_of (num (part b 0 1)))
-values_of mark.Unknown b = none
+values_of mark.Unknown b = None
 
 -- a body, whatever it is: none is number 13
 unfoldable pub body_of : Mark → List ℕ → Option Record
-body_of m b = cond (fits m (length b)) (values_of m b) none
+body_of m b = cond (fits m (length b)) (values_of m b) None

@@ -4,15 +4,16 @@
 ghost use Rattle.std.specs.Prelude.{◌≡◌, ◌≤◌, true, length};
 ghost use Rattle.octets.specs.Bytes.{num, part};
 ghost use Rattle.wire.specs.declared.Mark.TheVariants as mark;
-ghost use Rattle.wire.specs.Log.{mark_of, shaped, fits, head_of, peer_in, values_of, body_of};
+ghost use Rattle.wire.specs.Log.{mark_of, shaped, fits, head_of, peer_in, values_of, body_of, enabled_of};
 ghost use Rattle.wire.specs.Read.{read_as, Told};
 
-use courier::{Custody, CustodyRead};
+use courier::Custody;
 use courier_core::{ContactId, Verification};
 
 // ---- the head
 
-#[derive(Clone, Copy)]
+// A record's mark. `Unknown` is one of them and not an Option's None: no body has its shape, so that a head is asked one question.
+#[derive(Clone, Copy, PartialEq, Eq)]
 pub enum Mark {
     Clock,
     Contact,
@@ -42,6 +43,7 @@ pub const HEAD: usize = 4;
 pub const BODY_MAX: usize = 8_192;
 
 // The mark that two letters spell.
+#[tactic(auto, unfolding(crate::specs::Log::mark_of))]
 pub fn mark_of(m: u16) -> Mark
     ensures { result ≡ mark_of m }
 {
@@ -61,6 +63,7 @@ pub fn mark_of(m: u16) -> Mark
 }
 
 // Has a body of n bytes the shape that its mark asks for?
+#[tactic(auto, unfolding(crate::specs::Log::shaped))]
 fn is_shaped(mark: Mark, n: usize) -> bool
     ensures { result ≡ shaped mark n }
 {
@@ -79,17 +82,15 @@ fn is_shaped(mark: Mark, n: usize) -> bool
     }
 }
 
+#[tactic(auto, unfolding(crate::specs::Log::fits))]
 fn is_fit(mark: Mark, n: usize) -> bool
     ensures { result ≡ fits mark n }
 {
-    if n <= BODY_MAX {
-        is_shaped(mark, n)
-    } else {
-        false
-    }
+    n <= BODY_MAX && is_shaped(mark, n)
 }
 
 // The head is told right or wrong before the body is there.
+#[tactic(auto, unfolding(crate::specs::Log::head_of))]
 pub fn read_head(s: &[u8]) -> Head
     ensures { result ≡ head_of s.now }
 {
@@ -109,11 +110,9 @@ pub fn read_head(s: &[u8]) -> Head
 
 // ---- the body
 
-// What a body says, less its runs of bytes: a tag stands at 8, a secret at 24, an envelope at 8, prefixes from 8 on. (An enum
-// can't hold an array.)
+// What a body says, less its runs of bytes: a tag stands at 8, a secret at 24, an envelope at 8, prefixes from 8 on.
 #[derive(Drop)]
 pub enum Body {
-    Wrong,
     Clock {
         seconds: u64,
     },
@@ -155,98 +154,94 @@ fn peer_in(body: &[u8]) -> ContactId
     ContactId(octets::get_u64(body, 0))
 }
 
-fn contact_in(body: &[u8]) -> Body
+#[tactic(auto, using(crate::proofs::BodyLaws::read_some, crate::proofs::BodyLaws::read_none), unfolding(crate::specs::Log::values_of))]
+fn contact_in(body: &[u8]) -> Option<Body>
     requires { 9 ≤ length body.now }
     ensures { result ≡ read_as (values_of mark.Contact body.now) }
 {
-    let id = peer_in(body);
-    match octets::get_u8(body, 8) {
-        0 => Body::Contact {
-            id,
-            verification: Verification::Unverified,
-        },
-        1 => Body::Contact {
-            id,
-            verification: Verification::Verified,
-        },
-        2 => Body::Contact {
-            id,
-            verification: Verification::Compromised,
-        },
-        _ => Body::Wrong,
-    }
+    let verification = Verification::from_byte(octets::get_u8(body, 8))?;
+    Some(Body::Contact {
+        id: peer_in(body),
+        verification,
+    })
 }
 
-fn custody_in(body: &[u8]) -> Body
+#[tactic(auto, using(crate::proofs::BodyLaws::read_some, crate::proofs::BodyLaws::read_none), unfolding(crate::specs::Log::values_of))]
+fn custody_in(body: &[u8]) -> Option<Body>
     requires { 25 ≤ length body.now }
     ensures { result ≡ read_as (values_of mark.Custody body.now) }
 {
-    let peer = peer_in(body);
-    match Custody::from_code(octets::get_u8(body, 24)) {
-        CustodyRead::Known(code) => Body::Custody { peer, code },
-        CustodyRead::Unknown => Body::Wrong,
-    }
+    let code = Custody::from_code(octets::get_u8(body, 24))?;
+    Some(Body::Custody {
+        peer: peer_in(body),
+        code,
+    })
 }
 
-fn setting_in(body: &[u8]) -> Body
+#[tactic(auto, using(crate::proofs::BodyLaws::read_some, crate::proofs::BodyLaws::read_none), unfolding(crate::specs::Log::values_of))]
+fn setting_in(body: &[u8]) -> Option<Body>
     requires { 4 ≤ length body.now }
     ensures { result ≡ read_as (values_of mark.Setting body.now) }
 {
-    let copies = octets::get_u8(body, 1);
-    let lifetime = octets::get_u16(body, 2);
-    match octets::get_u8(body, 0) {
-        0 => Body::Setting {
-            enabled: false,
-            copies,
-            lifetime,
-        },
-        1 => Body::Setting {
-            enabled: true,
-            copies,
-            lifetime,
-        },
-        _ => Body::Wrong,
+    let enabled = enabled_of(octets::get_u8(body, 0))?;
+    Some(Body::Setting {
+        enabled,
+        copies: octets::get_u8(body, 1),
+        lifetime: octets::get_u16(body, 2),
+    })
+}
+
+#[tactic(auto, unfolding(crate::specs::Log::enabled_of))]
+fn enabled_of(byte: u8) -> Option<bool>
+    ensures { result ≡ enabled_of byte }
+{
+    match byte {
+        0 => Some(false),
+        1 => Some(true),
+        _ => None,
     }
 }
 
 // A body that has its mark's shape.
-fn values_of(mark: Mark, body: &[u8]) -> Body
+#[tactic(auto, using(crate::proofs::BodyLaws::as_mark), unfolding(crate::specs::Log::values_of))]
+fn values_of(mark: Mark, body: &[u8]) -> Option<Body>
     requires { fits mark (length body.now) ≡ true }
     ensures { result ≡ read_as (values_of mark body.now) }
 {
     match mark {
-        Mark::Clock => Body::Clock {
+        Mark::Clock => Some(Body::Clock {
             seconds: octets::get_u64(body, 0),
-        },
+        }),
         Mark::Contact => contact_in(body),
-        Mark::Session => Body::Session {
+        Mark::Session => Some(Body::Session {
             peer: peer_in(body),
-        },
-        Mark::Envelope => Body::Envelope {
+        }),
+        Mark::Envelope => Some(Body::Envelope {
             peer: peer_in(body),
-        },
-        Mark::Inventory => Body::Inventory {
+        }),
+        Mark::Inventory => Some(Body::Inventory {
             peer: peer_in(body),
-        },
-        Mark::Fetch => Body::Fetch {
+        }),
+        Mark::Fetch => Some(Body::Fetch {
             peer: peer_in(body),
-        },
+        }),
         Mark::Custody => custody_in(body),
-        Mark::Tomb => Body::Tomb {
+        Mark::Tomb => Some(Body::Tomb {
             peer: peer_in(body),
-        },
-        Mark::Maintenance => Body::Maintenance,
+        }),
+        Mark::Maintenance => Some(Body::Maintenance),
         Mark::Setting => setting_in(body),
-        Mark::Unknown => Body::Wrong,
+        Mark::Unknown => None,
     }
 }
 
-pub fn read_body(mark: Mark, body: &[u8]) -> Body
+// What a body says under its mark; nothing where it is wrong.
+pub fn read_body(mark: Mark, body: &[u8]) -> Option<Body>
     ensures { Told mark body.now result }
 {
     if is_fit(mark, body.len()) {
         values_of(mark, body)
     } else {
-        Body::Wrong
+        None
     }
 }

@@ -3,4 +3,4 @@ use Rattle.answers.proofs.Laws.{own_head}
 use Rattle.answers.proofs.own_header.Goals as goal
 
 pub returns : goal.returns
-returns c = own_head _ _ c.commitment-c.ensures
+returns c = own_head _ _ c.commitment.ensures

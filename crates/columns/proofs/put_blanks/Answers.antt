@@ -1,13 +1,15 @@
-use mathlib.Core.Path.{ap, ◌∙◌}
-use mathlib.Core.Path.{◌≡◌}
-use Prim.Native.Nat.{ℕ, ◌-◌}
-use lib.ListN.{take, replicate}
-use Rattle.octets.specs.Bytes.{splice}
+-- The part that is filled has n bytes.
+use mathlib.Core.Path.{◌≡◌, sym, ap, ◌∙◌}
+use Prim.Native.Nat.{ℕ}
 use native.Mathlib.Omega.{arith}
-use Rattle.columns.proofs.ColumnLaws.{take_blanks}
+use borrow.Author.Rules.{rules}
+use lib.ListN.{length, replicate, length-take, length-drop}
+use Rattle.octets.specs.Bytes.{splice}
+use Rattle.octets.proofs.Parts.{lent_splice}
 use Rattle.columns.proofs.put_blanks.Goals as goal
 
 pub returns : goal.returns
 returns c =
-    let e : c.args.n - 0 ≡ c.args.n = omega arith in
-    c.copy_in.ensures ∙ ap (splice c.args.out.now c.args.at) (ap (λ (k : ℕ). take k (replicate {A = ℕ} 80 32)) e ∙ take_blanks c.args.n 80 (omega arith))
+    let n : length c.fill.new.self ≡ c.args.n = c.fill.ensures.len ∙ simp (length-take, length-drop) (omega arith) in
+    let filled = c.fill.ensures.after (λ y e. search rules) ∙ ap (λ (k : ℕ). replicate {A = ℕ} k 32) (sym c.fill.ensures.len ∙ n) in
+    lent_splice c.args.out.now c.fill.new.self c.args.at _ (omega (arith, n)) ∙ ap (splice c.args.out.now c.args.at) filled

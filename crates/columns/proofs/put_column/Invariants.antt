@@ -1,13 +1,8 @@
 -- The digits so far stand to the right; what is left of the column is the same column of what is left of the number.
 use mathlib.Core.Path.{◌≡◌}
-use Prim.Native.Nat.{◌-◌, ◌≤◌}
-use lib.ListN.{length}
 use Rattle.octets.specs.Bytes.{splice}
 use Rattle.columns.specs.Columns.{column}
 use Rattle.columns.proofs.put_column.Given as goal
 
 abbrev pub invariant-loop-k : goal.invariant-loop-k
-invariant-loop-k l = (l.k ≤ l.width) × ((splice l.out l.at (column l.k l.v) ≡ splice l.initial.out l.at (column l.width l.n)) × (length l.out ≡ length l.initial.out))
-
-abbrev pub decreases-loop-k : goal.decreases-loop-k
-decreases-loop-k l = l.k
+invariant-loop-k l = splice l.out l.at (column l.k l.v) ≡ splice l.initial.out l.at (column l.width l.n)

@@ -3,4 +3,4 @@ use Rattle.contacts.proofs.ContactLaws.{clocked}
 use Rattle.contacts.proofs.clock.Goals as goal
 
 pub returns : goal.returns
-returns c = clocked _ _ c.device_with.ensures
+returns c = clocked _ _

@@ -1,5 +1,5 @@
 -- `strangers`: whether a row has a stranger is whether one from i on has; the contact before is known. Assumes nothing.
-use Rattle.std.proofs.Common.{◌≡◌, ◌-◌, ◌≤◌, true, drop}
+use Rattle.std.proofs.Common.{◌≡◌, true, drop, MatchOption}
 use Rattle.table.specs.Codec.{table_of}
 use Rattle.rows.specs.Rows.{contact_codec}
 use Rattle.model.specs.Contacts.{known}
@@ -7,9 +7,7 @@ use Rattle.model.specs.Window.{window_rows, strangers}
 use Rattle.contacts.proofs.strangers.Given as goal
 
 abbrev pub invariant-loop-i : goal.invariant-loop-i
-invariant-loop-i l =
-    (l.i ≤ l.n) × ((known (table_of contact_codec l.count l.contacts) (record { 0 = l.before }) ≡ true)
-    × (strangers (table_of contact_codec l.count l.contacts) (window_rows l.window) ≡ strangers (table_of contact_codec l.count l.contacts) (drop l.i (window_rows l.window))))
-
-abbrev pub decreases-loop-i : goal.decreases-loop-i
-decreases-loop-i l = l.n - l.i
+invariant-loop-i l = record {
+  before : MatchOption l.before Unit (λ b. known (table_of contact_codec l.count l.contacts) b ≡ true);
+  left : strangers (table_of contact_codec l.count l.contacts) (window_rows l.window) ≡ strangers (table_of contact_codec l.count l.contacts) (drop l.i (window_rows l.window));
+}

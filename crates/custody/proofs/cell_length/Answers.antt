@@ -3,10 +3,6 @@ use Rattle.std.proofs.Common.{arith}
 use Rattle.model.specs.Cells.{cell_length}
 use Rattle.custody.proofs.cell_length.Goals as goal
 
-pub returns-then-end-start : goal.returns-then-end-start
-unfolding cell_length
-returns-then-end-start c = (omega arith, omega arith)
-
 pub returns : goal.returns
 unfolding cell_length
 returns c = (omega arith, omega arith)

@@ -1,17 +1,10 @@
-use Rattle.std.proofs.Common.{true, false, sym, refl, ◌∙◌, arith}
-use Rattle.custody.proofs.Windows.{bad_next, bad_end}
+-- `custody::is_bad`: a test of the rows of bytes is the same test of the typed rows. Assumes nothing.
+use Rattle.std.proofs.Common.{refl, rules}
+use Rattle.rows.specs.Rows.{bad_tag_codec, bad_tag_of}
+use Rattle.model.specs.Window.{is_bad}
+use Rattle.custody.proofs.Laws.{any_row}
 use Rattle.custody.proofs.is_bad.Goals as goal
 
-pub loop-i-init : goal.loop-i-init
-loop-i-init c = (omega arith, refl)
-
-pub returns-then-bad_at : goal.returns-then-bad_at
-returns-then-bad_at c =
-    sym (bad_next _ _ _ _ _ c.fit-n.ensures.is c.loop-i.i c.loop-i.invariant.1 true (omega arith) (sym c.bad_at.ensures ∙ c.if-bad_at.true))
-
-pub loop-i-preserved : goal.loop-i-preserved
-loop-i-preserved c =
-    (omega arith, bad_next _ _ _ _ _ c.fit-n.ensures.is c.loop-i.i c.loop-i.invariant.1 false (omega arith) (sym c.bad_at.ensures ∙ c.if-bad_at.false))
-
 pub returns : goal.returns
-returns c = bad_end _ _ _ _ _ c.fit-n.ensures.is c.loop-i.i c.loop-i.invariant.1 (omega arith)
+unfolding is_bad bad_tag_of
+returns c = any_row bad_tag_codec _ _ _ c.fit-n.ensures.is _ _ (λ b. refl) _ (c.any.ensures _ (λ row b h e. search rules))

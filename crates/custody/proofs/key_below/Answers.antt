@@ -1,7 +1,7 @@
--- `custody::key_below`: part by part, the last first. Assumes nothing.
-use Rattle.model.specs.Window.{key_below}
+-- `custody::key_below`: the order of tuples is the model's. Assumes nothing.
+use Rattle.std.proofs.Common.{◌∙◌}
+use Rattle.custody.proofs.Windows.{key_order}
 use Rattle.custody.proofs.key_below.Goals as goal
 
 pub returns : goal.returns
-unfolding key_below
-returns c = cc (c.lower.ensures, c.lower_byte.ensures, c.lower_byte-by_generation.ensures)
+returns c = c.lt.ensures ∙ key_order c.args.a c.args.b

@@ -1,17 +1,17 @@
-use Rattle.std.proofs.Common.{true, false, sym, refl, ◌∙◌, arith}
+use Rattle.std.proofs.Common.{◌≡◌, ℕ, ◌+◌, ◌-◌, true, false, drop, sym, ap, ◌∙◌, arith}
+use Rattle.model.specs.Window.{window_rows, keys_rise}
 use Rattle.custody.proofs.Windows.{rise_next, rise_end}
 use Rattle.custody.proofs.keys_rise.Goals as goal
 
-pub loop-i-init : goal.loop-i-init
-loop-i-init c = (omega arith, refl)
-
 pub returns-then-not-rises : goal.returns-then-not-rises
 returns-then-not-rises c =
-    sym (c.loop-i.invariant.1 ∙ rise_next _ _ c.fit-n.ensures.is c.loop-i.i false (omega arith) (sym c.rises.ensures ∙ c.if-not-rises.true))
+    sym (c.loop-i.invariant ∙ rise_next _ (c.loop-i.i - 1) false (omega arith) (sym c.rises.ensures ∙ c.if-not-rises.true))
 
 pub loop-i-preserved : goal.loop-i-preserved
 loop-i-preserved c =
-    (omega arith, c.loop-i.invariant.1 ∙ rise_next _ _ c.fit-n.ensures.is c.loop-i.i true (omega arith) (sym c.rises.ensures ∙ c.if-not-rises.false))
+    let e : c.loop-i.i - 1 + 1 ≡ c.loop-i.i + 1 - 1 = omega arith in
+    c.loop-i.invariant ∙ rise_next _ (c.loop-i.i - 1) true (omega arith) (sym c.rises.ensures ∙ c.if-not-rises.false)
+    ∙ ap (λ (k : ℕ). keys_rise (drop k (window_rows c.args.window.now))) e
 
 pub returns : goal.returns
-returns c = sym (c.loop-i.invariant.1 ∙ rise_end _ _ c.fit-n.ensures.is c.loop-i.i (omega arith))
+returns c = sym (c.loop-i.invariant ∙ rise_end _ (c.loop-i.i - 1) (omega arith))

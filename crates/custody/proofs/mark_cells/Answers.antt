@@ -1,11 +1,11 @@
-use Rattle.std.proofs.Common.{arith}
+use Rattle.std.proofs.Common.{◌∙◌, arith}
 use Rattle.table.proofs.RowLaws.{row_in}
 use Rattle.custody.proofs.Cells.{mark_none, mark_next, mark_past, mark_end}
 use Rattle.custody.proofs.mark_cells.Goals as goal
-use Rattle.custody.proofs.mark_cells.Goals.{then-cell-lt256, else-cell-lt256}
+use Rattle.custody.proofs.mark_cells.Goals.{then-cell-lt-MAX_CELLS, else-cell-lt-MAX_CELLS}
 
 pub loop-i-init : goal.loop-i-init
-loop-i-init c = (omega arith, mark_none _)
+loop-i-init c = mark_none _
 
 pub overflow_mul-i : goal.overflow_mul-i
 overflow_mul-i c = omega (arith, row_in _ _ c.args.width c.loop-i-test.true)
@@ -13,22 +13,15 @@ overflow_mul-i c = omega (arith, row_in _ _ c.args.width c.loop-i-test.true)
 pub overflow_add-i : goal.overflow_add-i
 overflow_add-i c = omega (arith, row_in _ _ c.args.width c.loop-i-test.true)
 
-pub get_u16-cell-requires : goal.get_u16-cell-requires
-get_u16-cell-requires c = omega (arith, row_in _ _ c.args.width c.loop-i-test.true)
+pub get_u16-requires : goal.get_u16-requires
+get_u16-requires c = omega (arith, row_in _ _ c.args.width c.loop-i-test.true)
 
 pub loop-i-preserved : goal.loop-i-preserved
 loop-i-preserved c =
-    elim c.if-cell-lt256.branch [
-      | then-cell-lt256 w ↦ (
-        omega arith,
-        rw w.marks-is (mark_next _ _ _ _ c.requires.1 c.loop-i.i _ c.loop-i.invariant.1 _ (omega arith) c.get_u16-cell.ensures),
-      )
-      | else-cell-lt256 w ↦ (
-        omega arith,
-        rw w.marks-is (mark_past _ _ _ _ c.requires.1 c.loop-i.i _ c.loop-i.invariant.1 _ (omega arith) c.get_u16-cell.ensures w.if-cell-lt256.false),
-      )
+    elim c.if-cell-lt-MAX_CELLS.branch [
+      | then-cell-lt-MAX_CELLS w ↦ rw w.marks-is (mark_next _ _ _ _ c.requires.1 c.loop-i.i _ c.loop-i.invariant _ (omega arith) (c.from-cell.ensures ∙ c.get_u16.ensures))
+      | else-cell-lt-MAX_CELLS w ↦ rw w.marks-is (mark_past _ _ _ _ c.requires.1 c.loop-i.i _ c.loop-i.invariant _ (omega arith) (c.from-cell.ensures ∙ c.get_u16.ensures) w.if-cell-lt-MAX_CELLS.false)
     ]
 
 pub returns : goal.returns
-returns c =
-    mark_end _ _ _ _ c.requires.1 c.loop-i.i c.loop-i.marks c.loop-i.invariant.1 (omega arith)
+returns c = mark_end _ _ _ _ c.requires.1 c.loop-i.i c.loop-i.marks c.loop-i.invariant (omega arith)

@@ -1,13 +1,23 @@
 -- Bytes are read behind what is kept, and there is room for them where more input is wanted. Assumes nothing.
-use Rattle.std.proofs.Common.{arith, rules}
-use Rattle.drill_turn.proofs.StreamLaws.{fed_read, room_to_read}
-use Rattle.drill.proofs.WrittenLaws.{inside_buffer}
+use Rattle.std.proofs.Common.{true, false, ◌∙◌, sym, rules}
+use denote.Enum.Bare.{differs_false}
+use Rattle.drill_log.specs.contracts.Why.{the_type}
+use Rattle.drill_log.specs.declared.Why.TheVariants as cause
+use Rattle.drill_turn.proofs.StreamLaws.{room_to_read}
+use Rattle.drill.proofs.WrittenLaws.{filled}
 use Rattle.drill.proofs.fill.Goals as goal
 
-pub read_behind-got-requires : goal.read_behind-got-requires
-read_behind-got-requires c = room_to_read c.args.turn _ c.args.input.now _ c.requires c.keep-kept.ensures (search rules) (omega arith)
+pub read_behind-requires : goal.read_behind-requires
+read_behind-requires c =
+    room_to_read c.args.turn _ c.args.input.now _ c.requires c.keep-kept.ensures c.keep-kept.array_long
+    (differs_false the_type tt c.args.turn.why cause.More (sym c.ne.ensures ∙ c.if-ne.false))
 
-pub returns : goal.returns
-returns c =
-    let fed = fed_read c.args.turn c.args.input.now _ _ c.read_behind-got.result.n c.is_some-failed.result c.requires.inside c.keep-kept.ensures c.read_behind-got.ensures.front (search rules) (search rules) (omega arith) c.grow.ensures in
-    record { fed = fed; inside = λ e h. inside_buffer fed.inside (search rules) }
+pub returns-in-Ok : goal.returns-in-Ok
+returns-in-Ok c =
+    filled false c.requires c.keep-kept.ensures c.keep-kept.array_long c.in-Ok.ensures (search rules)
+    (differs_false the_type tt c.args.turn.why cause.More (sym c.ne.ensures ∙ c.if-ne.false)) c.grow.ensures
+
+pub returns-in-Err : goal.returns-in-Err
+returns-in-Err c =
+    filled true c.requires c.keep-kept.ensures c.keep-kept.array_long c.in-Err.ensures (search rules)
+    (differs_false the_type tt c.args.turn.why cause.More (sym c.ne.ensures ∙ c.if-ne.false)) c.grow-in-Err.ensures

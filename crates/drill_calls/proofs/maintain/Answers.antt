@@ -1,12 +1,15 @@
--- `maintain`: by what the call answers. Assumes nothing.
-use Rattle.drill_calls.proofs.AskLaws.{maintenance_asked}
-use Rattle.std.proofs.Common.{rules}
+-- The call is the record's.
+use Rattle.std.proofs.Common.{◌≡◌, ap, length, rules}
+use Rattle.model.specs.Calls as calls
+use Rattle.wire.specs.Log as log
+use Rattle.drill_calls.specs.Asking.{acted_told, tables_in}
+use Rattle.drill_calls.proofs.AskLaws.{asked}
+use Rattle.drill_calls.proofs.DrillLaws.{on_actions}
+use Rattle.drill_calls.proofs.StepLaws.{maintenance_told}
 use Rattle.drill_calls.proofs.maintain.Goals as goal
 
-pub returns-in-Refused : goal.returns-in-Refused
-returns-in-Refused c =
-    maintenance_asked _ _ _ _ _ _ _ _ _ _ _ _ (search rules) c.maintain_couriers-done.ensures c.in-Refused.is c.plain.ensures
-
-pub returns-in-Done : goal.returns-in-Done
-returns-in-Done c =
-    maintenance_asked _ _ _ _ _ _ _ _ _ _ _ _ (search rules) c.maintain_couriers-done.ensures c.in-Done.is c.listed.ensures
+pub returns : goal.returns
+returns c =
+    let k : length c.args.tables.now.actions ≡ 19968 = search rules in
+    asked acted_told log.maintenance (ap calls.maintenance k) (λ s. maintenance_told s _)
+    (on_actions _ (tables_in c.args.device.now c.args.exchange c.args.tables.now) _ c.maintain_couriers.ensures) c.acted.ensures

@@ -1,4 +1,4 @@
-use Rattle.std.proofs.Common.{◌≡◌, ◌-◌, ◌*◌, ◌≤◌, length, take}
+use Rattle.std.proofs.Common.{◌≡◌, ◌*◌, length, take}
 use mathlib.Core.List.{flat_map}
 use Rattle.rows.specs.Rows.{action_codec}
 use Rattle.table.specs.Codec.{table_of}
@@ -10,7 +10,4 @@ use Rattle.drill_lines.proofs.action_lines.Given as goal
 
 abbrev pub invariant-loop-i : goal.invariant-loop-i
 invariant-loop-i l =
-    (l.i ≤ l.n) × ((length l.out ≡ length l.initial.out) × ((a : Areas) → Puts (l.i * 96) l.initial.out l.at (flat_map (action_line (blob_length (view (held_in l.device l.carried l.tombstones l.cells a)))) (take l.i (table_of action_codec l.count l.actions))) l.p l.out))
-
-abbrev pub decreases-loop-i : goal.decreases-loop-i
-decreases-loop-i l = l.n - l.i
+    (length l.out ≡ length l.initial.out) × ((a : Areas) → Puts (l.i * 96) l.initial.out l.at (flat_map (action_line (blob_length (view (held_in l.device l.carried l.tombstones l.cells a)))) (take l.i (table_of action_codec l.count l.actions))) l.p l.out)

@@ -12,4 +12,4 @@ returns-in-Malformed c = puts_as (ap last_line (sym c.in-Malformed.is)) (puts_wi
 
 pub returns-in-Refused : goal.returns-in-Refused
 unfolding refused_line
-returns-in-Refused c = puts_as (ap refused_line c.refusal_number.ensures ∙ ap last_line (sym c.in-Refused.is)) (line3 c.requires c.put_run-p.ensures c.put_spaced-p.ensures c.put_run-in-Refused.ensures (omega arith))
+returns-in-Refused c = puts_as (ap refused_line c.number.ensures ∙ ap last_line (sym c.in-Refused.is)) (line3 c.requires c.put_run-p.ensures c.put_spaced-p.ensures c.put_run-in-Refused.ensures (omega arith))

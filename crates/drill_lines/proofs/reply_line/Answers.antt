@@ -4,8 +4,8 @@ use Rattle.text.proofs.TextLaws.{puts_within, puts_none}
 use Rattle.drill_lines.proofs.LineLaws.{puts_as, line_envelope, line_custody, line_tomb, line_fetch}
 use Rattle.drill_lines.proofs.reply_line.Goals as goal
 
-pub get_16-tag-requires : goal.get_16-tag-requires
-get_16-tag-requires c = omega (arith, (let h : length c.args.row.body ≡ 37 = search rules in h))
+pub get_array-tag-requires : goal.get_array-tag-requires
+get_array-tag-requires c = omega (arith, (let h : length c.args.row.body ≡ 37 = search rules in h))
 
 pub get_u32-requires : goal.get_u32-requires
 get_u32-requires c = omega (arith, (let h : length c.args.row.body ≡ 37 = search rules in h))
@@ -17,13 +17,13 @@ pub get_u8-requires-in-2 : goal.get_u8-requires-in-2
 get_u8-requires-in-2 c = omega (arith, (let h : length c.args.row.body ≡ 37 = search rules in h))
 
 pub returns-in-1 : goal.returns-in-1
-returns-in-1 c = puts_as ((λ i. envelope_line (c.get_16-tag.ensures i) (c.get_u32.ensures i) (c.get_u8.ensures i)) ∙ line_envelope c.args.row c.in-1.is) c.envelope_line.ensures
+returns-in-1 c = puts_as ((λ i. envelope_line (c.get_array-tag.ensures i) (c.get_u32.ensures i) (c.get_u8.ensures i)) ∙ line_envelope c.args.row c.in-1.is) c.envelope_line.ensures
 
 pub returns-in-2 : goal.returns-in-2
-returns-in-2 c = puts_as ((λ i. custody_line (c.get_16-tag.ensures i) (c.get_u8-in-2.ensures i)) ∙ line_custody c.args.row c.in-2.is) c.custody_line.ensures
+returns-in-2 c = puts_as ((λ i. custody_line (c.get_array-tag.ensures i) (c.get_u8-in-2.ensures i)) ∙ line_custody c.args.row c.in-2.is) c.custody_line.ensures
 
 pub returns-in-3 : goal.returns-in-3
-returns-in-3 c = puts_as (ap tomb_line c.get_16-tag.ensures ∙ line_tomb c.args.row c.in-3.is) c.tomb_line.ensures
+returns-in-3 c = puts_as (ap tomb_line c.get_array-tag.ensures ∙ line_tomb c.args.row c.in-3.is) c.tomb_line.ensures
 
 pub returns-in_default : goal.returns-in_default
 returns-in_default c = puts_as (line_fetch c.args.row (search rules) (search rules) (search rules)) (puts_within (omega arith) (puts_none _ _))

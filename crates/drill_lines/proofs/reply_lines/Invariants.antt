@@ -1,4 +1,4 @@
-use Rattle.std.proofs.Common.{◌≡◌, ◌-◌, ◌*◌, ◌≤◌, length, take}
+use Rattle.std.proofs.Common.{◌≡◌, ◌*◌, length, take}
 use mathlib.Core.List.{flat_map}
 use Rattle.rows.specs.Rows.{reply_codec}
 use Rattle.table.specs.Codec.{table_of}
@@ -8,7 +8,4 @@ use Rattle.drill_lines.proofs.reply_lines.Given as goal
 
 abbrev pub invariant-loop-i : goal.invariant-loop-i
 invariant-loop-i l =
-    (l.i ≤ l.n) × ((length l.out ≡ length l.initial.out) × Puts (l.i * 96) l.initial.out l.at (flat_map reply_line (take l.i (table_of reply_codec l.count l.replies))) l.p l.out)
-
-abbrev pub decreases-loop-i : goal.decreases-loop-i
-decreases-loop-i l = l.n - l.i
+    (length l.out ≡ length l.initial.out) × Puts (l.i * 96) l.initial.out l.at (flat_map reply_line (take l.i (table_of reply_codec l.count l.replies))) l.p l.out

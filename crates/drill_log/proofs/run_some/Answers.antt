@@ -1,5 +1,5 @@
-use Rattle.std.proofs.Common.{arith, rules}
-use Rattle.drill_log.proofs.RunLaws.{whole_in, more_in, room_for, run_start, run_full, record_on, record_stop, record_wrong, record_more}
+use Rattle.std.proofs.Common.{ap, arith, rules}
+use Rattle.drill_log.proofs.RunLaws.{rank, whole_in, more_in, room_for, run_start, run_full, record_on, record_stop, record_wrong, record_more}
 use Rattle.drill_log.proofs.run_some.Goals as goal
 
 pub loop-put-init : goal.loop-put-init
@@ -36,7 +36,7 @@ returns-then-done c =
         low = c.loop-put.invariant.low;
         high = c.loop-put.invariant.high;
         room = omega (arith, c.loop-put-test.true, c.perform-done.ensures.within.high);
-        short = λ w. absurd (omega arith);
+        short = λ w. absurd (omega (arith, ap rank w));
       };
       ran = λ g.
           record_stop c.args.input.now c.loop-put.at c.args.end c.loop-put.invariant.high c.requires.1 c.head_at.ensures c.in-Whole.is
@@ -80,7 +80,7 @@ returns-in-Wrong c =
         low = c.loop-put.invariant.low;
         high = c.loop-put.invariant.high;
         room = omega (arith, c.loop-put-test.true, c.last_line-p.ensures.next, c.last_line-p.ensures.near);
-        short = λ w. absurd (omega arith);
+        short = λ w. absurd (omega (arith, ap rank w));
       };
       ran = λ g. record_wrong c.args.input.now c.loop-put.at c.args.end c.loop-put.invariant.high c.requires.1 c.head_at.ensures c.in-Wrong.is (room_for _ _ (search rules) c.loop-put-test.true) c.last_line-p.ensures (c.loop-put.invariant.so_far g);
     }
@@ -88,6 +88,6 @@ returns-in-Wrong c =
 pub returns : goal.returns
 returns c =
     record {
-      ended = record { low = c.loop-put.invariant.low; high = c.loop-put.invariant.high; room = c.loop-put.invariant.room; short = λ w. absurd (omega arith) };
+      ended = record { low = c.loop-put.invariant.low; high = c.loop-put.invariant.high; room = c.loop-put.invariant.room; short = λ w. absurd (omega (arith, ap rank w)) };
       ran = λ g. run_full (c.loop-put.invariant.so_far g);
     }

@@ -4,4 +4,4 @@ use Rattle.drill_lines.specs.Lines.{stops_at}
 use Rattle.drill_log.proofs.stops.Goals as goal
 
 pub returns-in-Refused : goal.returns-in-Refused
-returns-in-Refused c = ap (λ (n : ℕ). eqb n 13) c.refusal_number.ensures ∙ ap stops_at (sym c.in-Refused.is)
+returns-in-Refused c = ap (λ (n : ℕ). eqb n 13) c.number.ensures ∙ ap stops_at (sym c.in-Refused.is)

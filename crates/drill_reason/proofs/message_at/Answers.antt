@@ -1,12 +1,11 @@
 -- The place, what it is, and the words of the reason. Assumes nothing.
-use mathlib.Core.Path.{sym}
-use native.Mathlib.Omega.{arith}
-use Rattle.drill_reason.specs.Message.{message_of}
+use Rattle.std.proofs.Common.{ap, ◌∙◌, arith}
+use Rattle.drill_reason.specs.Message.{words_of, message_of}
 use Rattle.drill_reason.proofs.MessageLaws.{words_put, texts3}
 use Rattle.drill_reason.proofs.message_at.Goals as goal
 
 pub returns : goal.returns
 unfolding message_of
 returns c =
-    texts3 c.put_place-p.ensures c.put_run-p.ensures
-    (words_put _ (sym c.reason_at-reason.ensures) (omega arith) c.put_words.ensures) (omega arith) c.requires.longest_message_in_bounds
+    texts3 c.put_place-p.ensures c.put_run-p.ensures (words_put _ (c.words.ensures ∙ ap words_of c.reason_at-reason.ensures) c.put_run.ensures) (omega arith)
+    c.requires.longest_message_in_bounds

@@ -1,10 +1,11 @@
 -- The turn with what is kept at the front. Assumes nothing.
 use Rattle.std.proofs.Common.{◌-◌, ap, ◌∙◌}
+use Rattle.drill_log.specs.declared.Why.TheVariants as cause
 use Rattle.drill_turn.specs.Stream.{with_input}
 use Rattle.drill_turn.proofs.keep.Goals as goal
 
 pub returns : goal.returns
 returns c = record {
-  turn = c.with_input.ensures ∙ ap (with_input c.args.turn 0 (c.args.turn.have - c.args.turn.from) 0) c.further-bytes.ensures;
+  turn = c.with_input.ensures ∙ ap (with_input c.args.turn 0 (c.args.turn.have - c.args.turn.from) cause.More) c.further-bytes.ensures;
   bytes = c.to_front.ensures;
 }

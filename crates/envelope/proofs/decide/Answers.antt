@@ -1,6 +1,5 @@
 -- `decide`: the first test that holds, then the window, then the code. Assumes nothing.
-use Rattle.std.proofs.Common.{true, false, sym, refl, ◌∙◌}
-use Rattle.table.specs.declared.Found.TheVariants.{At, Nothing}
+use Rattle.std.proofs.Common.{true, false, sym, refl, ◌∙◌, Some, None}
 use Rattle.envelope.proofs.ChoiceLaws.{tell}
 use Rattle.envelope.proofs.decide.Goals as goal
 
@@ -16,12 +15,12 @@ returns-then-unknown c = λ a L.
     tell L _ _ _ _ _ _ false false true _ _ (sym c.too_short.ensures ∙ c.if-too_short.false) (sym c.wrong_window.ensures ∙ c.if-wrong_window.false)
     (sym c.unknown.ensures ∙ c.if-unknown.true) refl refl
 
-pub returns-in-At : goal.returns-in-At
-returns-in-At c = λ a L.
-    tell L _ _ _ _ _ _ false false false (At _) _ (sym c.too_short.ensures ∙ c.if-too_short.false) (sym c.wrong_window.ensures ∙ c.if-wrong_window.false)
-    (sym c.unknown.ensures ∙ c.if-unknown.false) (sym c.lookup.ensures ∙ c.in-At.is) refl
+pub returns-in-Some : goal.returns-in-Some
+returns-in-Some c = λ a L.
+    tell L _ _ _ _ _ _ false false false (Some _) _ (sym c.too_short.ensures ∙ c.if-too_short.false) (sym c.wrong_window.ensures ∙ c.if-wrong_window.false)
+    (sym c.unknown.ensures ∙ c.if-unknown.false) (sym c.lookup.ensures ∙ c.in-Some.is) refl
 
-pub returns-in-Nothing : goal.returns-in-Nothing
-returns-in-Nothing c = λ a L.
-    tell L _ _ _ _ _ _ false false false Nothing _ (sym c.too_short.ensures ∙ c.if-too_short.false) (sym c.wrong_window.ensures ∙ c.if-wrong_window.false)
-    (sym c.unknown.ensures ∙ c.if-unknown.false) (sym c.lookup.ensures ∙ c.in-Nothing.is) (sym (c.custody_choice.ensures a L))
+pub returns-in-None : goal.returns-in-None
+returns-in-None c = λ a L.
+    tell L _ _ _ _ _ _ false false false None _ (sym c.too_short.ensures ∙ c.if-too_short.false) (sym c.wrong_window.ensures ∙ c.if-wrong_window.false)
+    (sym c.unknown.ensures ∙ c.if-unknown.false) (sym c.lookup.ensures ∙ c.in-None.is) (sym (c.custody_choice.ensures a L))

@@ -4,4 +4,4 @@ use Rattle.envelope.specs.Answers.{ours_of}
 use Rattle.envelope.proofs.ours_at.Goals as goal
 
 pub returns : goal.returns
-returns c = ap ours_of c.reachable_at-row.ensures
+returns c = ap ours_of c.read-row.ensures

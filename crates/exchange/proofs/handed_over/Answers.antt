@@ -3,4 +3,4 @@ use Rattle.exchange.proofs.LeaveLaws.{code_lends}
 use Rattle.exchange.proofs.handed_over.Goals as goal
 
 pub returns : goal.returns
-returns c = code_lends _ _ _ _ _ _ _ _ _ _ _ _ _ _ _ _ _ _ _ _ c.settle_code-r.ensures
+returns c = code_lends _ _ _ _ _ _ _ _ _ _ _ _ _ _ _ _ _ _ _ _ c.handed_over-r.ensures

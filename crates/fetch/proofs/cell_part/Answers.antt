@@ -1,10 +1,12 @@
--- A cell past the area's end, or past those that count, has no ciphertext; otherwise the part is as long as the least of its lengths.
-use Rattle.fetch.proofs.Laws.{part_inside, part_outside}
-use Rattle.std.proofs.Common.{rules}
+-- The part starts inside the area, and is as long as the least of its lengths.
+use Rattle.std.proofs.Common.{arith}
+use Rattle.model.specs.Cells.{cell_length}
+use Rattle.fetch.proofs.Laws.{part_lent}
 use Rattle.fetch.proofs.cell_part.Goals as goal
 
-pub returns-then-end-at : goal.returns-then-end-at
-returns-then-end-at c = part_outside _ _ _ c.least-end.ensures (search rules)
+pub slice_bounds-result-end : goal.slice_bounds-result-end
+unfolding cell_length
+slice_bounds-result-end c = omega arith
 
 pub returns : goal.returns
-returns c = part_inside _ _ _ c.least-end.ensures (search rules) c.least.ensures c.least-n.ensures
+returns c = part_lent _ _ _ c.min-at.ensures c.cell_length-n.ensures.0

@@ -12,31 +12,31 @@ returns-then-not-known c a =
 
 pub overflow_mul-i : goal.overflow_mul-i
 overflow_mul-i c =
-    omega (arith, own_row _ _ _ _ (sym c.in-At.is ∙ c.own_for_others.ensures))
+    omega (arith, own_row _ _ _ _ (sym c.in-Some.is ∙ c.own_for_others.ensures))
 
 pub give_own-requires : goal.give_own-requires
 give_own-requires c =
-    (omega (arith, own_row _ _ _ _ (sym c.in-At.is ∙ c.own_for_others.ensures)), omega arith)
+    (omega (arith, own_row _ _ _ _ (sym c.in-Some.is ∙ c.own_for_others.ensures)), omega arith)
 
-pub overflow_mul-i-in-At-carried_of_tag : goal.overflow_mul-i-in-At-carried_of_tag
-overflow_mul-i-in-At-carried_of_tag c =
-    omega (arith, carried_row_lem _ _ _ (sym c.in-At-carried_of_tag.is ∙ c.carried_of_tag.ensures))
+pub overflow_mul-at : goal.overflow_mul-at
+overflow_mul-at c =
+    omega (arith, carried_row_lem _ _ _ (sym c.in-Some-carried_of_tag.is ∙ c.carried_of_tag.ensures))
 
 pub give_carried-requires : goal.give_carried-requires
 give_carried-requires c =
-    (omega (arith, carried_row_lem _ _ _ (sym c.in-At-carried_of_tag.is ∙ c.carried_of_tag.ensures)), omega arith)
+    (omega (arith, carried_row_lem _ _ _ (sym c.in-Some-carried_of_tag.is ∙ c.carried_of_tag.ensures)), omega arith)
 
-pub returns-in-At : goal.returns-in-At
-returns-in-At c a =
+pub returns-in-Some : goal.returns-in-Some
+returns-in-Some c a =
     says_own _ _ _ _ _ _ _ _ _ a c.if-replies-lt61440.false (sym c.known.ensures ∙ c.if-not-known.false) _ _ _
-    (sym c.in-At.is ∙ c.own_for_others.ensures) c.give_own.ensures
+    (sym c.in-Some.is ∙ c.own_for_others.ensures) c.give_own.ensures
 
-pub returns-in-At-carried_of_tag : goal.returns-in-At-carried_of_tag
-returns-in-At-carried_of_tag c a =
+pub returns-in-Some-carried_of_tag : goal.returns-in-Some-carried_of_tag
+returns-in-Some-carried_of_tag c a =
     says_carried _ _ _ _ _ _ _ _ _ a c.if-replies-lt61440.false (sym c.known.ensures ∙ c.if-not-known.false) _ _ _
-    (sym c.in-Nothing.is ∙ c.own_for_others.ensures) (sym c.in-At-carried_of_tag.is ∙ c.carried_of_tag.ensures) c.give_carried.ensures
+    (sym c.in-None.is ∙ c.own_for_others.ensures) (sym c.in-Some-carried_of_tag.is ∙ c.carried_of_tag.ensures) c.give_carried.ensures
 
-pub returns-in-Nothing-carried_of_tag : goal.returns-in-Nothing-carried_of_tag
-returns-in-Nothing-carried_of_tag c a =
+pub returns-in-None-carried_of_tag : goal.returns-in-None-carried_of_tag
+returns-in-None-carried_of_tag c a =
     says_nothing _ _ _ _ _ _ _ _ _ a c.if-replies-lt61440.false (sym c.known.ensures ∙ c.if-not-known.false)
-    (sym c.in-Nothing.is ∙ c.own_for_others.ensures) (sym c.in-Nothing-carried_of_tag.is ∙ c.carried_of_tag.ensures)
+    (sym c.in-None.is ∙ c.own_for_others.ensures) (sym c.in-None-carried_of_tag.is ∙ c.carried_of_tag.ensures)

@@ -1,17 +1,17 @@
-use Rattle.std.proofs.Common.{true, false, sym, refl, ◌∙◌, arith}
-use Rattle.fetch.proofs.Laws.{others_next, others_end}
+-- A row's contact and tag are its bytes at 0 and 12, so that the search of bytes is the search of rows.
+use Rattle.std.proofs.Common.{◌≡◌, List, ℕ, not, ◌&&◌, eqb, refl, ap, ◌∙◌, rules}
+use Rattle.octets.specs.Bytes.{part, num, same_bytes}
+use Rattle.octets.proofs.Parts.{part_whole}
+use Rattle.table.proofs.TableLaws.{table_find}
+use Rattle.rows.specs.Rows.{own_codec, own_of}
+use Rattle.fetch.specs.Fetch.{for_others}
 use Rattle.fetch.proofs.own_for_others.Goals as goal
 
-pub loop-i-init : goal.loop-i-init
-loop-i-init c = (omega arith, refl)
-
-pub returns-then-is_for_others : goal.returns-then-is_for_others
-returns-then-is_for_others c =
-    sym (c.loop-i.invariant.1 ∙ others_next _ _ _ _ _ c.fit-n.ensures.is c.loop-i.i true (omega arith) (sym c.is_for_others.ensures ∙ c.if-is_for_others.true))
-
-pub loop-i-preserved : goal.loop-i-preserved
-loop-i-preserved c =
-    (omega arith, c.loop-i.invariant.1 ∙ others_next _ _ _ _ _ c.fit-n.ensures.is c.loop-i.i false (omega arith) (sym c.is_for_others.ensures ∙ c.if-is_for_others.false))
-
 pub returns : goal.returns
-returns c = sym (c.loop-i.invariant.1 ∙ others_end _ _ _ _ _ c.fit-n.ensures.is c.loop-i.i (omega arith))
+unfolding own_of
+returns c =
+    table_find own_codec _ _ _ c.fit-n.ensures.is _ (for_others c.args.peer c.args.tag) (λ b. refl) _
+    (c.position.ensures (λ b. for_others c.args.peer c.args.tag (own_of b)) (λ row b h e.
+    let other = not (eqb (num (part row.now 0 8)) c.args.peer.0) in
+    let s : b ≡ (other && same_bytes (part row.now 12 16) (part c.args.tag 0 16)) = search rules in
+    s ∙ ap (λ (t : List ℕ). other && same_bytes (part row.now 12 16) t) (part_whole c.args.tag 16 (search rules))))

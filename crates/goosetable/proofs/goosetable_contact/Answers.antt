@@ -1,7 +1,6 @@
 -- The byte is read, and then by the law of small areas, from the call by value.
-use Rattle.std.proofs.Common.{sym, refl, ap, ◌∙◌}
-use Rattle.boundary.specs.Boundary.{verification_read}
-use Rattle.host_answers.specs.HostAnswers.{contact_answer}
+use Rattle.std.proofs.Common.{sym, refl, ◌∙◌}
+use Rattle.host_answers.specs.HostAnswers.{done_answer}
 use Rattle.goosetable.specs.Hosts.{reads, unread}
 use Rattle.goosetable.proofs.StayLaws.{only_answers}
 use Rattle.goosetable.proofs.TellLaws.{contact_tells}
@@ -11,9 +10,9 @@ use Rattle.goosetable.proofs.goosetable_contact.Goals as goal
 
 pub returns-in_default : goal.returns-in_default
 returns-in_default c =
-    unread (sym c.verification_of.ensures ∙ ap verification_read c.in_default.is) (record { answer = c.answer_of.ensures; areas = refl })
+    unread (sym c.from_byte.ensures ∙ c.in_default.is) (record { answer = c.answer_of.ensures; areas = refl })
 
 pub returns : goal.returns
 returns c =
-    reads _ (sym c.verification_of.ensures ∙ ap verification_read c.in-Is.is)
-    (hosts_device contact_answer contact_tells (only_answers _) (λ s. refl) (contact_counted _ _) c.contact_answer.ensures (λ s a. refl, λ s a. refl) c.device_of.ensures c.put_device.ensures c.contact-a.ensures)
+    reads _ (sym c.from_byte.ensures ∙ c.in-Some.is)
+    (hosts_device done_answer contact_tells (only_answers _) (λ s. refl) (contact_counted _ _) c.done_answer.ensures (λ s a. refl, λ s a. refl) c.device_of-d.ensures c.put_device.ensures c.contact-said.ensures)

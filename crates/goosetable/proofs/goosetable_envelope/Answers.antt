@@ -9,4 +9,4 @@ use Rattle.goosetable.proofs.goosetable_envelope.Goals as goal
 
 pub returns : goal.returns
 returns c =
-    hosts_device envelope_answer envelope_tells (only_answers _) (λ s. refl) (envelope_counted _ _ _ _ _ _) c.envelope_answer.ensures (λ s a. refl, λ s a. refl) c.device_of.ensures c.put_device.ensures c.envelope-e.ensures
+    hosts_device envelope_answer envelope_tells (only_answers _) (λ s. refl) (envelope_counted _ _ _ _ _ _) c.envelope_answer.ensures (λ s a. refl, λ s a. refl) c.device_of-d.ensures c.put_device.ensures c.envelope-said.ensures

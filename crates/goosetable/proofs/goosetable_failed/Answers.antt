@@ -9,4 +9,4 @@ use Rattle.goosetable.proofs.goosetable_failed.Goals as goal
 
 pub returns : goal.returns
 returns c =
-    hosts_device (tomb_answer 0) tomb_tells (only_answers _) (failed_counts _ _) (failed_counted _ _) c.tomb_answer.ensures (λ s a. refl, λ s a. refl) c.device_of-d.ensures c.put_device.ensures c.report_failed-o.ensures
+    hosts_device (tomb_answer 0) tomb_tells (only_answers _) (failed_counts _ _) (failed_counted _ _) c.tomb_answer.ensures (λ s a. refl, λ s a. refl) c.device_of-d.ensures c.put_device.ensures c.report_failed-said.ensures

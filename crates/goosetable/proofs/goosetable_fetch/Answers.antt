@@ -9,4 +9,4 @@ use Rattle.goosetable.proofs.goosetable_fetch.Goals as goal
 
 pub returns : goal.returns
 returns c =
-    hosts_read (fetched_answer 1) (fetch_tells _ _) (only_answers _) (fetch_counts _ _ _ _ _) (fetch_counted _ _ _ _ _) c.fetch_answer.ensures (λ s a. refl, λ s a. refl) c.device_of.ensures c.fetch-ciphertext.ensures
+    hosts_read (fetched_answer 1) (fetch_tells _ _) (only_answers _) (fetch_counts _ _ _ _ _) (fetch_counted _ _ _ _ _) c.fetch_answer.ensures (λ s a. refl, λ s a. refl) c.device_of.ensures c.fetch-fetched.ensures

@@ -9,4 +9,4 @@ use Rattle.goosetable.proofs.goosetable_inventory.Goals as goal
 
 pub returns : goal.returns
 returns c =
-    hosts_exchange inventory_answer inventory_tells (only_answers _) (λ s. refl) (inventory_counted _ _ _ _) c.inventory_answer.ensures (λ s a. refl, λ s a. refl) c.device_of.ensures c.exchange_of.ensures c.put_exchange.ensures c.receive_inventory-r.ensures
+    hosts_exchange inventory_answer inventory_tells (only_answers _) (λ s. refl) (inventory_counted _ _ _ _) c.inventory_answer.ensures (λ s a. refl, λ s a. refl) c.device_of-d.ensures c.exchange_of-e.ensures c.put_exchange.ensures c.receive_inventory-said.ensures.does

@@ -1,6 +1,6 @@
 -- By the law of small areas, from the call by value.
 use Rattle.std.proofs.Common.{refl}
-use Rattle.host_answers.specs.HostAnswers.{listed_answer}
+use Rattle.host_answers.specs.HostAnswers.{wrote_answer}
 use Rattle.goosetable.proofs.StayLaws.{only_answers}
 use Rattle.goosetable.proofs.TellLaws.{listed_tells}
 use Rattle.goosetable.proofs.CountLaws.{listed_counted}
@@ -9,4 +9,4 @@ use Rattle.goosetable.proofs.goosetable_inventory_of_ours.Goals as goal
 
 pub returns : goal.returns
 returns c =
-    hosts_read listed_answer listed_tells (only_answers _) (λ s. refl) (listed_counted _ _) c.listed_answer.ensures (λ s a. refl, λ s a. refl) c.device_of-d.ensures c.inventory.ensures
+    hosts_read wrote_answer listed_tells (only_answers _) (λ s. refl) (listed_counted _ _) c.wrote_answer.ensures (λ s a. refl, λ s a. refl) c.device_of-d.ensures c.inventory.ensures

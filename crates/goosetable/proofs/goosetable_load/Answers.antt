@@ -1,6 +1,6 @@
 -- By the law of small areas, from the call by value.
 use Rattle.std.proofs.Common.{refl}
-use Rattle.host_answers.specs.HostAnswers.{load_answer}
+use Rattle.host_answers.specs.HostAnswers.{done_answer}
 use Rattle.goosetable.proofs.StayLaws.{load_answers}
 use Rattle.goosetable.proofs.TellLaws.{load_tells}
 use Rattle.goosetable.proofs.CountLaws.{load_counted}
@@ -9,4 +9,4 @@ use Rattle.goosetable.proofs.goosetable_load.Goals as goal
 
 pub returns : goal.returns
 returns c =
-    hosts_device load_answer load_tells (load_answers _) (λ s. refl) (load_counted _) c.load_answer.ensures (λ s a. refl, λ s a. refl) c.device_of-d.ensures c.put_device.ensures c.load-o.ensures
+    hosts_device done_answer load_tells (load_answers _) (λ s. refl) (load_counted _) c.done_answer.ensures (λ s a. refl, λ s a. refl) c.device_of-d.ensures c.put_device.ensures c.load-said.ensures

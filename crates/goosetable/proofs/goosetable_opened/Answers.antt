@@ -9,4 +9,4 @@ use Rattle.goosetable.proofs.goosetable_opened.Goals as goal
 
 pub returns : goal.returns
 returns c =
-    hosts_device (tomb_answer 1) tomb_tells (only_answers _) (opened_counts _ _ _ _ _ _) (opened_counted _ _ _ _ _ _) c.tomb_answer.ensures (λ s a. refl, λ s a. refl) c.device_of.ensures c.put_device.ensures c.report_opened-o.ensures
+    hosts_device (tomb_answer 1) tomb_tells (only_answers _) (opened_counts _ _ _ _ _ _) (opened_counted _ _ _ _ _ _) c.tomb_answer.ensures (λ s a. refl, λ s a. refl) c.device_of-d.ensures c.put_device.ensures c.report_opened-said.ensures

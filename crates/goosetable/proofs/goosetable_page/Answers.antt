@@ -1,6 +1,6 @@
 -- By the law of small areas, from the call by value.
 use Rattle.std.proofs.Common.{refl}
-use Rattle.host_answers.specs.HostAnswers.{page_answer}
+use Rattle.host_answers.specs.HostAnswers.{wrote_answer}
 use Rattle.goosetable.proofs.StayLaws.{only_answers}
 use Rattle.goosetable.proofs.TellLaws.{page_tells}
 use Rattle.goosetable.proofs.CountLaws.{page_counted}
@@ -9,4 +9,4 @@ use Rattle.goosetable.proofs.goosetable_page.Goals as goal
 
 pub returns : goal.returns
 returns c =
-    hosts_read page_answer page_tells (only_answers _) (λ s. refl) (page_counted _ _) c.page_answer.ensures (λ s a. refl, λ s a. refl) c.device_of-d.ensures c.page.ensures
+    hosts_read wrote_answer page_tells (only_answers _) (λ s. refl) (page_counted _ _) c.wrote_answer.ensures (λ s a. refl, λ s a. refl) c.device_of-d.ensures c.page.ensures

@@ -1,6 +1,6 @@
 -- By the law of small areas, from the call by value.
 use Rattle.std.proofs.Common.{refl}
-use Rattle.host_answers.specs.HostAnswers.{save_answer}
+use Rattle.host_answers.specs.HostAnswers.{wrote_answer}
 use Rattle.goosetable.proofs.StayLaws.{only_answers}
 use Rattle.goosetable.proofs.TellLaws.{save_tells}
 use Rattle.goosetable.proofs.CountLaws.{save_counted}
@@ -9,4 +9,4 @@ use Rattle.goosetable.proofs.goosetable_save.Goals as goal
 
 pub returns : goal.returns
 returns c =
-    hosts_read save_answer save_tells (only_answers _) (λ s. refl) (save_counted _) c.save_answer.ensures (λ s a. refl, λ s a. refl) c.device_of-d.ensures c.save.ensures
+    hosts_read wrote_answer save_tells (only_answers _) (λ s. refl) (save_counted _) c.wrote_answer.ensures (λ s a. refl, λ s a. refl) c.device_of-d.ensures c.save.ensures

@@ -1,6 +1,6 @@
 -- The byte is read, and then by the law of small areas, from the call by value.
 use Rattle.std.proofs.Common.{refl, arith}
-use Rattle.host_answers.specs.HostAnswers.{contact_answer}
+use Rattle.host_answers.specs.HostAnswers.{done_answer}
 use Rattle.goosetable.specs.Hosts.{reads, unread}
 use Rattle.goosetable.proofs.StayLaws.{only_answers}
 use Rattle.goosetable.proofs.TellLaws.{contact_tells}
@@ -14,4 +14,4 @@ returns-then-enabled-gt1 c = unread (enabled_wrong _ c.if-enabled-gt1.true) (rec
 pub returns : goal.returns
 returns c =
     reads _ (enabled_right _ (omega (arith, c.if-enabled-gt1.false)))
-    (hosts_device contact_answer contact_tells (only_answers _) (λ s. refl) (setting_counted _ _ _) c.contact_answer.ensures (λ s a. refl, λ s a. refl) c.device_of.ensures c.put_device.ensures c.setting-a.ensures)
+    (hosts_device done_answer contact_tells (only_answers _) (λ s. refl) (setting_counted _ _ _) c.done_answer.ensures (λ s a. refl, λ s a. refl) c.device_of-d.ensures c.put_device.ensures c.setting-said.ensures)

@@ -9,4 +9,4 @@ use Rattle.goosetable.proofs.goosetable_tomb.Goals as goal
 
 pub returns : goal.returns
 returns c =
-    hosts_device (tomb_answer 0) tomb_tells (only_answers _) (tomb_counts _ _ _ _) (tomb_counted _ _ _ _) c.tomb_answer.ensures (λ s a. refl, λ s a. refl) c.device_of.ensures c.put_device.ensures c.receive_tomb-o.ensures
+    hosts_device (tomb_answer 0) tomb_tells (only_answers _) (tomb_counts _ _ _ _) (tomb_counted _ _ _ _) c.tomb_answer.ensures (λ s a. refl, λ s a. refl) c.device_of-d.ensures c.put_device.ensures c.receive_tomb-said.ensures

@@ -1,9 +1,9 @@
 -- The tests in order, and then one match on the offer.
-use Rattle.std.proofs.Common.{min, length, sym, ◌∙◌}
+use Rattle.std.proofs.Common.{min, length, refl, sym, ◌∙◌}
 use Rattle.rows.specs.Rows.{offer_codec}
 use Rattle.model.specs.Exchange.{offer_of_tag, no_offer}
 use Rattle.tombs.proofs.MeetLaws.{found_inside}
-use Rattle.handover.proofs.CallLaws.{action_room, code_short, code_stranger, code_other, code_settled, code_unknown}
+use Rattle.handover.proofs.CallLaws.{other_peer, action_room, code_short, code_stranger, code_other, code_settled, code_unknown}
 use Rattle.handover.proofs.handed_over.Goals as goal
 
 pub returns-then-too_short : goal.returns-then-too_short
@@ -13,18 +13,18 @@ pub returns-then-not-known : goal.returns-then-not-known
 returns-then-not-known c a =
     code_stranger _ _ _ _ _ _ _ _ _ _ _ _ a (sym c.too_short.ensures ∙ c.if-too_short.false) (sym c.known.ensures ∙ c.if-not-known.true)
 
-pub returns-then-not-is_for : goal.returns-then-not-is_for
-returns-then-not-is_for c a =
-    code_other _ _ _ _ _ _ _ _ _ _ _ _ a (sym c.too_short.ensures ∙ c.if-too_short.false) (sym c.known.ensures ∙ c.if-not-known.false) (sym c.is_for.ensures ∙ c.if-not-is_for.true)
+pub returns-then-ne : goal.returns-then-ne
+returns-then-ne c a =
+    code_other _ _ _ _ _ _ _ _ _ _ _ _ a (sym c.too_short.ensures ∙ c.if-too_short.false) (sym c.known.ensures ∙ c.if-not-known.false) (other_peer _ _ (λ p. refl) c.args.exchange.peer c.ne.ensures c.if-ne.true)
 
 pub settle-requires : goal.settle-requires
 settle-requires c =
-    (found_inside offer_codec (min 512 c.args.exchange.offered) c.args.offers.now (offer_of_tag c.args.tag) no_offer (sym c.in-At.is ∙ c.offer_of_tag.ensures), action_room (length c.args.prefixes.now) (length c.args.offers.now) (length c.args.actions.now) (length c.args.tombstones.now) c.too_short.ensures c.if-too_short.false)
+    (found_inside offer_codec (min 512 c.args.exchange.offered) c.args.offers.now (offer_of_tag c.args.tag) no_offer (sym c.in-Some.is ∙ c.offer_of_tag.ensures), action_room (length c.args.prefixes.now) (length c.args.offers.now) (length c.args.actions.now) (length c.args.tombstones.now) c.too_short.ensures c.if-too_short.false)
 
-pub returns-in-At : goal.returns-in-At
-returns-in-At c a =
-    code_settled _ _ _ _ _ _ _ _ _ _ _ _ a (sym c.too_short.ensures ∙ c.if-too_short.false) (sym c.known.ensures ∙ c.if-not-known.false) (sym c.is_for.ensures ∙ c.if-not-is_for.false) c.offer_of_tag.ensures c.in-At.is c.settle.ensures
+pub returns-in-Some : goal.returns-in-Some
+returns-in-Some c a =
+    code_settled _ _ _ _ _ _ _ _ _ _ _ _ a (sym c.too_short.ensures ∙ c.if-too_short.false) (sym c.known.ensures ∙ c.if-not-known.false) (other_peer _ _ (λ p. refl) c.args.exchange.peer c.ne.ensures c.if-ne.false) c.offer_of_tag.ensures c.in-Some.is c.settle.ensures
 
-pub returns-in-Nothing : goal.returns-in-Nothing
-returns-in-Nothing c a =
-    code_unknown _ _ _ _ _ _ _ _ _ _ _ _ a (sym c.too_short.ensures ∙ c.if-too_short.false) (sym c.known.ensures ∙ c.if-not-known.false) (sym c.is_for.ensures ∙ c.if-not-is_for.false) c.offer_of_tag.ensures c.in-Nothing.is
+pub returns-in-None : goal.returns-in-None
+returns-in-None c a =
+    code_unknown _ _ _ _ _ _ _ _ _ _ _ _ a (sym c.too_short.ensures ∙ c.if-too_short.false) (sym c.known.ensures ∙ c.if-not-known.false) (other_peer _ _ (λ p. refl) c.args.exchange.peer c.ne.ensures c.if-ne.false) c.offer_of_tag.ensures c.in-None.is

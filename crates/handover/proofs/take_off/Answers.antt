@@ -1,5 +1,5 @@
--- The row that is read is the one at i, and the lowered one goes in its place.
-use Rattle.std.proofs.Common.{length, arith}
+-- The row that is read is the one at i, and the one with fewer copies goes in its place.
+use Rattle.std.proofs.Common.{ℕ, length, ap, arith}
 use Rattle.rows.specs.Rows.{carried_codec}
 use Rattle.model.specs.Exchange.{no_carried, lowered}
 use Rattle.tombs.proofs.MeetLaws.{row_within}
@@ -11,10 +11,12 @@ pub overflow_mul-i : goal.overflow_mul-i
 overflow_mul-i c =
     omega (arith, row_within (length c.args.carried.now) 57 c.args.count c.args.i c.requires.0)
 
-pub carried_at-row-requires : goal.carried_at-row-requires
-carried_at-row-requires c =
+pub read-row-requires : goal.read-row-requires
+read-row-requires c =
     row_within (length c.args.carried.now) 57 c.args.count c.args.i c.requires.0
 
 pub returns : goal.returns
+unfolding lowered
 returns c =
-    takes_off carried_codec no_carried (lowered c.args.n) put_of _ _ _ _ _ _ _ c.requires.0 c.carried_at-row.ensures c.lowered.ensures c.put_courier.ensures c.replace_carried.ensures
+    takes_off carried_codec no_carried (lowered c.args.n) put_of _ _ _ _ _ _ _ c.requires.0 c.read-row.ensures
+    (ap (λ (k : ℕ). record c.read-row.result { copies = k }) c.saturating_sub.ensures) c.put_courier.ensures c.replace.ensures

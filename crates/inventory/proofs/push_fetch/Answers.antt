@@ -1,34 +1,11 @@
--- What the lookup finds, and whether it is bad or tombstoned.
-use Rattle.std.proofs.Common.{sym, ◌∙◌, arith}
-use Rattle.inventory.proofs.ListedLaws.{window_row_lem, fetch_none, fetch_bad, fetch_tombstoned, fetch_put}
+-- A tag's fetch is written, and nothing where there is none.
+use Rattle.std.proofs.Common.{arith, rules}
+use Rattle.offers.proofs.AppendLaws.{append_none}
+use Rattle.inventory.proofs.ListedLaws.{fetch_put}
 use Rattle.inventory.proofs.push_fetch.Goals as goal
 
-pub overflow_mul-i : goal.overflow_mul-i
-overflow_mul-i c = omega (arith, window_row_lem _ _ _ (sym c.in-At.is ∙ c.lookup_prefix.ensures))
+pub returns-in-Some : goal.returns-in-Some
+returns-in-Some c = (rw c.in-Some.is (fetch_put c.args.replies.now _ _ _ (search rules) c.requires c.put_fetch.ensures), omega arith)
 
-pub overflow_add-i : goal.overflow_add-i
-overflow_add-i c = omega (arith, window_row_lem _ _ _ (sym c.in-At.is ∙ c.lookup_prefix.ensures))
-
-pub get_16-tag-requires : goal.get_16-tag-requires
-get_16-tag-requires c = omega (arith, window_row_lem _ _ _ (sym c.in-At.is ∙ c.lookup_prefix.ensures))
-
-pub returns-then-is_bad : goal.returns-then-is_bad
-returns-then-is_bad c =
-    (fetch_bad _ _ _ _ _ _ c.args.replies.now _ _ (sym c.in-At.is ∙ c.lookup_prefix.ensures) _ c.get_16-tag.ensures (sym c.is_bad.ensures ∙ c.if-is_bad.true), omega arith)
-
-pub returns-then-tombstoned : goal.returns-then-tombstoned
-returns-then-tombstoned c = (
-  fetch_tombstoned _ _ _ _ _ _ c.args.replies.now _ _ (sym c.in-At.is ∙ c.lookup_prefix.ensures) _ c.get_16-tag.ensures
-      (sym c.is_bad.ensures ∙ c.if-is_bad.false) (sym c.tombstoned.ensures ∙ c.if-tombstoned.true),
-  omega arith,
-)
-
-pub returns-else-tombstoned : goal.returns-else-tombstoned
-returns-else-tombstoned c = (
-  fetch_put _ _ _ _ _ _ _ _ _ (sym c.in-At.is ∙ c.lookup_prefix.ensures) _ c.get_16-tag.ensures
-      (sym c.is_bad.ensures ∙ c.if-is_bad.false) (sym c.tombstoned.ensures ∙ c.if-tombstoned.false) c.requires c.put_fetch.ensures,
-  omega arith,
-)
-
-pub returns-in-Nothing : goal.returns-in-Nothing
-returns-in-Nothing c = (fetch_none _ _ _ _ _ _ c.args.replies.now _ (sym c.in-Nothing.is ∙ c.lookup_prefix.ensures), omega arith)
+pub returns-in-None : goal.returns-in-None
+returns-in-None c = (rw c.in-None.is (append_none 40 c.args.replies.now c.args.k), omega arith)

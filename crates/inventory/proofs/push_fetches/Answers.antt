@@ -7,7 +7,8 @@ loop-i-init c = replying_start _ _ _ _ 0
 
 pub loop-i-preserved : goal.loop-i-preserved
 loop-i-preserved c =
-    replying_next _ _ _ _ _ c.requires.0 c.loop-i.invariant (omega arith) c.prefix_at-prefix.ensures c.push_fetch-k.ensures.0 c.push_fetch-k.ensures.1 (omega arith)
+    replying_next _ _ _ _ _ c.args.listed.in_bounds c.loop-i.invariant (omega arith) c.get_array-prefix.ensures
+    (rw c.tag_to_fetch.ensures at c.push_fetch-k.ensures.0) c.push_fetch-k.ensures.1 (omega arith)
 
 pub returns : goal.returns
-returns c = let e = replying_end _ _ _ _ _ c.requires.0 c.loop-i.invariant (omega arith) in (e.0, omega (arith, e.1))
+returns c = let e = replying_end _ _ _ _ _ c.args.listed.in_bounds c.loop-i.invariant (omega arith) in (e.0, omega (arith, e.1))

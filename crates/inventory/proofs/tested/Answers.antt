@@ -1,6 +1,6 @@
 -- Each way out is one row of the model's tests.
-use Rattle.std.proofs.Common.{sym, ◌∙◌}
-use Rattle.inventory.proofs.TestLaws.{is_short, is_wrong, is_unknown, is_other_lem, is_passed}
+use Rattle.std.proofs.Common.{refl, sym, ◌∙◌}
+use Rattle.inventory.proofs.TestLaws.{same_peer, is_short, is_wrong, is_unknown, is_other_lem, is_passed}
 use Rattle.inventory.proofs.tested.Goals as goal
 
 pub returns-then-too_short : goal.returns-then-too_short
@@ -14,12 +14,14 @@ returns-then-unknown c = λ s r.
     is_unknown _ _ _ _ _ _ _ _ _ s r (sym c.too_short.ensures ∙ c.if-too_short.false)
     (sym c.wrong_rows.ensures ∙ c.if-wrong_rows.false) (sym c.unknown.ensures ∙ c.if-unknown.true)
 
-pub returns-then-is_for : goal.returns-then-is_for
-returns-then-is_for c = λ s r.
-    is_passed _ _ _ _ _ _ _ _ _ s r (sym c.too_short.ensures ∙ c.if-too_short.false)
-    (sym c.wrong_rows.ensures ∙ c.if-wrong_rows.false) (sym c.unknown.ensures ∙ c.if-unknown.false) (sym c.is_for.ensures ∙ c.if-is_for.true)
+pub returns-then-ne : goal.returns-then-ne
+returns-then-ne c = λ s r.
+    is_other_lem _ _ _ _ _ _ _ _ _ s r (sym c.too_short.ensures ∙ c.if-too_short.false)
+    (sym c.wrong_rows.ensures ∙ c.if-wrong_rows.false) (sym c.unknown.ensures ∙ c.if-unknown.false)
+    (same_peer _ _ c.args.to (λ p. refl) ∙ sym c.ne.ensures ∙ c.if-ne.true)
 
 pub returns : goal.returns
 returns c = λ s r.
-    is_other_lem _ _ _ _ _ _ _ _ _ s r (sym c.too_short.ensures ∙ c.if-too_short.false)
-    (sym c.wrong_rows.ensures ∙ c.if-wrong_rows.false) (sym c.unknown.ensures ∙ c.if-unknown.false) (sym c.is_for.ensures ∙ c.if-is_for.false)
+    is_passed _ _ _ _ _ _ _ _ _ s r (sym c.too_short.ensures ∙ c.if-too_short.false)
+    (sym c.wrong_rows.ensures ∙ c.if-wrong_rows.false) (sym c.unknown.ensures ∙ c.if-unknown.false)
+    (same_peer _ _ c.args.to (λ p. refl) ∙ sym c.ne.ensures ∙ c.if-ne.false)

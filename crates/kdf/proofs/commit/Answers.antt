@@ -1,5 +1,7 @@
+use Rattle.octets.specs.Bytes.{part}
 use Rattle.kdf.proofs.KdfLaws.{commit_bytes}
 use Rattle.kdf.proofs.commit.Goals as goal
 
 pub returns : goal.returns
-returns c = commit_bytes c.args.nonce _ _ c.hash-digest.ensures c.trunc32.ensures
+unfolding part
+returns c = commit_bytes c.args.nonce c.hash_of-digest.ensures c.get_array.ensures

@@ -1,16 +1,19 @@
 -- `load`: refused by its tests, or the records are loaded. Assumes nothing.
+use Rattle.std.proofs.Common.{rules}
+use Rattle.std.proofs.lemmas.Result.{err_from_is_err_and}
 use Rattle.load.proofs.CallLaws.{fine_areas, fine_ten, load_refused, load_performed}
-use Rattle.std.proofs.Common.{sym, ◌∙◌, rules}
 use Rattle.load.proofs.load.Goals as goal
 
 pub get_u64-next-requires : goal.get_u64-next-requires
-get_u64-next-requires c = fine_ten _ _ _ _ (sym c.in-Fine.is ∙ c.test_file.ensures)
+get_u64-next-requires c = fine_ten _ _ _ _ c.in_ok-test_file.ensures
 
 pub load_records-have-requires : goal.load_records-have-requires
-load_records-have-requires c = fine_areas _ _ _ _ _ (search rules) (sym c.in-Fine.is ∙ c.test_file.ensures)
+load_records-have-requires c = fine_areas _ _ _ _ _ (search rules) c.in_ok-test_file.ensures
 
-pub returns-in-Refused : goal.returns-in-Refused
-returns-in-Refused c a = load_refused _ _ _ _ _ _ a _ (sym c.in-Refused.is ∙ c.test_file.ensures)
+pub returns-in_err-test_file : goal.returns-in_err-test_file
+returns-in_err-test_file c a =
+    let p = err_from_is_err_and c.from_residual.result c.from_residual.ensures.1 in
+    rw (p.1, p.2) (load_refused _ _ _ _ _ _ a _ c.in_err-test_file.ensures)
 
-pub returns-in-Fine : goal.returns-in-Fine
-returns-in-Fine c a = load_performed _ _ _ _ _ _ a (sym c.in-Fine.is ∙ c.test_file.ensures) c.load_records-have.ensures c.get_u64-next.ensures c.device_with.ensures
+pub returns : goal.returns
+returns c a = load_performed _ _ _ _ _ _ a c.in_ok-test_file.ensures c.load_records-have.ensures c.get_u64-next.ensures

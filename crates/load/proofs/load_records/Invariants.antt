@@ -1,10 +1,11 @@
--- `load_records`: those before the place are loaded. Assumes nothing.
-use Rattle.std.proofs.Common.{◌-◌, length}
+-- `load_records`: those before the ones that are left are loaded. Assumes nothing.
+use Rattle.load_tests.specs.Records.{left}
 use Rattle.load.specs.Laying.{Loading}
 use Rattle.load.proofs.load_records.Given as goal
 
-abbrev pub invariant-loop-at : goal.invariant-loop-at
-invariant-loop-at l = Loading l.file l.initial.carried l.initial.tombstones l.initial.cells l.at l.have l.carried l.tombstones l.cells
-
-abbrev pub decreases-loop-at : goal.decreases-loop-at
-decreases-loop-at l = length l.file - l.at
+abbrev pub invariant-loop-record : goal.invariant-loop-record
+invariant-loop-record l = record {
+  can : goal.iterator-loop-record.can_next l.record-iterator;
+  finite : goal.iterator-loop-record.is_finite l.record-iterator;
+  loading : Loading l.file l.initial.carried l.initial.tombstones l.initial.cells (left l.record-iterator) l.have l.carried l.tombstones l.cells;
+}

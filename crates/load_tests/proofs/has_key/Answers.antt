@@ -3,11 +3,11 @@ use Rattle.std.proofs.Common.{arith}
 use Rattle.load_tests.proofs.RecordLaws.{no_key, key_here}
 use Rattle.load_tests.proofs.has_key.Goals as goal
 
-pub returns-then-n-offset : goal.returns-then-n-offset
-returns-then-n-offset c = no_key _ _ _ _ _ (omega arith) (omega arith)
+pub returns-then-record-offset : goal.returns-then-record-offset
+returns-then-record-offset c = no_key _ _ _ (omega arith)
 
-pub returns-then-n-offset-2 : goal.returns-then-n-offset-2
-returns-then-n-offset-2 c = no_key _ _ _ _ _ (omega arith) (omega arith)
+pub returns-then-record-offset-2 : goal.returns-then-record-offset-2
+returns-then-record-offset-2 c = no_key _ _ _ (omega arith)
 
 pub returns : goal.returns
-returns c = key_here _ _ _ _ _ (omega arith) (omega arith) c.same.ensures
+returns c = key_here _ _ _ c.same.ensures

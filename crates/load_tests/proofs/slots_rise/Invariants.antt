@@ -1,10 +1,11 @@
--- `slots_rise`: every slot before the place is below low, and there once. Assumes nothing.
+-- `slots_rise`: every slot so far is below low, and there once. Assumes nothing.
+use Rattle.load_tests.specs.Records.{records, left}
 use Rattle.load_tests.proofs.SlotLaws.{Rising}
-use Rattle.std.proofs.Common.{◌-◌, length}
 use Rattle.load_tests.proofs.slots_rise.Given as goal
 
-abbrev pub invariant-loop-at : goal.invariant-loop-at
-invariant-loop-at l = Rising l.file l.at l.low
-
-abbrev pub decreases-loop-at : goal.decreases-loop-at
-decreases-loop-at l = length l.file - l.at
+abbrev pub invariant-loop-record : goal.invariant-loop-record
+invariant-loop-record l = record {
+  can : goal.iterator-loop-record.can_next l.record-iterator;
+  finite : goal.iterator-loop-record.is_finite l.record-iterator;
+  left : Rising (records l.file) (left l.record-iterator) l.low;
+}

@@ -1,13 +1,17 @@
 -- `wrong_kind`: by what `decode` says of the blob. Assumes nothing.
-use Rattle.load_tests.proofs.BlobLaws.{kind_tested, kind_here}
-use Rattle.std.proofs.Common.{not, sym, ap, ◌∙◌}
+use Rattle.std.proofs.Common.{not, Some, None, ap, ◌∙◌}
+use Rattle.load_tests.proofs.BlobLaws.{kind_tested, read_lent}
 use Rattle.load_tests.proofs.wrong_kind.Goals as goal
 
 pub returns-in-None : goal.returns-in-None
-returns-in-None c = kind_tested _ _ (sym c.in-None.is ∙ kind_here _ _ _ c.requires.1 c.decode-row.ensures)
+returns-in-None c = kind_tested c.args.record.now None (read_lent _ c.decode.ensures c.in-None.is)
 
-pub returns-in-Carried : goal.returns-in-Carried
-returns-in-Carried c = ap not c.has_mark.ensures ∙ kind_tested _ _ (sym c.in-Carried.is ∙ kind_here _ _ _ c.requires.1 c.decode-row.ensures)
+pub returns-in-Some-Carried : goal.returns-in-Some-Carried
+returns-in-Some-Carried c =
+    ap not c.has_mark.ensures
+    ∙ kind_tested c.args.record.now _ (read_lent _ c.decode.ensures (c.in-Some-Carried.is ∙ ap Some c.in-Some-Carried.field-0-is))
 
-pub returns-in-Tombstone : goal.returns-in-Tombstone
-returns-in-Tombstone c = ap not c.has_mark-in-Tombstone.ensures ∙ kind_tested _ _ (sym c.in-Tombstone.is ∙ kind_here _ _ _ c.requires.1 c.decode-row.ensures)
+pub returns-in-Some-Tombstone : goal.returns-in-Some-Tombstone
+returns-in-Some-Tombstone c =
+    ap not c.has_mark-in-Some-Tombstone.ensures
+    ∙ kind_tested c.args.record.now _ (read_lent _ c.decode.ensures (c.in-Some-Tombstone.is ∙ ap Some c.in-Some-Tombstone.field-0-is))

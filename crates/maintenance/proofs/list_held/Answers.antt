@@ -1,4 +1,4 @@
-use Rattle.std.proofs.Common.{sym, refl, arith, rules}
+use Rattle.std.proofs.Common.{refl, arith}
 use Rattle.maintenance.proofs.MergeLaws.{merging_start}
 use Rattle.maintenance.proofs.StepLaws.{within, listed_all}
 use Rattle.maintenance.proofs.list_held.Goals as goal
@@ -11,12 +11,8 @@ overflow_add-t c =
     let w = within _ _ _ _ _ _ _ _ _ _ _ c.fit-n.ensures.inside c.fit-m.ensures.inside c.loop-t.invariant.0 in
     omega (arith, w, c.fit-n.ensures.is, c.fit-m.ensures.is, c.requires, c.well_formed)
 
-pub overflow_add-n : goal.overflow_add-n
-overflow_add-n c =
-    omega (arith, c.fit-n.ensures.is, c.fit-m.ensures.is, c.requires, c.well_formed)
-
-pub list_one-next-requires : goal.list_one-next-requires
-list_one-next-requires c =
+pub list_one-requires : goal.list_one-requires
+list_one-requires c =
     let w = within _ _ _ _ _ _ _ _ _ _ _ c.fit-n.ensures.inside c.fit-m.ensures.inside c.loop-t.invariant.0 in
     record {
       reached = record {
@@ -28,13 +24,6 @@ list_one-next-requires c =
       };
       space = omega (arith, c.loop-t.invariant.0.below, c.loop-t.invariant.1, c.fit-n.ensures.is, c.fit-m.ensures.is, c.requires);
     }
-
-pub loop-t-smaller : goal.loop-t-smaller
-loop-t-smaller c = omega (arith, c.list_one-next.ensures.further, c.loop-t-test.true)
-
-pub loop-t-preserved : goal.loop-t-preserved
-loop-t-preserved c =
-    (c.list_one-next.ensures.merging _ _ (sym c.loop-t.invariant.1) c.loop-t.invariant.0, search rules)
 
 pub returns : goal.returns
 returns c =

@@ -1,5 +1,5 @@
 -- `list_own`: the own puts of the rows before i are listed. Assumes nothing.
-use Rattle.std.proofs.Common.{◌≡◌, ◌-◌, length}
+use Rattle.std.proofs.Common.{◌≡◌, length}
 use Rattle.table.specs.Codec.{table_of}
 use Rattle.rows.specs.Rows.{own_codec}
 use Rattle.model.specs.Maintenance.{own_expired}
@@ -9,6 +9,3 @@ use Rattle.maintenance.proofs.list_own.Given as goal
 abbrev pub invariant-loop-i : goal.invariant-loop-i
 invariant-loop-i l =
     Putting own_put (own_expired l.minute) (table_of own_codec l.count l.own) l.initial.actions l.i l.k l.actions × (length l.actions ≡ length l.initial.actions)
-
-abbrev pub decreases-loop-i : goal.decreases-loop-i
-decreases-loop-i l = l.n - l.i

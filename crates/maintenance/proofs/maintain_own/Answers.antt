@@ -11,31 +11,17 @@ use Rattle.maintenance.proofs.maintain_own.Goals.{then-stays, else-stays}
 pub loop-i-init : goal.loop-i-init
 loop-i-init c = rewrite_start own_laws _ _ (λ r. renewed_proper c.args.minute r (search rules) (search rules)) _ _ (bytes_of _ (λ i. search rules))
 
-pub overflow_mul-i : goal.overflow_mul-i
-overflow_mul-i c = omega (arith, c.fit-n.ensures.inside, c.loop-i-test.true, c.loop-i.invariant.size)
-
-pub own_at-row-requires : goal.own_at-row-requires
-own_at-row-requires c = omega (arith, c.fit-n.ensures.inside, c.loop-i-test.true, c.loop-i.invariant.size)
-
-pub overflow_mul-k : goal.overflow_mul-k
-overflow_mul-k c =
-    omega (arith, c.fit-n.ensures.inside, c.loop-i-test.true, c.loop-i.invariant.below)
-
-pub copy_in-requires : goal.copy_in-requires
-copy_in-requires c =
-    omega (arith, c.fit-n.ensures.inside, c.loop-i-test.true, c.loop-i.invariant.below, c.loop-i.invariant.size)
-
 pub loop-i-preserved : goal.loop-i-preserved
 loop-i-preserved c = elim c.if-stays.branch [
   | then-stays w ↦ rewrite_keep own_laws _ _ (λ r. renewed_proper c.args.minute r (search rules) (search rules)) _ _ (bytes_of _ (λ i. search rules)) _ _ _ c.loop-i.invariant
-      (omega (arith, c.loop-i-test.true, c.fit-n.ensures.is)) c.own_at-row.ensures _ _ _ (sym c.stays.ensures ∙ w.if-stays.true) w.k-is
+      (omega (arith, c.fit-n.ensures.is)) c.own_at-row.ensures _ _ _ (sym c.stays.ensures ∙ w.if-stays.true) w.k-is
       (w.own_bytes-b.ensures ∙ ap own_bytes w.renew_expired.ensures) (w.own-is ∙ w.copy_in.ensures)
   | else-stays w ↦ rewrite_drop own_laws _ _ (λ r. renewed_proper c.args.minute r (search rules) (search rules)) _ _ (bytes_of _ (λ i. search rules)) _ _ _ c.loop-i.invariant
-      (omega (arith, c.loop-i-test.true, c.fit-n.ensures.is)) c.own_at-row.ensures _ _ (sym c.stays.ensures ∙ w.if-stays.false) w.k-is w.own-is
+      (omega (arith, c.fit-n.ensures.is)) c.own_at-row.ensures _ _ (sym c.stays.ensures ∙ w.if-stays.false) w.k-is w.own-is
 ]
 
 pub returns : goal.returns
 unfolding maintain_own
 returns c =
     rewrite_end own_laws _ _ (λ r. renewed_proper c.args.minute r (search rules) (search rules)) _ _ (bytes_of _ (λ i. search rules)) _ _ _ c.loop-i.invariant
-    (omega (arith, c.fit-n.ensures.is, c.loop-i-test.false))
+    (omega (arith, c.fit-n.ensures.is))

@@ -1,5 +1,4 @@
 -- `maintain_own`: of the rows before i those that stay stand at the front, the expired ones renewed. Assumes nothing.
-use Rattle.std.proofs.Common.{◌-◌}
 use Rattle.table.specs.Codec.{table_of}
 use Rattle.rows.specs.Rows.{own_codec}
 use Rattle.model.specs.Maintenance.{renew_expired}
@@ -9,6 +8,3 @@ use Rattle.maintenance.proofs.maintain_own.Given as goal
 abbrev pub invariant-loop-i : goal.invariant-loop-i
 invariant-loop-i l =
     Rewriting own_codec (renew_expired l.minute l.copies l.end) (row_stays l.minute) (table_of own_codec l.count l.initial.own) l.initial.own l.i l.k l.own
-
-abbrev pub decreases-loop-i : goal.decreases-loop-i
-decreases-loop-i l = l.n - l.i

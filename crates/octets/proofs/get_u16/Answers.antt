@@ -1,6 +1,5 @@
-use native.Mathlib.Omega.{arith}
-use Rattle.octets.proofs.Numbers.{num_2}
+use Rattle.octets.proofs.Numbers.{num_read}
 use Rattle.octets.proofs.get_u16.Goals as goal
 
 pub returns : goal.returns
-returns c = omega (arith, num_2 c.args.area.now c.args.at c.requires)
+returns c = num_read c.args.area.now c.args.at 1 c.requires c.get_array.ensures c.from_be_bytes.ensures

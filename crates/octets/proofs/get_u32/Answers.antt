@@ -1,6 +1,5 @@
-use native.Mathlib.Omega.{arith}
-use Rattle.octets.proofs.Numbers.{num_4}
+use Rattle.octets.proofs.Numbers.{num_read}
 use Rattle.octets.proofs.get_u32.Goals as goal
 
 pub returns : goal.returns
-returns c = omega (arith, num_4 c.args.area.now c.args.at c.requires)
+returns c = num_read c.args.area.now c.args.at 3 c.requires c.get_array.ensures c.from_be_bytes.ensures

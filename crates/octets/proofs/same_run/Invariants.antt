@@ -1,6 +1,5 @@
 -- `octets::same_run`: the differences gathered so far are 0 just where the bytes so far are the same. Assumes nothing.
 use mathlib.Core.Path.{◌≡◌}
-use Prim.Native.Nat.{◌≤◌, ◌-◌}
 use lib.Dec.{eqb}
 use lib.ListN.{drop}
 use mathlib.Core.Bool.{◌&&◌}
@@ -9,7 +8,4 @@ use Rattle.octets.proofs.same_run.Given as goal
 
 abbrev pub invariant-loop-k : goal.invariant-loop-k
 invariant-loop-k l =
-    (l.k ≤ l.n) × (same_bytes (part l.a l.at l.n) (part l.b l.bt l.n) ≡ (eqb l.acc 0 && same_bytes (drop l.k (part l.a l.at l.n)) (drop l.k (part l.b l.bt l.n))))
-
-abbrev pub decreases-loop-k : goal.decreases-loop-k
-decreases-loop-k l = l.n - l.k
+    same_bytes (part l.a l.at l.n) (part l.b l.bt l.n) ≡ (eqb l.acc 0 && same_bytes (drop l.k (part l.a l.at l.n)) (drop l.k (part l.b l.bt l.n)))

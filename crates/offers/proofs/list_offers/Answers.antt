@@ -1,48 +1,51 @@
-use Rattle.std.proofs.Common.{true, false, set, sym, ap, ◌∙◌, ◌+◌, arith, rules, set-set}
+use Rattle.std.proofs.Common.{◌≡◌, ◌<◌, length, refl, true, false, sym, ◌∙◌, ◌+◌, arith, rules, set-set}
 use Rattle.offers.proofs.OfferLaws.{not_spare, was_listed, was_tombstoned, is_offered_lem}
 use Rattle.offers.proofs.ListingLaws.{listed_next, listed_end, tombstoned_next, tombstoned_end, listing_start, listing_next, listing_end}
 use Rattle.offers.proofs.list_offers.Goals as goal
+use Rattle.offers.proofs.list_offers.Goals.{then-row, else-row+then-loop-j-test+then-same, else-row+else-loop-j-test+then-loop-t-test+then-same-2, else-row+else-loop-j-test+else-loop-t-test}
 
 pub loop-i-init : goal.loop-i-init
 loop-i-init c = listing_start _ _ _ _ _ _ _ _ _ _
 
-pub loop-i-preserved-then-not-may_offer : goal.loop-i-preserved-then-not-may_offer
-loop-i-preserved-then-not-may_offer c =
-    listing_next _ _ _ _ _ _ _ _ _ _ c.requires.n_in_bounds.0 c.requires.n_in_bounds.1 c.requires.m_in_bounds c.loop-i.invariant false false c.loop-i-test.true
-    (not_spare _ _ _ _ c.row_at-row.ensures (sym c.may_offer.ensures ∙ c.if-not-may_offer.true))
-    c.row.invariant.0 c.row.invariant.1
-
-pub loop-i-preserved-then-same : goal.loop-i-preserved-then-same
-loop-i-preserved-then-same c =
-    listing_next _ _ _ _ _ _ _ _ _ _ c.requires.n_in_bounds.0 c.requires.n_in_bounds.1 c.requires.m_in_bounds c.loop-i.invariant false false c.loop-i-test.true
-    (was_listed _ _ _ _ c.row_at-row.ensures
-    (c.loop-j.invariant.1 ∙ listed_next _ _ _ c.requires.l_in_bounds.0 _ true c.loop-j-test.true c.same.ensures c.if-same.true))
-    c.row.invariant.0 c.row.invariant.1
+pub loop-j-init : goal.loop-j-init
+loop-j-init c = refl
 
 pub loop-j-preserved : goal.loop-j-preserved
 loop-j-preserved c =
-    (omega arith, c.loop-j.invariant.1 ∙ listed_next _ _ _ c.requires.l_in_bounds.0 _ false c.loop-j-test.true c.same.ensures c.if-same.false)
+    c.loop-j.invariant ∙ listed_next _ _ _ c.args.listed.in_bounds _ false c.loop-j-test.true c.same.ensures c.if-same.false
 
-pub loop-i-preserved-then-same-2 : goal.loop-i-preserved-then-same-2
-loop-i-preserved-then-same-2 c =
-    listing_next _ _ _ _ _ _ _ _ _ _ c.requires.n_in_bounds.0 c.requires.n_in_bounds.1 c.requires.m_in_bounds c.loop-i.invariant true false c.loop-i-test.true
-    (was_tombstoned _ _ _ _ c.row_at-row.ensures (sym c.may_offer.ensures ∙ c.if-not-may_offer.false)
-    (c.loop-j.invariant.1 ∙ listed_end _ _ _ c.requires.l_in_bounds.0 c.loop-j.j c.loop-j-test.false)
-    (c.loop-t.invariant.1 ∙ tombstoned_next _ _ _ c.requires.l_in_bounds.1 _ true (search rules) c.loop-t-test.true c.same-in-loop-t.ensures c.if-same-2.true))
-    (ap (λ n. n + 1) c.row.invariant.0) c.row.invariant.1
+pub loop-t-init : goal.loop-t-init
+loop-t-init c = refl
 
 pub loop-t-preserved : goal.loop-t-preserved
 loop-t-preserved c =
-    (omega arith, c.loop-t.invariant.1 ∙ tombstoned_next _ _ _ c.requires.l_in_bounds.1 _ false (search rules) c.loop-t-test.true c.same-in-loop-t.ensures c.if-same-2.false)
+    c.loop-t.invariant ∙ tombstoned_next _ _ _ c.args.tombstones.in_bounds _ false (search rules) c.loop-t-test.true c.same-in-loop-t.ensures c.if-same-2.false
 
 pub loop-i-preserved : goal.loop-i-preserved
 loop-i-preserved c =
-    listing_next _ _ _ _ _ _ _ _ _ _ c.requires.n_in_bounds.0 c.requires.n_in_bounds.1 c.requires.m_in_bounds c.loop-i.invariant true true c.loop-i-test.true
-    (is_offered_lem _ _ _ _ c.row_at-row.ensures (sym c.may_offer.ensures ∙ c.if-not-may_offer.false)
-    (c.loop-j.invariant.1 ∙ listed_end _ _ _ c.requires.l_in_bounds.0 c.loop-j.j c.loop-j-test.false)
-    (c.loop-t.invariant.1 ∙ tombstoned_end _ _ _ c.requires.l_in_bounds.1 c.loop-t.t c.loop-t-test.false))
-    (ap (λ n. n + 1) c.row.invariant.0) (ap (λ z. set z c.loop-i.i true) c.row.invariant.1 ∙ set-set c.loop-i.flags c.loop-i.i false true)
+    let next = listing_next _ _ _ _ _ _ _ _ _ _ c.args.held.now.own.in_bounds c.args.held.now.carried.in_bounds c.requires c.loop-i.invariant in
+    let more : c.loop-i.i < c.args.held.now.own.n + c.args.held.now.carried.n = omega arith in
+    let wide : length c.row_at-row.result.tag ≡ 16 = search rules in
+    let is = c.row_at-row.ensures in
+    let spare = sym c.may_offer.ensures in
+    elim c.if-row.branch [
+      | then-row w ↦ next false false more (not_spare _ _ _ _ is (spare ∙ w.if-row.true)) _ _ w.searched-is w.flags-is
+      | else-row+then-loop-j-test+then-same w ↦
+          next false false more
+          (was_listed _ _ _ _ is (w.loop-j.invariant ∙ listed_next _ _ _ c.args.listed.in_bounds _ true w.loop-j-test.true w.same.ensures w.if-same.true))
+          _ _ w.searched-is w.flags-is
+      | else-row+else-loop-j-test+then-loop-t-test+then-same-2 w ↦
+          next true false more
+          (was_tombstoned _ _ _ _ is (spare ∙ w.if-row.false) (w.loop-j.invariant ∙ listed_end _ _ _ c.args.listed.in_bounds w.loop-j.j w.loop-j-test.false)
+          (w.loop-t.invariant ∙ tombstoned_next _ _ _ c.args.tombstones.in_bounds _ true wide w.loop-t-test.true w.same-in-loop-t.ensures w.if-same-2.true))
+          _ _ w.searched-is w.flags-is
+      | else-row+else-loop-j-test+else-loop-t-test w ↦
+          next true true more
+          (is_offered_lem _ _ _ _ is (spare ∙ w.if-row.false) (w.loop-j.invariant ∙ listed_end _ _ _ c.args.listed.in_bounds w.loop-j.j w.loop-j-test.false)
+          (w.loop-t.invariant ∙ tombstoned_end _ _ _ c.args.tombstones.in_bounds w.loop-t.t w.loop-t-test.false))
+          _ _ w.searched-is (w.flags-is ∙ set-set c.loop-i.flags c.loop-i.i false true)
+    ]
 
 pub returns : goal.returns
 returns c =
-    listing_end _ _ _ _ _ _ _ _ _ _ c.requires.n_in_bounds.0 c.requires.n_in_bounds.1 c.requires.m_in_bounds c.loop-i.invariant c.loop-i-test.false
+    listing_end _ _ _ _ _ _ _ _ _ _ c.args.held.now.own.in_bounds c.args.held.now.carried.in_bounds c.requires c.loop-i.invariant (omega arith)

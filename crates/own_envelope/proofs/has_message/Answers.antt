@@ -1,10 +1,7 @@
-use Rattle.std.proofs.Common.{sym, refl, arith}
+use Rattle.std.proofs.Common.{sym, arith}
 use Rattle.rows.specs.Rows.{own_codec}
 use Rattle.own_envelope.proofs.WalkLaws.{any_row, any_past}
 use Rattle.own_envelope.proofs.has_message.Goals as goal
-
-pub loop-i-init : goal.loop-i-init
-loop-i-init c = (omega arith, refl)
 
 pub returns-then-is_message : goal.returns-then-is_message
 returns-then-is_message c =

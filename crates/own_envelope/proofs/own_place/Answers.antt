@@ -1,11 +1,8 @@
-use Rattle.std.proofs.Common.{refl, arith}
+use Rattle.std.proofs.Common.{arith}
 use Rattle.rows.specs.Rows.{own_codec}
 use Rattle.own_envelope.proofs.WalkLaws.{place_row, place_past}
 use Rattle.own_envelope.proofs.OwnLaws.{place_at, place_behind}
 use Rattle.own_envelope.proofs.own_place.Goals as goal
-
-pub loop-i-init : goal.loop-i-init
-loop-i-init c = (omega arith, refl)
 
 pub returns-then-stands_after : goal.returns-then-stands_after
 returns-then-stands_after c =

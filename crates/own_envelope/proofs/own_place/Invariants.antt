@@ -1,5 +1,5 @@
 -- `own_place`: the first row from i on that stands after the new one. Assumes nothing.
-use Rattle.std.proofs.Common.{◌≡◌, ◌-◌, ◌≤◌, drop}
+use Rattle.std.proofs.Common.{◌≡◌, ◌≤◌, drop}
 use Rattle.table.specs.Lists.{position, position_from}
 use Rattle.table.specs.Codec.{table_of}
 use Rattle.rows.specs.Rows.{own_codec, contact_codec}
@@ -10,6 +10,3 @@ abbrev pub invariant-loop-i : goal.invariant-loop-i
 invariant-loop-i l =
     (l.i ≤ l.n) × (position (stands_after (table_of contact_codec l.known l.contacts) l.id l.msgno) (table_of own_codec l.count l.own)
     ≡ position_from l.i (stands_after (table_of contact_codec l.known l.contacts) l.id l.msgno) (drop l.i (table_of own_codec l.count l.own)))
-
-abbrev pub decreases-loop-i : goal.decreases-loop-i
-decreases-loop-i l = l.n - l.i

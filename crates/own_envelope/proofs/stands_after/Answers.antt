@@ -1,14 +1,16 @@
--- `stands_after_lem`: the number decides for a row of the same contact, else the contacts. Assumes nothing.
+-- `stands_after`: the number decides for a row of the same contact, else the contacts. Assumes nothing.
+use Rattle.std.proofs.Common.{sym, ◌∙◌, le-ltb, eqb-true}
+use Rattle.std.proofs.lemmas.Bool.{eqb-false}
 use Rattle.own_envelope.proofs.OwnLaws.{after_message, after_contact, not_after}
 use Rattle.own_envelope.proofs.stands_after.Goals as goal
 
-pub returns-then-contact-id : goal.returns-then-contact-id
-returns-then-contact-id c = after_message _ _ _ _ c.if-contact-id.true
+pub returns-then-eq : goal.returns-then-eq
+returns-then-eq c = after_message _ _ _ _ (eqb-true _ _ (sym c.eq.ensures ∙ c.if-eq.true))
 
-pub returns-then-place-mine : goal.returns-then-place-mine
-returns-then-place-mine c =
-    not_after _ _ _ _ c.requires.0 c.if-contact-id.false c.requires.1 c.if-place-mine.true
+pub returns-then-mine-place : goal.returns-then-mine-place
+returns-then-mine-place c =
+    after_contact _ _ _ _ c.requires.0 (eqb-false _ _ (sym c.eq.ensures ∙ c.if-eq.false)) c.added_before.ensures
 
-pub returns : goal.returns
-returns c =
-    after_contact _ _ _ _ c.requires.0 c.if-contact-id.false c.added_before.ensures
+pub returns-else-mine-place : goal.returns-else-mine-place
+returns-else-mine-place c =
+    le-ltb _ _ c.if-mine-place.false ∙ not_after _ _ _ _ c.requires.0 (eqb-false _ _ (sym c.eq.ensures ∙ c.if-eq.false)) c.requires.1 c.if-mine-place.false

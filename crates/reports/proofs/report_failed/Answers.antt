@@ -1,19 +1,19 @@
 -- Each way out is one row of the model's tests, or what is left to do.
-use Rattle.std.proofs.Common.{sym, ◌∙◌, arith}
+use Rattle.std.proofs.Common.{arith}
 use Rattle.reports.proofs.CallLaws.{failed_stranger, failed_again, failed_full, failed_added}
 use Rattle.reports.proofs.report_failed.Goals as goal
 
 pub returns-then-not-known : goal.returns-then-not-known
-returns-then-not-known c a = failed_stranger _ _ _ _ _ a (sym c.known.ensures ∙ c.if-not-known.true)
+returns-then-not-known c a = failed_stranger _ _ _ _ _ a c.if-not-known.ensures
 
 pub returns-then-is_bad : goal.returns-then-is_bad
 returns-then-is_bad c a =
-    failed_again _ _ _ _ _ a (sym c.known.ensures ∙ c.if-not-known.false) (sym c.is_bad.ensures ∙ c.if-is_bad.true)
+    failed_again _ _ _ _ _ a c.if-not-known.ensures c.if-is_bad.ensures
 
 pub returns-then-bad_tags-count : goal.returns-then-bad_tags-count
 returns-then-bad_tags-count c a =
-    failed_full _ _ _ _ _ a (sym c.known.ensures ∙ c.if-not-known.false) (sym c.is_bad.ensures ∙ c.if-is_bad.false) c.fit-count.ensures.is (omega arith)
+    failed_full _ _ _ _ _ a c.if-not-known.ensures c.if-is_bad.ensures c.fit-count.ensures.is (omega arith)
 
 pub returns : goal.returns
 returns c a =
-    failed_added _ _ _ _ _ a (sym c.known.ensures ∙ c.if-not-known.false) (sym c.is_bad.ensures ∙ c.if-is_bad.false) c.fit-count.ensures.is (omega arith) c.add_bad-n.ensures c.device_with.ensures
+    failed_added _ _ _ _ _ a c.if-not-known.ensures c.if-is_bad.ensures c.fit-count.ensures.is (omega arith) c.add_bad-device.ensures

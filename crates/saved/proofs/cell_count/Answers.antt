@@ -5,4 +5,4 @@ use Rattle.saved.proofs.cell_count.Goals as goal
 
 pub returns : goal.returns
 unfolding cell_count
-returns c = (c.least.ensures, omega arith)
+returns c = (omega arith, omega arith)

@@ -4,4 +4,4 @@ use Rattle.saved.proofs.held_carried.Goals as goal
 
 pub returns : goal.returns
 unfolding carried_envelope_of
-returns c = rw c.carried_header-header.ensures
+returns c = rw c.carried_header.ensures

@@ -3,6 +3,7 @@ use Rattle.std.proofs.Common.{sym, ◌∙◌, arith}
 use Rattle.rows.specs.Rows.{carried_codec, tombstone_codec}
 use Rattle.model.specs.Exchange.{no_carried}
 use Rattle.model.specs.Tombs.{no_tombstone}
+use Rattle.saved.proofs.BlobLaws.{carried_place, tombstone_place}
 use Rattle.saved.proofs.RowBlobLaws.{row_inside, says_short, says_carried, says_tombstone, says_missing}
 use Rattle.saved.proofs.row_blob.Goals as goal
 
@@ -11,22 +12,22 @@ returns-then-blob-lt-BLOB c a = says_short _ _ _ _ _ _ a (omega arith)
 
 pub carried_blob-requires : goal.carried_blob-requires
 carried_blob-requires c =
-    (row_inside carried_codec no_carried _ _ _ (sym c.in-At.is ∙ c.carried_place.ensures), omega arith)
+    (row_inside carried_codec no_carried _ _ _ (sym c.in-Some.is ∙ carried_place _ _ _ c.slot_place.ensures), omega arith)
 
 pub tombstone_blob-requires : goal.tombstone_blob-requires
 tombstone_blob-requires c =
-    (row_inside tombstone_codec no_tombstone _ _ _ (sym c.in-At-tombstone_place.is ∙ c.tombstone_place.ensures), omega arith)
+    (row_inside tombstone_codec no_tombstone _ _ _ (sym c.in-Some-slot_place.is ∙ tombstone_place _ _ _ c.slot_place-in-None.ensures), omega arith)
 
-pub returns-in-At : goal.returns-in-At
-returns-in-At c a =
-    says_carried _ _ _ _ _ _ a c.if-blob-lt-BLOB.false _ _ _ (sym c.in-At.is ∙ c.carried_place.ensures) c.carried_blob.ensures
+pub returns-in-Some : goal.returns-in-Some
+returns-in-Some c a =
+    says_carried _ _ _ _ _ _ a c.if-blob-lt-BLOB.false _ _ _ (sym c.in-Some.is ∙ carried_place _ _ _ c.slot_place.ensures) c.carried_blob.ensures
 
-pub returns-in-At-tombstone_place : goal.returns-in-At-tombstone_place
-returns-in-At-tombstone_place c a =
-    says_tombstone _ _ _ _ _ _ a c.if-blob-lt-BLOB.false (sym c.in-Nothing.is ∙ c.carried_place.ensures) _ _ _
-    (sym c.in-At-tombstone_place.is ∙ c.tombstone_place.ensures) c.tombstone_blob.ensures
+pub returns-in-Some-slot_place : goal.returns-in-Some-slot_place
+returns-in-Some-slot_place c a =
+    says_tombstone _ _ _ _ _ _ a c.if-blob-lt-BLOB.false (sym c.in-None.is ∙ carried_place _ _ _ c.slot_place.ensures) _ _ _
+    (sym c.in-Some-slot_place.is ∙ tombstone_place _ _ _ c.slot_place-in-None.ensures) c.tombstone_blob.ensures
 
-pub returns-in-Nothing-tombstone_place : goal.returns-in-Nothing-tombstone_place
-returns-in-Nothing-tombstone_place c a =
-    says_missing _ _ _ _ _ _ a c.if-blob-lt-BLOB.false (sym c.in-Nothing.is ∙ c.carried_place.ensures)
-    (sym c.in-Nothing-tombstone_place.is ∙ c.tombstone_place.ensures)
+pub returns-in-None-slot_place : goal.returns-in-None-slot_place
+returns-in-None-slot_place c a =
+    says_missing _ _ _ _ _ _ a c.if-blob-lt-BLOB.false (sym c.in-None.is ∙ carried_place _ _ _ c.slot_place.ensures)
+    (sym c.in-None-slot_place.is ∙ tombstone_place _ _ _ c.slot_place-in-None.ensures)

@@ -9,10 +9,10 @@ returns-then-short_file c a =
 
 pub save_file-requires : goal.save_file-requires
 save_file-requires c =
-    rooms _ _ _ _ _ _ _ _ _ (search rules) (sym c.short_file.ensures ∙ c.if-short_file.false) c.fit_to-n.ensures.is
-    c.fit_to-n.ensures.inside c.fit-m.ensures.is c.fit-m.ensures.inside
+    rooms _ _ _ _ _ (search rules) (sym c.short_file.ensures ∙ c.if-short_file.false) c.fit_to.ensures.is
+    c.fit_to.ensures.inside c.fit.ensures.is c.fit.ensures.inside
 
 pub returns : goal.returns
 returns c a =
-    says_saved _ _ _ _ _ a _ c.cell_count-cells.ensures.0 (sym c.short_file.ensures ∙ c.if-short_file.false) _ _ _
-    (search rules) c.fit_to-n.ensures.is c.fit-m.ensures.is _ _ c.save_file.ensures
+    says_saved _ _ _ a _ c.cell_count-cells.ensures.0 (sym c.short_file.ensures ∙ c.if-short_file.false)
+    (search rules) c.fit_to.ensures.is c.fit.ensures.is _ _ c.save_file.ensures

@@ -3,5 +3,4 @@ use Rattle.sha_block.proofs.Steps.{four_rounds}
 use Rattle.sha_block.proofs.four.Goals as goal
 
 pub returns : goal.returns
-returns c =
-    four_rounds _ _ c.args.k.now c.args.t c.requires.0 c.turn-a.ensures c.turn-b.ensures c.turn-c.ensures c.turn.ensures
+returns c = four_rounds _ _ c.args.t c.one-a.ensures c.one-b.ensures c.one-c.ensures c.one.ensures

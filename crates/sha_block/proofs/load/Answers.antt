@@ -1,4 +1,4 @@
-use Rattle.std.proofs.Common.{◌≡◌, ◌-◌, refl, arith, length-set, rules}
+use Rattle.std.proofs.Common.{refl, arith, length-set, rules}
 use Rattle.sha_block.specs.Block.{schedule}
 use Rattle.sha_block.specs.Loop.{turns}
 use Rattle.sha_block.proofs.Loop.{again}
@@ -7,15 +7,11 @@ use Rattle.sha_block.proofs.load.Goals as goal
 
 pub loop-t-init : goal.loop-t-init
 unfolding schedule
-loop-t-init c = (omega arith, search rules, refl)
+loop-t-init c = (refl, refl)
 
 pub loop-t-preserved : goal.loop-t-preserved
 unfolding turns
 loop-t-preserved c = (
-  omega arith,
   simp length-set (search rules),
-  again _ 80 c.loop-t.t _ c.loop-t.invariant.2 1 (omega arith) (loaded _ c.loop-t.w _ c.loop-t.t _ (omega arith) (omega arith) c.get_u64.ensures),
+  again _ 80 c.loop-t.t _ c.loop-t.invariant.1 1 (omega arith) (loaded _ c.loop-t.w _ c.loop-t.t _ (omega arith) (omega arith) c.get_u64.ensures),
 )
-
-pub returns : goal.returns
-returns c = let e : c.loop-t.t ≡ 16 = omega arith in rw e at c.loop-t.invariant.2

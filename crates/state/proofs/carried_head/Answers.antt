@@ -5,4 +5,4 @@ use Rattle.state.proofs.carried_head.Goals as goal
 
 pub returns : goal.returns
 returns c =
-    head_made c.args.row _ _ _ c.header_bytes-header.ensures (search rules) c.put_u64.ensures c.copy_in.ensures
+    head_made c.args.row _ _ _ c.header_bytes.ensures (search rules) c.put_u64.ensures c.put_array.ensures.0

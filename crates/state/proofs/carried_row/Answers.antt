@@ -8,4 +8,4 @@ returns-then-blob-lt-BLOB c = row_refused _ c.args.blob.now (omega arith)
 
 pub returns : goal.returns
 returns c =
-    carried_written c.args.row c.args.ct.now c.args.blob.now _ _ _ _ (omega arith) c.carried_head-head.ensures (search rules) c.in_cell-n.ensures c.copy_in.ensures c.copy_in-2.ensures
+    carried_written c.args.row c.args.ct.now c.args.blob.now _ _ _ _ (omega arith) c.carried_head-head.ensures (search rules) c.min-n.ensures c.copy_in.ensures c.copy_in-2.ensures

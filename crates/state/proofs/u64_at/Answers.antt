@@ -1,18 +1,9 @@
--- `state::u64_at` meets its contract: by whether the bytes are there. Assumes nothing.
-use Rattle.state.proofs.ReaderLaws.{take_whole, take_short}
-use Rattle.state.specs.declared.U64Read.TheVariants as u64_read
-use Rattle.courier.proofs.Laws.{fits, fits_not}
-use Rattle.octets.specs.Bytes.{num}
-use Rattle.std.proofs.Common.{◌+◌, ap, ◌∙◌}
+use Rattle.std.proofs.Common.{◌∙◌}
+use Rattle.state.proofs.ReaderLaws.{number_some, number_none}
 use Rattle.state.proofs.u64_at.Goals as goal
 
-pub get_u64-requires : goal.get_u64-requires
-get_u64-requires c = fits (c.args.at + 8) _ _ c.within.ensures c.if-within.true
-
-pub returns-then-within : goal.returns-then-within
-returns-then-within c =
-    ap u64_read.Got c.get_u64.ensures ∙ take_whole 8 c.args.s.now c.args.at (λ b. u64_read.Got (num b)) u64_read.Short (fits (c.args.at + 8) _ _ c.within.ensures c.if-within.true)
+pub returns-in_err-array_at : goal.returns-in_err-array_at
+returns-in_err-array_at c = c.from_residual.ensures ∙ number_none 7 c.args.s.now c.args.at c.in_err-array_at.ensures
 
 pub returns : goal.returns
-returns c =
-    take_short 8 c.args.s.now c.args.at (λ b. u64_read.Got (num b)) u64_read.Short (fits_not (c.args.at + 8) _ _ c.within.ensures c.if-within.false)
+returns c = number_some 7 c.args.s.now c.args.at c.in_ok-array_at.ensures c.from_be_bytes.ensures

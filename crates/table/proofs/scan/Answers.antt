@@ -1,36 +1,14 @@
-use mathlib.Core.Path.{refl, sym, ◌∙◌}
-use mathlib.Core.Bool.{true, false}
-use Prim.Native.Nat.{◌-◌}
-use native.Mathlib.Omega.{arith}
-use Rattle.table.proofs.RowLaws.{row_in}
-use Rattle.table.proofs.FindLaws.{find_next, find_end, found_at}
+use Rattle.std.proofs.Common.{◌-◌, true, false, sym, ◌∙◌, arith}
+use Rattle.table.proofs.FindLaws.{find_next, rows_end, found_at}
 use Rattle.table.proofs.scan.Goals as goal
 
 pub loop-i-init : goal.loop-i-init
-loop-i-init c = (omega arith, (refl, sym (find_end _ _ _ _ _ c.requires.1 c.args.n (omega arith))))
-
-pub overflow_mul-i : goal.overflow_mul-i
-overflow_mul-i c = omega (arith, row_in (c.loop-i.i - 1) c.args.n c.args.width (omega arith))
-
-pub overflow_add-i : goal.overflow_add-i
-overflow_add-i c = omega (arith, row_in (c.loop-i.i - 1) c.args.n c.args.width (omega arith))
-
-pub same-requires : goal.same-requires
-same-requires c = omega (arith, row_in (c.loop-i.i - 1) c.args.n c.args.width (omega arith))
+loop-i-init c = sym (rows_end _ _ _ _ c.args.n (omega arith))
 
 pub loop-i-preserved-then-same : goal.loop-i-preserved-then-same
-loop-i-preserved-then-same c =
-    (omega arith, (c.loop-i.invariant.1.0, sym (find_next _ _ _ _ _ c.requires.1 (c.loop-i.i - 1) (omega arith) true _ c.same.ensures c.if-same.true)))
+loop-i-preserved-then-same c = sym (find_next _ _ _ _ _ c.requires.1 (c.loop-i.i - 1) (omega arith) true _ c.same.ensures c.if-same.true)
 
 pub loop-i-preserved : goal.loop-i-preserved
-loop-i-preserved c = (
-  omega arith,
-  (
-    c.loop-i.invariant.1.0,
-    found_at _ _ (omega arith) c.loop-i.invariant.1.1
-        ∙ sym (find_next _ _ _ _ _ c.requires.1 (c.loop-i.i - 1) (omega arith) false _ c.same.ensures c.if-same.false),
-  ),
-)
-
-pub returns : goal.returns
-returns c = found_at _ _ (omega arith) c.loop-i.invariant.1.1
+loop-i-preserved c =
+    found_at _ _ (omega arith) c.loop-i.invariant
+    ∙ sym (find_next _ _ _ _ _ c.requires.1 (c.loop-i.i - 1) (omega arith) false _ c.same.ensures c.if-same.false)

@@ -4,14 +4,6 @@ use Rattle.text.proofs.TextLaws.{digits_decimal, few, length_digits}
 use Rattle.octets.specs.Bytes.{splice}
 use Rattle.text.proofs.put_decimal.Goals as goal
 
-pub copy_in-requires : goal.copy_in-requires
-copy_in-requires c =
-    let d = c.decimal-k.ensures in
-    omega (arith, few c.decimal-k.result c.args.n d.len c.ranges.n.fits, ap length d.digits, length_digits 10 c.decimal-k.result c.args.n)
-
-pub overflow_add-result : goal.overflow_add-result
-overflow_add-result c = omega (arith, few c.decimal-k.result c.args.n c.decimal-k.ensures.len c.ranges.n.fits)
-
 pub returns : goal.returns
 returns c =
     let k = c.decimal-k.result in

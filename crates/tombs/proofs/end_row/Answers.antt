@@ -6,20 +6,12 @@ use Rattle.tombs.proofs.end_row.Goals as goal
 
 pub overflow_mul-i : goal.overflow_mul-i
 overflow_mul-i c =
-    omega (arith, row_within (length c.args.own.now) 54 c.args.device.own c.args.i c.requires.0)
+    omega (arith, row_within (length c.args.own.now) 54 c.args.device.now.own c.args.i c.requires.0)
 
 pub own_at-row-requires : goal.own_at-row-requires
 own_at-row-requires c =
-    row_within (length c.args.own.now) 54 c.args.device.own c.args.i c.requires.0
-
-pub overflow_add-result : goal.overflow_add-result
-overflow_add-result c =
-    omega (arith, c.store_tombstone-after.ensures.1)
-
-pub shape_of-actions : goal.shape_of-actions
-shape_of-actions c =
-    omega (arith, c.store_tombstone-after.auto, c.put_queued.auto)
+    row_within (length c.args.own.now) 54 c.args.device.now.own c.args.i c.requires.0
 
 pub returns : goal.returns
 returns c a h =
-    row_ends _ _ _ _ _ _ _ _ c.requires.0 c.requires.1.1 a h c.own_at-row.ensures c.put_queued.ensures c.remove_own-n.ensures c.store_tombstone-after.ensures.0 c.store_tombstone-after.ensures.1 c.device_with.ensures
+    row_ends _ _ _ _ _ _ _ _ c.requires.0 c.requires.1.1 a h c.own_at-row.ensures c.put_queued.ensures c.remove_row-device.ensures c.store_tombstone.ensures.0 c.store_tombstone.ensures.1

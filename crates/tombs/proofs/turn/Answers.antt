@@ -10,16 +10,12 @@ returns-then-tombstones-count c a = no_row _ _ _ _ _ _ _ c.fit-count.ensures.is 
 
 pub overflow_mul-i : goal.overflow_mul-i
 overflow_mul-i c =
-    omega (arith, row_within (length c.args.carried.now) 57 c.args.device.carried c.args.i c.requires.0)
+    omega (arith, row_within (length c.args.carried.now) 57 c.args.device.now.carried c.args.i c.requires.0)
 
 pub carried_at-row-requires : goal.carried_at-row-requires
 carried_at-row-requires c =
-    row_within (length c.args.carried.now) 57 c.args.device.carried c.args.i c.requires.0
-
-pub insert_by_slot-m-requires : goal.insert_by_slot-m-requires
-insert_by_slot-m-requires c =
-    omega (arith, c.fit-count.ensures.is)
+    row_within (length c.args.carried.now) 57 c.args.device.now.carried c.args.i c.requires.0
 
 pub returns : goal.returns
 returns c a =
-    has_row _ _ _ _ _ _ _ c.fit-count.ensures.is a (omega arith) (turns _ _ _ _ _ _ _ a c.requires.0 c.carried_at-row.ensures c.turned.ensures c.insert_by_slot-m.ensures c.remove_carried-n.ensures c.put_courier.ensures c.device_with.ensures)
+    has_row _ _ _ _ _ _ _ c.fit-count.ensures.is a (omega arith) (turns _ _ _ _ _ _ _ a c.requires.0 c.carried_at-row.ensures c.turned.ensures c.insert_by_slot-device.ensures c.remove_row-device.ensures c.put_courier.ensures)

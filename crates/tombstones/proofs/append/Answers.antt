@@ -4,4 +4,4 @@ use Rattle.tombstones.proofs.append.Goals as goal
 
 pub returns : goal.returns
 returns c =
-    grown_added _ _ _ _ _ _ _ c.fit-n.ensures.is c.device_after.ensures c.push_tombstone-m.ensures
+    grown_added _ _ _ _ _ _ _ c.fit-n.ensures.is c.push_tombstone.ensures.1 c.push_tombstone.ensures.0

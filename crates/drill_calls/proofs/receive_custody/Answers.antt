@@ -1,0 +1,16 @@
+-- The tag is the body's, and the call is the record's.
+use Rattle.std.proofs.Common.{◌≡◌, length, rules}
+use Rattle.octets.specs.Bytes.{part}
+use Rattle.model.specs.Calls as calls
+use Rattle.wire.specs.Log as log
+use Rattle.drill_calls.specs.Asking.{acted_told, tables_in}
+use Rattle.drill_calls.proofs.AskLaws.{asked}
+use Rattle.drill_calls.proofs.DrillLaws.{on_actions}
+use Rattle.drill_calls.proofs.StepLaws.{custody_told_lem}
+use Rattle.drill_calls.proofs.receive_custody.Goals as goal
+
+pub returns : goal.returns
+returns c =
+    let k : length c.args.tables.now.actions ≡ 19968 = search rules in
+    asked acted_told (log.custody c.args.peer (part c.args.body.now 8 16) c.args.code) (λ i. calls.custody_answer (k i) c.args.peer (c.tag_in.ensures i) c.args.code)
+    (λ s. custody_told_lem s _ _ _ _) (on_actions _ (tables_in c.args.device.now c.args.exchange.now c.args.tables.now) _ c.handed_over.ensures.does) c.acted.ensures

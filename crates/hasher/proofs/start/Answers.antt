@@ -1,5 +1,0 @@
-use Rattle.hasher.proofs.TakenLaws.{taken_none}
-use Rattle.hasher.proofs.start.Goals as goal
-
-pub returns : goal.returns
-returns c = taken_none _ _ c.start-state.ensures

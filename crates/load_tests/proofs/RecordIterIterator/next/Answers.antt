@@ -1,0 +1,31 @@
+-- `next`: a record that is whole, or none is left. Assumes nothing.
+use Rattle.std.proofs.Common.{length, ap, arith}
+use Rattle.load_tests.specs.Records.{left}
+use Rattle.load_tests.proofs.RecordLaws.{size_least, sized, records_none, records_next}
+use Rattle.load_tests.proofs.RecordIterIterator.next.Goals as goal
+
+pub returns-then-self-lt12-clause-steps : goal.returns-then-self-lt12-clause-steps
+unfolding left
+returns-then-self-lt12-clause-steps c =
+    let b = c.args.self.now.rest.now in
+    let e = records_none (length b) b (omega (arith, size_least b, c.if-self-lt12.true)) in
+    (e, e)
+
+pub returns-then-self-n-clause-steps : goal.returns-then-self-n-clause-steps
+unfolding left
+returns-then-self-n-clause-steps c =
+    let b = c.args.self.now.rest.now in
+    let e = records_none (length b) b (omega (arith, sized b c.get_u16.ensures, c.if-self-n.true)) in
+    (e, e)
+
+pub returns-clause-steps : goal.returns-clause-steps
+unfolding left
+returns-clause-steps c =
+    rw (c.split_at.ensures.front, c.split_at.ensures.back) (records_next _ _ (sized _ c.get_u16.ensures) c.if-self-n.false)
+
+pub returns-clause-goes : goal.returns-clause-goes
+returns-clause-goes c = record {
+  on = λ _. (tt, tt, omega (arith, ap length (returns-clause-steps c)));
+  keeps = tt;
+  rests = λ _. tt;
+}

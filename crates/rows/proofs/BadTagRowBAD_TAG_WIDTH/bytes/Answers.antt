@@ -1,0 +1,16 @@
+-- The fields are written one after the other, and fill the array.
+use Rattle.std.proofs.Common.{refl, rules}
+use Rattle.octets.proofs.Numbers.{bytes_of}
+use Rattle.rows.specs.Rows.{bad_tag_bytes}
+use Rattle.rows.proofs.Laid.{start, run, number, whole}
+use Rattle.rows.proofs.BadTagRowBAD_TAG_WIDTH.bytes.Goals as goal
+
+pub returns-clause-value : goal.returns-clause-value
+unfolding bad_tag_bytes
+returns-clause-value c = whole (run _ (number 8 _ start c.put_u64.ensures) c.put_array.ensures) refl
+
+pub returns-clause-proper : goal.returns-clause-proper
+returns-clause-proper c = record {
+  peer = search rules;
+  tag = record { size = search rules; bytes = bytes_of _ (λ i. search rules) };
+}

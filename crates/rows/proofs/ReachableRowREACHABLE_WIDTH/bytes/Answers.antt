@@ -1,0 +1,19 @@
+-- The fields are written one after the other, and fill the array.
+use Rattle.std.proofs.Common.{refl, rules}
+use Rattle.octets.proofs.Numbers.{bytes_of}
+use Rattle.rows.specs.Rows.{reachable_bytes}
+use Rattle.rows.proofs.Laid.{start, run, number, whole}
+use Rattle.rows.proofs.ReachableRowREACHABLE_WIDTH.bytes.Goals as goal
+
+pub returns-clause-value : goal.returns-clause-value
+unfolding reachable_bytes
+returns-clause-value c = whole (run _ (number 4 _ (number 1 _ (number 1 _ (number 8 _ start c.put_u64.ensures) c.put_u8.ensures) c.put_u8-2.ensures) c.put_u32.ensures) c.put_array.ensures) refl
+
+pub returns-clause-proper : goal.returns-clause-proper
+returns-clause-proper c = record {
+  contact = search rules;
+  dir = search rules;
+  generation = search rules;
+  idx = search rules;
+  tag = record { size = search rules; bytes = bytes_of _ (λ i. search rules) };
+}
