@@ -285,7 +285,7 @@ goosetable_answer goosetable_fresh_exchange(
  * a put of its slot. 4 and 6 come only where the code would be Accepted.
  * Writes: device, carried, carried_cells, replies, actions.
  * Refused by: 1 (replies, actions), 12, 2, 4, 6.
- * Stack: 600 bytes.
+ * Stack: 548 bytes.
  */
 goosetable_answer goosetable_envelope(
     uint8_t device[GOOSETABLE_DEVICE_SIZE],
@@ -339,7 +339,7 @@ goosetable_answer goosetable_fetch(
  * there.
  * Writes: device, own, own_cells, row.
  * Refused by: 12, 2, 10, 11, 4.
- * Stack: 5,352 bytes.
+ * Stack: 5,512 bytes.
  */
 goosetable_answer goosetable_own_envelope(
     uint8_t device[GOOSETABLE_DEVICE_SIZE],
@@ -365,7 +365,7 @@ goosetable_answer goosetable_own_envelope(
  * tombstoned too, copies of any number. The host sends them in lists of at most 500, and an empty one last.
  * Writes: prefixes.
  * Refused by: 1 (prefixes), 2.
- * Stack: 40 bytes.
+ * Stack: 32 bytes.
  */
 goosetable_answer goosetable_inventory_of_ours(
     const uint8_t device[GOOSETABLE_DEVICE_SIZE],
@@ -417,7 +417,7 @@ goosetable_answer goosetable_inventory(
  * copies off, stopping at 0, of the carried row with the tag or else of the own row, and lists its put or own put.
  * Writes: device, exchange, own, carried, offers, actions.
  * Refused by: 13, 1 (prefixes, offers, actions), 2, 3.
- * Stack: 188 bytes.
+ * Stack: 232 bytes.
  */
 goosetable_answer goosetable_custody_code(
     uint8_t device[GOOSETABLE_DEVICE_SIZE],
@@ -444,7 +444,7 @@ goosetable_answer goosetable_custody_code(
  * lowest slot among equals. Actions: that delete, and the put.
  * Writes: device, tombstones, actions.
  * Refused by: 1 (actions), 5, 6.
- * Stack: 125 bytes.
+ * Stack: 184 bytes.
  */
 goosetable_answer goosetable_stored_tombstone(
     uint8_t device[GOOSETABLE_DEVICE_SIZE],
@@ -462,7 +462,7 @@ goosetable_answer goosetable_stored_tombstone(
  * goosetable_stored_tombstone. A wrong secret is MALFORMED; an unknown tag changes nothing, and is DONE.
  * Writes: device, own, carried, tombstones, actions.
  * Refused by: 1 (actions), 2, 5, 6.
- * Stack: 4,584 bytes.
+ * Stack: 4,568 bytes.
  */
 goosetable_answer goosetable_tomb(
     uint8_t device[GOOSETABLE_DEVICE_SIZE],
@@ -482,7 +482,7 @@ goosetable_answer goosetable_tomb(
  * goosetable_stored_tombstone, with the expiry at most the lifetime's end, and the actions are that call's.
  * Writes: device, tombstones, replies, actions.
  * Refused by: 1 (replies, actions), 2, 5, 6.
- * Stack: 197 bytes.
+ * Stack: 248 bytes.
  */
 goosetable_answer goosetable_opened(
     uint8_t device[GOOSETABLE_DEVICE_SIZE],
@@ -520,7 +520,7 @@ goosetable_answer goosetable_failed(
  * with a delete, by slot.
  * Writes: device, own, carried, tombstones, actions.
  * Refused by: 1 (actions).
- * Stack: 178 bytes.
+ * Stack: 180 bytes.
  */
 goosetable_answer goosetable_maintenance(
     uint8_t device[GOOSETABLE_DEVICE_SIZE],
@@ -537,7 +537,7 @@ goosetable_answer goosetable_maintenance(
  * The blob of the held row in a slot, and in length its bytes; MISSING if no row has the slot. This is what the host stores for a put.
  * Writes: blob.
  * Refused by: 1 (blob).
- * Stack: 120 bytes.
+ * Stack: 112 bytes.
  */
 goosetable_answer goosetable_row_blob(
     const uint8_t device[GOOSETABLE_DEVICE_SIZE],
@@ -556,7 +556,7 @@ goosetable_answer goosetable_row_blob(
  * before, there may be more carried rows than cells that count: the first so many are saved, and the others are not.
  * Writes: file.
  * Refused by: 1 (file).
- * Stack: 2,296 bytes.
+ * Stack: 2,312 bytes.
  */
 goosetable_answer goosetable_save(
     const uint8_t device[GOOSETABLE_DEVICE_SIZE],
@@ -600,7 +600,7 @@ goosetable_answer goosetable_page(
  * number of rows (1,024 tombstones: about a hundred times as long). Of areas that calls left, goosetable_save writes no file whose slots do not rise.
  * Writes: device, carried, tombstones, carried_cells.
  * Refused by: 8, 4, 5.
- * Stack: 6,580 bytes.
+ * Stack: 6,564 bytes.
  */
 goosetable_answer goosetable_load(
     uint8_t device[GOOSETABLE_DEVICE_SIZE],
@@ -623,7 +623,7 @@ goosetable_answer goosetable_load(
  * their first 14 bytes (contact, direction, generation, index) as memcmp compares them, and keeps one of each key.
  * Writes: answer.
  * Refused by: 1 (answer), 12.
- * Stack: 88 bytes.
+ * Stack: 80 bytes.
  */
 goosetable_answer goosetable_window(
     const uint8_t *skipped,
@@ -640,7 +640,7 @@ goosetable_answer goosetable_window(
  * of keys, the index counts along it.
  * Writes: tag.
  * Refused by: 12.
- * Stack: 4,888 bytes.
+ * Stack: 4,968 bytes.
  */
 goosetable_answer goosetable_route_tag(
     const uint8_t route_key[GOOSETABLE_KEY_SIZE],

@@ -8,12 +8,8 @@ use lib.ListN.{length-append}
 use lib.Seq.{take_at, drop-append-add}
 use Rattle.octets.specs.Bytes.{splice, be}
 use Rattle.octets.proofs.Numbers.{length_be}
-use Rattle.courier.specs.declared.Header.{Header}
-use Rattle.courier.specs.Tags.{commitment_of}
-use Rattle.rows.specs.declared.Own.{Own}
 use Rattle.rows.specs.declared.Reply.{Reply}
 use Rattle.rows.specs.Rows.{reply_bytes}
-use Rattle.model.specs.Exchange.{own_envelope_of}
 
 -- a reply with its whole body has 40 bytes
 pub length_reply : (r : Reply) → length r.body ≡ 37 → length (reply_bytes r) ≡ 40
@@ -31,9 +27,3 @@ tag_and_more tag more y z l e f =
     ∙ ap₂ (λ (x w : List ℕ). x ++ more ++ w) (take_at tag R 16 l)
     (ap (λ (n : ℕ). drop (n + length more) (tag ++ R)) (sym l) ∙ drop-append-add tag R (length more))
     ∙ append_assoc tag more (drop (length more) R)
-
--- the header with the commitment of the row's secret
-pub own_head : (o : Own) (k : List ℕ) → k ≡ commitment_of o.s
-    → ◌≡◌ {A = Header} (record { tag = o.tag; c = k; expiry_min = o.expiry_min; copies = o.copies }) (own_envelope_of o).head
-unfolding own_envelope_of
-own_head o k e = ap (λ (x : List ℕ). record { tag = o.tag; c = x; expiry_min = o.expiry_min; copies = o.copies }) e

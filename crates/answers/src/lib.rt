@@ -13,6 +13,9 @@ use rows::{Action, Carried, Own, Reply, Row};
 
 // ---- the header of a row's envelope, and its cell as a reply says it
 
+// (A function for each kind of row: an own row has the secret, of which the commitment is taken. An array field goes into a literal through a
+// local: put there straight, the borrow check does not cover it.)
+#[tactic(auto, unfolding(model::specs::Exchange::own_envelope_of))]
 pub fn own_header(row: Own) -> Header
     ensures { result ≡ (own_envelope_of row).head }
 {
@@ -25,6 +28,7 @@ pub fn own_header(row: Own) -> Header
     }
 }
 
+#[tactic(auto, unfolding(model::specs::Exchange::carried_envelope_of))]
 pub fn carried_header(row: Carried) -> Header
     ensures { result ≡ (carried_envelope_of row).head }
 {
@@ -41,12 +45,22 @@ pub fn carried_header(row: Carried) -> Header
 // In a reply, the cell of a row that names one past the 256 that count: it has no ciphertext.
 pub const NO_CELL: u16 = 65535;
 
+// The first number of a carried cell: those before it are of own cells.
+const FIRST_CARRIED: u16 = 256;
+
+// The cells of an area that count, at most.
+const MAX_CELLS: u16 = 256;
+
 // A cell that counts, from the first number of its kind on.
 fn cell_from(first: u16, cell: u16) -> u16
     requires { first ≤ 256 }
     ensures { result ≡ cell_from first cell }
 {
-    if cell < 256 { first + cell } else { NO_CELL }
+    if cell < MAX_CELLS {
+        first + cell
+    } else {
+        NO_CELL
+    }
 }
 
 pub fn own_cell(cell: u16) -> u16
@@ -58,17 +72,29 @@ pub fn own_cell(cell: u16) -> u16
 pub fn carried_cell(cell: u16) -> u16
     ensures { result ≡ reply_cell of_carried cell }
 {
-    cell_from(256, cell)
+    cell_from(FIRST_CARRIED, cell)
 }
 
+// ---- rows that are written
+
+// Each function from here on writes one action or one reply at a place: its kind and its fields are all that differs. (They ask room for the row
+// at that place. Given a part of the area in place of the area and the place, every caller would cut it, and owe the same.)
+
 // ---- actions
+
+// The kind of an action, as its row has it.
+const PUT: u8 = 0;
+
+const DELETE: u8 = 1;
+
+const PUT_QUEUED: u8 = 2;
 
 pub fn put_courier(actions: &mut [u8], at: usize, slot: u64)
     requires { at + 13 ≤ length actions.old }
     ensures { actions.new ≡ splice actions.old at (action_bytes (put_courier slot)) }
 {
     let row = Action {
-        kind: 0,
+        kind: PUT,
         number: slot,
         msgno: 0,
     };
@@ -80,7 +106,7 @@ pub fn delete_courier(actions: &mut [u8], at: usize, slot: u64)
     ensures { actions.new ≡ splice actions.old at (action_bytes (delete_courier slot)) }
 {
     let row = Action {
-        kind: 1,
+        kind: DELETE,
         number: slot,
         msgno: 0,
     };
@@ -92,7 +118,7 @@ pub fn put_queued(actions: &mut [u8], at: usize, id: ContactId, msgno: u32)
     ensures { actions.new ≡ splice actions.old at (action_bytes (put_queued id msgno)) }
 {
     let row = Action {
-        kind: 2,
+        kind: PUT_QUEUED,
         number: id.0,
         msgno,
     };
@@ -100,6 +126,15 @@ pub fn put_queued(actions: &mut [u8], at: usize, id: ContactId, msgno: u32)
 }
 
 // ---- replies
+
+// The kind of a reply, as its row has it.
+const FETCH: u8 = 0;
+
+const ENVELOPE: u8 = 1;
+
+const CUSTODY: u8 = 2;
+
+const TOMB: u8 = 3;
 
 // The body of a reply: a tag, what follows it, and zeros.
 fn body_of(tag: [u8; 16], more: &[u8]) -> [u8; 37]
@@ -117,7 +152,7 @@ pub fn put_fetch(replies: &mut [u8], at: usize, tag: [u8; 16])
     ensures { replies.new ≡ splice replies.old at (reply_bytes (fetch_reply tag)) }
 {
     let row = Reply {
-        kind: 0,
+        kind: FETCH,
         cell: 0,
         body: body_of(tag, &tag[..0]),
     };
@@ -130,7 +165,7 @@ pub fn put_envelope(replies: &mut [u8], at: usize, cell: u16, head: Header)
     ensures { replies.new ≡ splice replies.old at (reply_bytes (envelope_row cell head)) }
 {
     let row = Reply {
-        kind: 1,
+        kind: ENVELOPE,
         cell,
         body: courier::header_bytes(head),
     };
@@ -142,7 +177,7 @@ pub fn put_custody(replies: &mut [u8], at: usize, tag: [u8; 16], code: Custody)
     ensures { replies.new ≡ splice replies.old at (reply_bytes (custody_reply tag code)) }
 {
     let row = Reply {
-        kind: 2,
+        kind: CUSTODY,
         cell: 0,
         body: body_of(tag, &[code.code()]),
     };
@@ -154,7 +189,7 @@ pub fn put_tomb(replies: &mut [u8], at: usize, tag: [u8; 16], s: [u8; 16])
     ensures { replies.new ≡ splice replies.old at (reply_bytes (tomb_reply tag s)) }
 {
     let row = Reply {
-        kind: 3,
+        kind: TOMB,
         cell: 0,
         body: body_of(tag, &s),
     };

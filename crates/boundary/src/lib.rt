@@ -63,11 +63,10 @@ pub fn device_of(area: &[u8; 60]) -> Device
 fn device_bytes(enabled: u8, device: Device) -> [u8; 60]
     ensures { result ≡ device_bytes enabled device }
 {
-    let courier = device.courier;
     let mut b = [0u8; 60];
     octets::put_u8(&mut b, 0, enabled);
-    octets::put_u8(&mut b, 1, courier.copies);
-    octets::put_u16(&mut b, 2, courier.lifetime_min);
+    octets::put_u8(&mut b, 1, device.courier.copies);
+    octets::put_u16(&mut b, 2, device.courier.lifetime_min);
     octets::put_u64(&mut b, 4, device.now_s);
     octets::put_u64(&mut b, 12, device.contacts as u64);
     octets::put_u64(&mut b, 20, device.own as u64);

@@ -6,16 +6,24 @@ use mathlib.Core.List.{List, [], ◌∷◌, map}
 use Prim.Native.Nat.{ℕ, ◌+◌, ◌*◌, ◌≤◌, ◌<◌}
 use native.Mathlib.Nat.{add-zero}
 use native.Mathlib.Omega.{arith}
-use lib.ListN.{drop, length-map, drop_of_length-le}
+use lib.ListN.{length, drop, length-map, drop_of_length-le}
 use lib.Dec.{ltb}
 use borrow.Author.Tests.{lt-leb, le-leb, ltb-true, ltb-false}
 use Rattle.octets.specs.Bytes.{part, num}
 use Rattle.octets.proofs.Parts.{part_part}
-use Rattle.table.specs.Rows.{rows}
+use Rattle.table.specs.Codec.{Codec, table_of}
+use Rattle.table.specs.Tables.{rows_in}
 use Rattle.table.proofs.ListLaws.{map_drop}
-use Rattle.table.proofs.RowLaws.{length_rows, rows_next}
+use Rattle.table.proofs.RowLaws.{held_all}
+use Rattle.table.specs.declared.Table.{Table}
+use Rattle.table.proofs.TableLaws.{length_table, table_held, table_next}
+use Rattle.rows.specs.declared.Carried.{Carried}
+use Rattle.rows.specs.declared.Tombstone.{Tombstone}
+use Rattle.rows.specs.Rows.{carried_codec, carried_of, tombstone_codec, tombstone_of}
 use Rattle.model.specs.Basics.{merge}
-use Rattle.by_slot.specs.BySlot.{rows_left}
+use Rattle.model.proofs.Laws.{length_merge}
+use Rattle.by_slot.specs.declared.held.Held.{Held}
+use Rattle.by_slot.specs.BySlot.{Fitted, rows_left}
 
 -- ---- the first of two lists
 
@@ -48,52 +56,102 @@ slot_of a at w wide = ap num (part_part a at w 0 8 (omega arith) ∙ ap (λ (k :
 
 -- ---- the rows of a table from i on, each made into something else
 
-module _ {A : Type 0} (f : List ℕ → A) (w n : ℕ) (a : List ℕ) (i : ℕ) where
-  abbrev R : List A
-  R = map f (rows w n a)
+module _ {A E : Type 0} (c : Codec A) (f : A → E) (n : ℕ) (a : List ℕ) (wide : 0 < c.width) (fits : n * c.width ≤ length a) where
+  abbrev R : List E
+  R = map f (table_of c n a)
 
-  row_next : i < n → drop i R ≡ f (part a (i * w) w) ∷ drop (i + 1) R
-  row_next h =
-      sym (map_drop f i (rows w n a)) ∙ ap (map f) (rows_next w i n a h)
-      ∙ ap (λ (l : List A). f (part a (i * w) w) ∷ l) (map_drop f (i + 1) (rows w n a))
+  pub length_rows_in : length (table_of c n a) ≡ n
+  length_rows_in = length_table c n a ∙ held_all (length a) c.width n wide fits
 
-  no_row : n ≤ i → drop i R ≡ []
-  no_row h = drop_of_length-le R {i = i} (omega (arith, length-map (rows w n a) f, length_rows w n a))
+  row_next : (i : ℕ) → i < n → drop i R ≡ f (c.decode (part a (i * c.width) c.width)) ∷ drop (i + 1) R
+  row_next i h =
+      sym (map_drop f i (table_of c n a)) ∙ ap (map f) (table_next c n a i (omega (arith, held_all (length a) c.width n wide fits)))
+      ∙ ap (λ (l : List E). f (c.decode (part a (i * c.width) c.width)) ∷ l) (map_drop f (i + 1) (table_of c n a))
+
+  no_row : (i : ℕ) → n ≤ i → drop i R ≡ []
+  no_row i h = drop_of_length-le R {i = i} (omega (arith, length-map (table_of c n a) f, length_rows_in))
+
+-- ---- the rows that fit are those of the tables by the counts that were given
+
+module _ {carried : Table 57} {tombstones : Table 44} {h : Held} (F : Fitted carried tombstones h) where
+  pub carried_fitted : rows_in carried_codec h.carried ≡ rows_in carried_codec carried
+  carried_fitted =
+      ap (table_of carried_codec h.carried.count) F.carried_area
+      ∙ table_held carried_codec carried.count h.carried.count carried.area.now (omega arith) F.carried_count
+
+  pub tombstones_fitted : rows_in tombstone_codec h.tombstones ≡ rows_in tombstone_codec tombstones
+  tombstones_fitted =
+      ap (table_of tombstone_codec h.tombstones.count) F.tombstones_area
+      ∙ table_held tombstone_codec tombstones.count h.tombstones.count tombstones.area.now (omega arith) F.tombstones_count
 
 -- ---- what is left of both tables
 
-pub none_left : {A : Type 0} (slot : A → ℕ) (C T : List ℕ → A) (ca to : List ℕ) (n m p q : ℕ) → n ≤ p → m ≤ q → rows_left slot C T ca to n m p q ≡ []
-unfolding rows_left merge
-none_left slot C T ca to n m p q h k = ap₂ (merge slot) (no_row C 57 n ca p h) (no_row T 44 m to q k)
-
-module _ {A : Type 0} (slot : A → ℕ) (C T : List ℕ → A) (ca to : List ℕ) (n m : ℕ) (slot_c : (b : List ℕ) → slot (C b) ≡ num (part b 0 8))
-    (slot_t : (b : List ℕ) → slot (T b) ≡ num (part b 0 8)) where
+module _ {A : Type 0} (slot : A → ℕ) (f : Carried → A) (g : Tombstone → A) (h : Held) where
   abbrev L : (p q : ℕ) → List A
-  L p q = rows_left slot C T ca to n m p q
+  L p q = rows_left slot f g h p q
 
-  module _ (p q : ℕ) where
-    carried_at : slot (C (part ca (p * 57) 57)) ≡ num (part ca (p * 57) 8)
-    carried_at = slot_c (part ca (p * 57) 57) ∙ slot_of ca (p * 57) 57 (omega arith)
+  abbrev n : ℕ
+  n = h.carried.count
 
-    tombstone_at : slot (T (part to (q * 44) 44)) ≡ num (part to (q * 44) 8)
-    tombstone_at = slot_t (part to (q * 44) 44) ∙ slot_of to (q * 44) 44 (omega arith)
+  abbrev m : ℕ
+  m = h.tombstones.count
 
-    pub next_carried : p < n → (q < m → num (part ca (p * 57) 8) ≤ num (part to (q * 44) 8)) → L p q ≡ C (part ca (p * 57) 57) ∷ L (p + 1) q
+  abbrev carried_at : ℕ → Carried
+  carried_at p = carried_of (part h.carried.area.now (p * 57) 57)
+
+  abbrev tombstone_at : ℕ → Tombstone
+  tombstone_at q = tombstone_of (part h.tombstones.area.now (q * 44) 44)
+
+  next_c : (p : ℕ) → p < n → drop p (map f (rows_in carried_codec h.carried)) ≡ f (carried_at p) ∷ drop (p + 1) (map f (rows_in carried_codec h.carried))
+  next_c p l = row_next carried_codec f n h.carried.area.now (omega arith) h.carried_fit p l
+
+  next_t : (q : ℕ) → q < m → drop q (map g (rows_in tombstone_codec h.tombstones)) ≡ g (tombstone_at q) ∷ drop (q + 1) (map g (rows_in tombstone_codec h.tombstones))
+  next_t q l = row_next tombstone_codec g m h.tombstones.area.now (omega arith) h.tombstones_fit q l
+
+  none_c : (p : ℕ) → n ≤ p → drop p (map f (rows_in carried_codec h.carried)) ≡ []
+  none_c p l = no_row carried_codec f n h.carried.area.now (omega arith) h.carried_fit p l
+
+  none_t : (q : ℕ) → m ≤ q → drop q (map g (rows_in tombstone_codec h.tombstones)) ≡ []
+  none_t q l = no_row tombstone_codec g m h.tombstones.area.now (omega arith) h.tombstones_fit q l
+
+  pub length_all : length (L 0 0) ≡ n + m
+  unfolding rows_left
+  length_all =
+      length_merge slot (map f (rows_in carried_codec h.carried)) (map g (rows_in tombstone_codec h.tombstones))
+      ∙ ap₂ ◌+◌ (length-map (rows_in carried_codec h.carried) f ∙ length_rows_in carried_codec f n h.carried.area.now (omega arith) h.carried_fit)
+      (length-map (rows_in tombstone_codec h.tombstones) g ∙ length_rows_in tombstone_codec g m h.tombstones.area.now (omega arith) h.tombstones_fit)
+
+  pub none_left : (p q : ℕ) → n ≤ p → m ≤ q → L p q ≡ []
+  unfolding rows_left merge
+  none_left p q l k = ap₂ (merge slot) (none_c p l) (none_t q k)
+
+  module _ (slot_f : (r : Carried) → slot (f r) ≡ r.slot) (slot_g : (t : Tombstone) → slot (g t) ≡ t.slot) (p q : ℕ) where
+    slot_c : slot (f (carried_at p)) ≡ num (part h.carried.area.now (p * 57) 8)
+    unfolding carried_of
+    slot_c = slot_f (carried_at p) ∙ slot_of h.carried.area.now (p * 57) 57 (omega arith)
+
+    slot_t : slot (g (tombstone_at q)) ≡ num (part h.tombstones.area.now (q * 44) 8)
+    unfolding tombstone_of
+    slot_t = slot_g (tombstone_at q) ∙ slot_of h.tombstones.area.now (q * 44) 44 (omega arith)
+
+    pub next_carried : p < n → (q < m → num (part h.carried.area.now (p * 57) 8) ≤ num (part h.tombstones.area.now (q * 44) 8))
+        → L p q ≡ f (carried_at p) ∷ L (p + 1) q
     unfolding rows_left
-    next_carried h le = go (ltb q m) refl
+    next_carried l le = go (ltb q m) refl
       where
-        go : (b : Bool) → ltb q m ≡ b → L p q ≡ C (part ca (p * 57) 57) ∷ L (p + 1) q
+        go : (b : Bool) → ltb q m ≡ b → L p q ≡ f (carried_at p) ∷ L (p + 1) q
         go true e =
             let k : q < m = ltb-true q m e in
-            rw (row_next C 57 n ca p h, row_next T 44 m to q k) (merge_left slot _ _ _ _ (omega (arith, le k, carried_at, tombstone_at)))
-        go false e = rw (row_next C 57 n ca p h, no_row T 44 m to q (ltb-false q m e)) (merge_left_end slot _ _)
+            rw (next_c p l, next_t q k) (merge_left slot _ _ _ _ (omega (arith, le k, slot_c, slot_t)))
+        go false e = rw (next_c p l, none_t q (ltb-false q m e)) (merge_left_end slot _ _)
 
-    pub next_tombstone : q < m → (p < n → num (part to (q * 44) 8) < num (part ca (p * 57) 8)) → L p q ≡ T (part to (q * 44) 44) ∷ L p (q + 1)
+    pub next_tombstone : q < m → (p < n → num (part h.tombstones.area.now (q * 44) 8) < num (part h.carried.area.now (p * 57) 8))
+        → L p q ≡ g (tombstone_at q) ∷ L p (q + 1)
     unfolding rows_left
-    next_tombstone h lt = go (ltb p n) refl
+    next_tombstone l lt = go (ltb p n) refl
       where
-        go : (b : Bool) → ltb p n ≡ b → L p q ≡ T (part to (q * 44) 44) ∷ L p (q + 1)
+        go : (b : Bool) → ltb p n ≡ b → L p q ≡ g (tombstone_at q) ∷ L p (q + 1)
         go true e =
             let k : p < n = ltb-true p n e in
-            rw (row_next T 44 m to q h, row_next C 57 n ca p k) (merge_right slot _ _ _ _ (omega (arith, lt k, carried_at, tombstone_at)))
-        go false e = rw (row_next T 44 m to q h, no_row C 57 n ca p (ltb-false p n e)) (merge_right_end slot _ _)
+            rw (next_t q l, next_c p k) (merge_right slot _ _ _ _ (omega (arith, lt k, slot_c, slot_t)))
+        go false e = rw (next_t q l, none_c p (ltb-false p n e)) (merge_right_end slot _ _)

@@ -110,16 +110,16 @@ unfoldable pub window_area : List ℕ → List ℕ → List ℕ → List ℕ
 window_area answer skipped chains =
     first_of (window_tests answer skipped chains) (λ _. answer) (splice answer 0 (join (window skipped chains)))
 
--- the walk, in steps: the keys of a chain that are listed after n others, and those of all chains where reach are left
+-- the walk, in steps: the keys of a chain and those of all chains, where there is room for so many
 unfoldable pub listed_keys : ℕ → List ℕ → List (List ℕ)
-listed_keys n chain = map (key_row chain) (count (next chain) (min (max_skipped - n) (2 ^ 32 - next chain)))
+listed_keys room chain = map (key_row chain) (count (next chain) (min room (2 ^ 32 - next chain)))
 
 unfoldable pub chains_keys : ℕ → List (List ℕ) → List (List ℕ)
 chains_keys reach chains = take reach (flat_map (chain_keys reach) (reverse chains))
 
--- rows were written after n others, and r is how many there are then
-pub record ChainsListed (n : ℕ) (rs : List (List ℕ)) (before after : List ℕ) (r : ℕ) : Type 0 where
-  pub total : r ≡ n + length rs
-  pub room : r ≤ max_skipped
-  pub width : length (join rs) ≡ length rs * 6
-  pub area : after ≡ splice before (n * 6) (join rs)
+-- rows were written to the front of a room, and n is how many
+pub record ChainsListed (rs : List (List ℕ)) (before after : List ℕ) (n : ℕ) : Type 0 where
+  pub total : n ≡ length rs
+  pub room : n * 6 ≤ length before
+  pub width : length (join rs) ≡ n * 6
+  pub area : after ≡ splice before 0 (join rs)

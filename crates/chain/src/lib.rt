@@ -2,7 +2,7 @@
 // still derive.
 #![tactic(auto)]
 
-ghost use Rattle.std.specs.Prelude.{◌≡◌, ℕ, ◌+◌, ◌-◌, ◌*◌, ◌^◌, ◌<◌, ◌≤◌, min, length};
+ghost use Rattle.std.specs.Prelude.{◌≡◌, ◌/◌, ◌<◌, ◌≤◌, length};
 ghost use Rattle.octets.specs.Bytes.{splice};
 ghost use Rattle.table.specs.Lists.{any};
 ghost use Rattle.table.specs.Rows.{join, all_rows};
@@ -14,6 +14,8 @@ use courier_core::Refusal;
 pub const TAG_LEN: usize = 16;
 // Skipped keys that a receiver holds for a contact.
 pub const MAX_SKIPPED: usize = 500;
+// The bytes of so many keys' rows: the area that a window is written to.
+const ANSWER: usize = 3000;
 
 // The direction of a message chain, named after the sender's role.
 #[derive(Clone, Copy, PartialEq, Eq)]
@@ -23,6 +25,7 @@ pub enum Dir {
 }
 
 impl Dir {
+    // chain.rs's own name, and its letters: numbers of the enum would say them no plainer.
     pub fn label(self) -> u8
         ensures { result ≡ dir_label self }
     {
@@ -32,6 +35,7 @@ impl Dir {
         }
     }
 
+    // The inverse. A `TryFrom` would need an error type, which says no more than `None`.
     pub fn from_label(b: u8) -> Option<Dir>
         ensures { result ≡ dir_of b }
     {
@@ -47,10 +51,7 @@ impl Dir {
 pub fn is_bucket(n: usize) -> bool
     ensures { result ≡ is_bucket n }
 {
-    match n {
-        32 | 64 | 128 | 256 | 512 | 1024 | 2048 | 4048 => true,
-        _ => false,
-    }
+    matches!(n, 32 | 64 | 128 | 256 | 512 | 1024 | 2048 | 4048)
 }
 
 // Is the byte no direction's?
@@ -60,7 +61,9 @@ pub fn no_dir(b: u8) -> bool
     Dir::from_label(b).is_none()
 }
 
-// Are the bytes not whole rows of the width, or does a row begin with a byte that is no direction?
+// Are the bytes not whole rows of the width, or does a row begin with a byte that is no direction? A width above 0 is what the
+// division asks, as in `table`: the two callers name a number.
+#[tactic(auto, unfolding(crate::specs::Chain::wrong_table, table::specs::Rows::ragged))]
 fn wrong_table(area: &[u8], width: usize) -> bool
     requires { 0 < width }
     ensures { result ≡ wrong_table width area.now }
@@ -89,63 +92,61 @@ fn wrong_rows(skipped: &[u8], chains: &[u8]) -> bool
         || nexts_above(chains)
 }
 
-// How many keys of a chain are listed after n others: those from next up to the last index, as long as there is room.
-fn listed(n: usize, next: u64) -> usize
-    requires { n ≤ 500 }
-    ensures { result ≡ min (500 - n) (2 ^ 32 - next) }
+// A key's row: the direction and the generation of its chain, and its index.
+#[tactic(auto, using(crate::proofs::Keys::key_made), unfolding(octets::specs::Bytes::part))]
+fn key_row(chain: &[u8], idx: u32) -> [u8; 6]
+    requires { 2 ≤ length chain.now }
+    ensures { result ≡ key_row chain.now idx }
 {
-    let room = MAX_SKIPPED - n;
-    0x1_0000_0000u64.saturating_sub(next).min(room as u64) as usize
+    let mut row = [0u8; 6];
+    octets::copy_in(&mut row, 0, &chain[0..2]);
+    octets::put_u32(&mut row, 2, idx);
+    row
 }
 
-// Writes the key of the index as row n.
-fn put_key(answer: &mut [u8], n: usize, chain: &[u8], idx: u32)
-    requires { (n * 6 + 6 ≤ length answer.old) × (2 ≤ length chain.now) }
-    ensures { answer.new ≡ splice answer.old (n * 6) (key_row chain.now idx) }
-{
-    octets::copy_in(answer, n * 6, &chain[0..2]);
-    octets::put_u32(answer, n * 6 + 2, idx);
-}
-
-// Lists the keys of one chain after n others, and answers how many there are then.
-fn list_chain(answer: &mut [u8], n: usize, chain: &[u8]) -> usize
-    requires { (n ≤ 500) × ((3000 ≤ length answer.old) × (length chain.now ≡ 10)) }
-    ensures value { result ≡ n + length (listed_keys n chain.now) }
-    ensures answer_after { answer.new ≡ splice answer.old (n * 6) (join (listed_keys n chain.now)) }
+// Lists the keys of a chain from its next on, as long as there are room and indices, and answers how many.
+#[tactic(auto, using(octets::proofs::Parts::splice_nil, crate::proofs::Keys::keys_put, crate::proofs::Keys::listed_all), unfolding(crate::specs::Chain::count, table::specs::Rows::join))]
+fn list_chain(room: &mut [u8], chain: &[u8]) -> usize
+    requires { length chain.now ≡ 10 }
+    ensures value { result ≡ length (listed_keys (length room.old / 6) chain.now) }
+    ensures room_after { room.new ≡ splice room.old 0 (join (listed_keys (length room.old / 6) chain.now)) }
 {
     let next = octets::get_u64(chain, 2);
-    let k = listed(n, next);
-    for i in 0..k {
-        put_key(answer, n + i, chain, (next + i as u64) as u32);
+    let left = 0x1_0000_0000u64.saturating_sub(next);
+    let n = left.min((room.len() / 6) as u64) as usize;
+    for i in 0..n {
+        octets::put_array(room, i * 6, key_row(chain, (next + i as u64) as u32));
     }
-    n + k
+    n
 }
 
-// Lists the chains' keys after the skipped ones, from the last chain to the first.
-fn list_chains(answer: &mut [u8], skipped: usize, chains: &[u8]) -> usize
-    requires { (skipped ≤ 500) × (3000 ≤ length answer.old) }
-    ensures { ChainsListed skipped (chains_keys (500 - skipped) (all_rows 10 chains.now)) answer.old answer.new result }
+// Lists the keys of the chains, from the last chain to the first, and answers how many.
+#[tactic(auto, using(crate::proofs::Keys::listed_few))]
+fn list_chains(room: &mut [u8], chains: &[u8]) -> usize
+    ensures { ChainsListed (chains_keys (length room.old / 6) (all_rows 10 chains.now)) room.old room.new result }
 {
-    let mut n = skipped;
+    let mut n = 0;
     for i in (0..chains.len() / 10).rev() {
-        n = list_chain(answer, n, &chains[i * 10..i * 10 + 10]);
+        n += list_chain(&mut room[n * 6..], &chains[i * 10..i * 10 + 10]);
     }
     n
 }
 
 // `Receiver::window`: writes a row for each message key that a receiver could still derive, from the skipped keys and the chains
 // that it holds, and answers how many.
+#[tactic(auto, using(crate::proofs::Keys::right_rows), unfolding(crate::specs::Chain::window_says, crate::specs::Chain::window_answer, crate::specs::Chain::window_area, crate::specs::Chain::window_tests))]
 pub fn window(skipped: &[u8], chains: &[u8], answer: &mut [u8]) -> Result<usize, Refusal>
     ensures value { result ≡ window_says answer.old skipped.now chains.now }
     ensures result_value { window_values result ≡ window_answer answer.old skipped.now chains.now }
     ensures answer_after { answer.new ≡ window_area answer.old skipped.now chains.now }
 {
-    if answer.len() < 3000 {
+    if answer.len() < ANSWER {
         return Err(Refusal::ShortArea);
     }
     if wrong_rows(skipped, chains) {
         return Err(Refusal::WindowRows);
     }
     octets::copy_in(answer, 0, skipped);
-    Ok(list_chains(answer, skipped.len() / 6, chains))
+    let listed = list_chains(&mut answer[skipped.len()..ANSWER], chains);
+    Ok(skipped.len() / 6 + listed)
 }

@@ -8,6 +8,9 @@ use std::io;
 // What stands in the answer area before a call.
 const FILL: u8 = 0xAA;
 
+// How many bytes a listed row has.
+const ROW: usize = 6;
+
 // ---- rows
 
 // The rows of three chains: their nexts, and the direction of the third.
@@ -40,33 +43,27 @@ fn skipped_keys() -> [u8; 3006] {
 // ---- what is printed
 
 // A listed row: direction, generation, index.
-fn show_row(rt: &impl Print, row: &[u8]) -> io::Result<()> {
-    if row.len() < 6 {
-        return Ok(());
-    }
+fn show_row(rt: &impl Print, row: &[u8; ROW]) -> io::Result<()> {
+    let direction = char::from(row[0]);
+    let generation = row[1];
     let index = octets::get_u32(row, 2);
-    print!(rt; " {} {} {index}", char::from(row[0]), row[1])
+    print!(rt; " {direction} {generation} {index}")
 }
 
-// The n listed rows if they are few, else the last alone.
-fn show_rows(rt: &impl Print, answer: &[u8], n: usize) -> io::Result<()> {
-    if 8 < n {
+// The rows if they are few, else the last alone.
+fn show_rows(rt: &impl Print, rows: &[[u8; ROW]]) -> io::Result<()> {
+    if 8 < rows.len() {
         print!(rt; ", last")?;
-        return match answer.chunks_exact(6).take(n).last() {
+        return match rows.last() {
             Some(row) => show_row(rt, row),
             None => Ok(()),
         };
     }
-    for row in answer.chunks_exact(6).take(n) {
+    for row in rows {
         print!(rt; ",")?;
         show_row(rt, row)?;
     }
     Ok(())
-}
-
-// Are the bytes behind the first n as they were?
-fn kept(answer: &[u8], n: usize) -> bool {
-    answer.iter().skip(n).all(|b| *b == FILL)
 }
 
 // A number that every byte of the area and its place goes into.
@@ -77,9 +74,9 @@ fn sum(answer: &[u8]) -> u64 {
     )
 }
 
-// What stands behind n listed rows, and in the whole area.
-fn show_rest(rt: &impl Print, answer: &[u8], n: usize) -> io::Result<()> {
-    let rest = if kept(answer, n.min(501) * 6) {
+// Are the bytes behind what is listed as they were? And what stands in the whole area.
+fn show_rest(rt: &impl Print, behind: &[u8], answer: &[u8]) -> io::Result<()> {
+    let rest = if behind.iter().all(|b| *b == FILL) {
         "kept"
     } else {
         "changed"
@@ -91,13 +88,15 @@ fn show_rest(rt: &impl Print, answer: &[u8], n: usize) -> io::Result<()> {
 fn show_answer(rt: &impl Print, said: Result<usize, Refusal>, answer: &[u8]) -> io::Result<()> {
     match said {
         Err(why) => {
-            print!(rt; ": refused {}", courier_core::refusal_number(why))?;
-            show_rest(rt, answer, 0)
+            print!(rt; ": refused {}", why.number())?;
+            show_rest(rt, answer, answer)
         }
         Ok(n) => {
+            let rows: &[[u8; ROW]] = answer.as_chunks().0;
+            let (listed, behind) = rows.split_at(n.min(rows.len()));
             print!(rt; ": listed {n}")?;
-            show_rows(rt, answer, n)?;
-            show_rest(rt, answer, n)
+            show_rows(rt, listed)?;
+            show_rest(rt, behind.as_flattened(), answer)
         }
     }
 }

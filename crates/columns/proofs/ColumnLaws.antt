@@ -1,54 +1,40 @@
 -- Laws of columns. Assumes nothing.
-use mathlib.Core.Path.{◌≡◌, refl, sym, ap, ◌∙◌}
-use mathlib.Core.Bool.{Bool, true, false, cond}
-use mathlib.Core.List.{List, [], ◌∷◌, ◌++◌}
-use Prim.Native.Nat.{ℕ, zero, suc, ◌+◌, ◌*◌, ◌/◌, ◌%◌, ◌≤◌, ◌<◌}
-use native.Mathlib.Numerals.{add-one}
-use native.Mathlib.Omega.{arith}
-use borrow.Author.Tests.{lt-ltb, le-ltb}
-use lib.ListN.{length, take, get_or, set, replicate, length-append, length-replicate, length-set}
-use lib.Seq.{take-suc, append_snoc, length-take-le}
-use lib.Dec.{ltb}
+use Rattle.std.proofs.Common.{◌≡◌, ℕ, zero, suc, ◌+◌, ◌*◌, ◌/◌, ◌%◌, ◌≤◌, ◌<◌, List, [], ◌∷◌, ◌++◌, length, take, get_or, set, refl, sym, ap, ◌∙◌, arith, add-one, length-append, length-take-le, take-suc}
+use lib.Seq.{append_snoc}
+use Rattle.std.proofs.lemmas.List.{length-set}
+use Rattle.std.proofs.lemmas.Grind.{common_steps}
 use Rattle.octets.specs.Bytes.{splice}
 use Rattle.octets.proofs.Parts.{set_splice, splice_under, splice_then, length_splice}
 use Rattle.columns.specs.Columns.{blanks, column, hex_digit, hexes}
 
-pub take_blanks : (n m : ℕ) → n ≤ m → take n (replicate {A = ℕ} m 32) ≡ replicate n 32
-take_blanks zero m h = refl
-take_blanks (suc n) zero h = absurd (omega arith)
-take_blanks (suc n) (suc m) h = ap (λ (l : List ℕ). 32 ∷ l) (take_blanks n m (omega arith))
+pub column_none : (w n : ℕ) → w ≡ 0 → column w n ≡ []
+unfolding column
+column_none zero n e = refl
+column_none (suc w) n e = absurd (omega arith)
 
 pub length_column : (w n : ℕ) → length (column w n) ≡ w
 unfolding column
 length_column zero n = refl
-length_column (suc w) n = length-append (cond (ltb n 10) (blanks w) (column w (n / 10))) ((48 + n % 10) ∷ []) ∙ go (ltb n 10) (length_column w (n / 10))
-  where
-    go : (b : Bool) → length (column w (n / 10)) ≡ w → length (cond b (blanks w) (column w (n / 10))) + 1 ≡ suc w
-    go true h = omega (arith, length-replicate {A = ℕ} w 32)
-    go false h = omega (arith, h)
+length_column (suc w) n = grind (arith, common_steps, length_column w (n / 10))
 
 -- one digit written at the right end of a column of k + 1, and what is left of it
 module _ (out : List ℕ) (at k v : ℕ) (fits : at + (k + 1) ≤ length out) where
   last : (x : List ℕ) → length x ≡ k → splice (set out (at + k) (48 + v % 10)) at x ≡ splice out at (x ++ ((48 + v % 10) ∷ []))
-  last x e =
-      ap (λ (l : List ℕ). splice l at x) (set_splice out (at + k) (48 + v % 10) (omega arith))
-      ∙ splice_under out x ((48 + v % 10) ∷ []) at (at + k) (omega (arith, e)) (omega arith)
+  last x e = grind (arith, set_splice out (at + k) (48 + v % 10), splice_under out x ((48 + v % 10) ∷ []) at (at + k))
 
   pub column_last : v < 10 → splice (set out (at + k) (48 + v % 10)) at (blanks k) ≡ splice out at (column (k + 1) v)
   unfolding column
-  column_last h =
-      last (blanks k) (length-replicate k 32)
-      ∙ ap (λ (b : Bool). splice out at (cond b (blanks k) (column k (v / 10)) ++ ((48 + v % 10) ∷ []))) (sym (lt-ltb v 10 h))
-      ∙ ap (λ (w : ℕ). splice out at (column w v)) (sym (add-one k))
+  column_last h = grind (arith, common_steps, last (blanks k), add-one)
 
   pub column_more : 10 ≤ v → splice (set out (at + k) (48 + v % 10)) at (column k (v / 10)) ≡ splice out at (column (k + 1) v)
   unfolding column
-  column_more h =
-      last (column k (v / 10)) (length_column k (v / 10))
-      ∙ ap (λ (b : Bool). splice out at (cond b (blanks k) (column k (v / 10)) ++ ((48 + v % 10) ∷ []))) (sym (le-ltb v 10 h))
-      ∙ ap (λ (w : ℕ). splice out at (column w v)) (sym (add-one k))
+  column_more h = grind (arith, common_steps, last (column k (v / 10)), length_column k (v / 10), add-one)
 
 -- ---- bytes in hexadecimal
+
+pub hexes_none : hexes [] ≡ []
+unfolding hexes
+hexes_none = refl
 
 pub length_hexes : (x : List ℕ) → length (hexes x) ≡ 2 * length x
 unfolding hexes
@@ -58,7 +44,7 @@ length_hexes (b ∷ x) = omega (arith, length_hexes x)
 hexes_append : (x y : List ℕ) → hexes (x ++ y) ≡ hexes x ++ hexes y
 unfolding hexes
 hexes_append [] y = refl
-hexes_append (b ∷ x) y = ap (λ (l : List ℕ). hex_digit (b / 16) ∷ hex_digit (b % 16) ∷ l) (hexes_append x y)
+hexes_append (b ∷ x) y = grind (arith, hexes_append x y)
 
 hexes_next : (t : List ℕ) (i : ℕ) → i < length t → hexes (take (i + 1) t) ≡ hexes (take i t) ++ (hex_digit (get_or t i 0 / 16) ∷ hex_digit (get_or t i 0 % 16) ∷ [])
 unfolding hexes

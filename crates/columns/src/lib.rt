@@ -5,6 +5,7 @@ ghost use Rattle.std.specs.Prelude.{◌≡◌, ◌+◌, ◌*◌, ◌/◌, ◌%�
 ghost use Rattle.octets.specs.Bytes.{splice};
 ghost use Rattle.columns.specs.Columns.{blanks, column, hex_digit, hexes};
 
+#[tactic(auto, using(octets::proofs::Parts::lent_splice))]
 pub fn put_blanks(out: &mut [u8], at: usize, n: usize)
     requires { at + n ≤ length out.old }
     ensures { out.new ≡ splice out.old at (blanks n) }
@@ -13,6 +14,7 @@ pub fn put_blanks(out: &mut [u8], at: usize, n: usize)
 }
 
 // A number to the right of a column: its digits from the last on, then blanks.
+#[tactic(auto, using(octets::proofs::Parts::splice_nil, crate::proofs::ColumnLaws::column_none, crate::proofs::ColumnLaws::column_last, crate::proofs::ColumnLaws::column_more))]
 pub fn put_column(out: &mut [u8], at: usize, width: usize, n: u64)
     requires { at + width ≤ length out.old }
     ensures { out.new ≡ splice out.old at (column width n) }
@@ -37,6 +39,7 @@ fn digit(d: u8) -> u8
 }
 
 // Two digits for each byte.
+#[tactic(auto, using(octets::proofs::Parts::splice_nil, crate::proofs::ColumnLaws::hexes_none, crate::proofs::ColumnLaws::hexes_put))]
 pub fn put_hex(out: &mut [u8], at: usize, bytes: &[u8])
     requires { at + 2 * length bytes.now ≤ length out.old }
     ensures { out.new ≡ splice out.old at (hexes bytes.now) }

@@ -1,7 +1,7 @@
 -- Contacts looked for by their number.
 -- Assumes nothing.
-use Rattle.std.proofs.Common.{◌≡◌, ℕ, ◌+◌, ◌*◌, ◌<◌, ◌≤◌, false, eqb, List, length, get_or, sym, ap, ◌∙◌, arith, Option, Some, None, refl, ap₂}
-use Rattle.std.specs.Option.{unwrap_or as or_else}
+use Rattle.std.proofs.Common.{◌≡◌, ℕ, ◌+◌, ◌*◌, ◌<◌, ◌≤◌, Bool, false, eqb, List, length, get_or, sym, ap, ◌∙◌, arith, Option, Some, None, refl, ap₂}
+use Rattle.std.specs.Option.{option_eq, unwrap_or as or_else}
 use Rattle.octets.specs.Bytes.{part}
 use Rattle.courier_core.specs.declared.ContactId.{ContactId}
 use Rattle.table.specs.Lists.{is_at, unwrap_or}
@@ -13,7 +13,7 @@ use Rattle.table.proofs.FindLaws.{position_any, position_first}
 use Rattle.rows.specs.declared.Contact.{Contact}
 use Rattle.rows.specs.Rows.{contact_of, contact_codec}
 use Rattle.model.specs.Basics.{match_found}
-use Rattle.model.specs.Contacts.{no_contact, is_contact, known, contact_place, is_verified, added_before}
+use Rattle.model.specs.Contacts.{no_contact, is_for, is_contact, known, contact_place, is_verified, added_before}
 
 same_or : (d : ℕ) (f : Option ℕ) → or_else f d ≡ unwrap_or d f
 same_or d None = refl
@@ -53,6 +53,12 @@ module _ (count : ℕ) (a : List ℕ) (id : ContactId) where
     pub before_it : (n : ℕ) → n ≡ rows_held → or_else f n ≡ added_before table id
     unfolding added_before
     before_it n h = same_or n f ∙ ap₂ unwrap_or (h ∙ sym (length_table contact_codec count a)) e
+
+-- is the peer the one that is remembered, as code compares it with `==`
+pub same_peer : (eq : ContactId → ContactId → Bool) (peer : ContactId) → ((p : ContactId) → eq p peer ≡ eqb p.0 peer.0)
+    → (to : Option ContactId) → option_eq eq to (Some peer) ≡ is_for peer to
+same_peer eq peer same (Some p) = same p
+same_peer eq peer same None = refl
 
 -- what `is_verified` asks of the place, and what it says of it
 pub place_fits : (count : ℕ) (a : List ℕ) (id : ContactId) (i : ℕ) → contact_place (table_of contact_codec count a) id ≡ Some i → i * 9 + 9 ≤ length a

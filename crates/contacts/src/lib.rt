@@ -5,7 +5,7 @@ ghost use Rattle.std.specs.Prelude.{◌≡◌, ◌+◌, ◌*◌, ◌<◌, ◌≤
 ghost use Rattle.octets.specs.Bytes.{part};
 ghost use Rattle.table.specs.Lists.{replace_at};
 ghost use Rattle.table.specs.Rows.{held, Fits};
-ghost use Rattle.table.specs.Codec.{table_of, TableNow};
+ghost use Rattle.table.specs.Tables.{rows_in};
 ghost use Rattle.rows.specs.declared.Exchange.{Exchange as AnExchange};
 ghost use Rattle.rows.specs.Rows.{contact_width, contact_of, contact_codec};
 ghost use Rattle.model.specs.Calls.{contact as contact_call, setting as setting_call, clock as clock_call, open_exchange};
@@ -17,6 +17,7 @@ ghost use Rattle.contacts.specs.Answers.{said_of, opened_of, exchange_after};
 use courier_core::{ContactId, Refusal, Verification};
 use rows::{CONTACT_WIDTH, Contact, Device, Exchange, OFFER_WIDTH, REACHABLE_WIDTH, Row};
 use state::CourierConfig;
+use table::Table;
 
 // The byte of a verified contact's row.
 const VERIFIED: u8 = 1;
@@ -44,28 +45,19 @@ pub fn lifetime_end(seconds: u64, config: CourierConfig) -> u32
     now_min(seconds).saturating_add(u32::from(config.lifetime_min))
 }
 
-// ---- contacts: a count that may be anything is cut to the rows that fit
-
-fn contact_count(contacts: &[u8], count: usize) -> usize
-    ensures { Fits (length contacts.now) contact_width count result }
-{
-    table::fit(contacts.len(), CONTACT_WIDTH, count)
-}
+// ---- contacts
 
 // Where a contact stands.
-pub fn contact_place(contacts: &[u8], count: usize, id: ContactId) -> Option<usize>
-    ensures { result ≡ contact_place (table_of contact_codec count contacts.now) id }
+pub fn contact_place(contacts: Table<CONTACT_WIDTH>, id: ContactId) -> Option<usize>
+    ensures { result ≡ contact_place (rows_in contact_codec contacts.entry) id }
 {
-    let n = contact_count(contacts, count);
-    table::position(contacts, CONTACT_WIDTH, n, |row| {
-        ContactId(octets::get_u64(row, 0)) == id
-    })
+    contacts.position(|row| ContactId(octets::get_u64(row, 0)) == id)
 }
 
-pub fn known(contacts: &[u8], count: usize, id: ContactId) -> bool
-    ensures { result ≡ known_of (table_of contact_codec count contacts.now) id }
+pub fn known(contacts: Table<CONTACT_WIDTH>, id: ContactId) -> bool
+    ensures { result ≡ known_of (rows_in contact_codec contacts.entry) id }
 {
-    contact_place(contacts, count, id).is_some()
+    contact_place(contacts, id).is_some()
 }
 
 // Is the contact in row i verified?
@@ -77,35 +69,35 @@ fn verified_at(contacts: &[u8], i: usize) -> bool
 }
 
 #[tactic(auto, using(crate::proofs::FindLaws::place_fits, crate::proofs::FindLaws::verified_some, crate::proofs::FindLaws::verified_none))]
-pub fn is_verified(contacts: &[u8], count: usize, id: ContactId) -> bool
-    ensures { result ≡ is_verified (table_of contact_codec count contacts.now) id }
+pub fn is_verified(contacts: Table<CONTACT_WIDTH>, id: ContactId) -> bool
+    ensures { result ≡ is_verified (rows_in contact_codec contacts.entry) id }
 {
-    contact_place(contacts, count, id).is_some_and(|i| verified_at(contacts, i))
+    contact_place(contacts, id).is_some_and(|i| verified_at(contacts.area, i))
 }
 
 // How many contacts were added before this one.
-pub fn added_before(contacts: &[u8], count: usize, id: ContactId) -> usize
-    ensures { result ≡ added_before (table_of contact_codec count contacts.now) id }
+pub fn added_before(contacts: Table<CONTACT_WIDTH>, id: ContactId) -> usize
+    ensures { result ≡ added_before (rows_in contact_codec contacts.entry) id }
 {
-    contact_place(contacts, count, id).unwrap_or(contact_count(contacts, count))
+    contact_place(contacts, id).unwrap_or(contacts.len())
 }
 
 // Is a contact not known? The one before it is, and so it is looked for only where it is another.
-fn is_stranger(contacts: &[u8], count: usize, before: Option<ContactId>, id: ContactId) -> bool
-    requires { MatchOption before Unit (λ b. known_of (table_of contact_codec count contacts.now) b ≡ true) }
-    ensures { result ≡ not (known_of (table_of contact_codec count contacts.now) id) }
+fn is_stranger(contacts: Table<CONTACT_WIDTH>, before: Option<ContactId>, id: ContactId) -> bool
+    requires { MatchOption before Unit (λ b. known_of (rows_in contact_codec contacts) b ≡ true) }
+    ensures { result ≡ not (known_of (rows_in contact_codec contacts.entry) id) }
 {
-    before != Some(id) && !known(contacts, count, id)
+    before != Some(id) && !known(contacts, id)
 }
 
 // Number 2 of a window: a contact in it isn't known. The rows of a contact follow each other.
-pub fn strangers(contacts: &[u8], count: usize, window: &[u8]) -> bool
-    ensures { result ≡ some_stranger (table_of contact_codec count contacts.now) (window_rows window.now) }
+pub fn strangers(contacts: Table<CONTACT_WIDTH>, window: &[u8]) -> bool
+    ensures { result ≡ some_stranger (rows_in contact_codec contacts.entry) (window_rows window.now) }
 {
     let mut before = None;
     for i in 0..window.len() / REACHABLE_WIDTH {
         let id = ContactId(octets::get_u64(window, i * REACHABLE_WIDTH));
-        if is_stranger(contacts, count, before, id) {
+        if is_stranger(contacts, before, id) {
             return true;
         }
         before = Some(id);
@@ -144,10 +136,14 @@ pub fn contact(
         id,
         verification: verification.byte(),
     };
-    match contact_place(contacts, count, id) {
+    let table = Table {
+        area: contacts,
+        count,
+    };
+    match contact_place(table, id) {
         Some(i) => device.contacts = Contact::replace(contacts, count, i, row),
         None => {
-            if contact_count(contacts, count) >= MAX_CONTACTS {
+            if table.len() >= MAX_CONTACTS {
                 return Err(Refusal::LogRecord);
             }
             device.contacts = Contact::push(contacts, count, row);
@@ -171,7 +167,11 @@ pub fn fresh_exchange(
     if prefixes.len() < PREFIX_AREA || offers.len() < OFFER_AREA {
         return Err(Refusal::ShortArea);
     }
-    if !known(contacts, device.contacts, peer) {
+    let known_contacts = Table {
+        area: contacts,
+        count: device.contacts,
+    };
+    if !known(known_contacts, peer) {
         return Err(Refusal::UnknownContact);
     }
     Ok(Exchange::fresh(peer))

@@ -43,4 +43,4 @@ only_above_0 r ct p e = go (envelope_valid (length (take 2064 ct)) r.header.copi
     go : (b : Bool) → envelope_valid (length (take 2064 ct)) r.header.copies r.header.expiry_min 0 ≡ b
         → (0 < r.header.copies) × (0 < r.header.expiry_min)
     go true t = let v = valid_parts (length (take 2064 ct)) r.header.copies r.header.expiry_min 0 t in (v.1, v.2)
-    go false t = let n = carried_refused r p ct t in let z : ◌≡◌ {A = ℕ} 0 1 = cc in absurd (omega arith)
+    go false t = let n = carried_refused r p ct t in cc

@@ -1,13 +1,15 @@
 -- Laws of what a courier takes and of its answer as a byte.
 -- Assumes nothing.
-use mathlib.Core.Path.{◌≡◌, refl, sym, ap, ◌∙◌}
-use mathlib.Core.Bool.{Bool, true, false, ◌&&◌}
+pub use Rattle.std.proofs.lemmas.Bool.{and_parts as both}
+use Rattle.std.proofs.lemmas.Bool.{false_from_ne_true}
+use mathlib.Core.Path.{◌≡◌, refl, sym, ap}
+use mathlib.Core.Bool.{true, false, ◌&&◌}
 use Prim.Native.Nat.{ℕ, zero, suc, ◌-◌, ◌≤◌, ◌<◌}
 use native.Mathlib.Omega.{arith}
 use Rattle.std.specs.Prelude.{Some, None}
 use Rattle.std.proofs.lemmas.Option.{same_Some, none-some, slice_get_past}
 use lib.Dec.{leb, ltb}
-use borrow.Author.Tests.{leb-true, leb-false, ltb-true, lt-ltb}
+use borrow.Author.Tests.{leb-true, ltb-true, lt-ltb}
 use Rattle.chain.specs.Chain.{is_bucket}
 use Rattle.courier.specs.declared.Custody.{Custody}
 use Rattle.courier.specs.declared.Custody.TheVariants as custody
@@ -40,10 +42,6 @@ pub no_code : (n : ℕ) → 4 < n → None ≡ from_code n
 unfolding from_code
 no_code n h = sym (slice_get_past custody_codes n h)
 
-pub both : (a b : Bool) → (a && b) ≡ true → (a ≡ true) × (b ≡ true)
-both true b e = (refl, e)
-both false b e = let z : ◌≡◌ {A = ℕ} 0 1 = cc in absurd (omega arith)
-
 -- a carried ciphertext fits a cell
 pub carried_fits : (len : ℕ) → carried_length len ≡ true → (16 ≤ len) × (len ≤ 2064)
 unfolding carried_length
@@ -67,15 +65,5 @@ valid_if len copies expiry minute e h k = rw (e, lt-ltb 0 copies h, lt-ltb minut
 
 -- what lacks copies or time is not valid
 pub not_valid : (len copies expiry minute : ℕ) → (0 < copies → minute < expiry → ⊥) → envelope_valid len copies expiry minute ≡ false
-not_valid len copies expiry minute k = go (envelope_valid len copies expiry minute) refl
-  where
-    go : (b : Bool) → envelope_valid len copies expiry minute ≡ b → envelope_valid len copies expiry minute ≡ false
-    go true e = let p = valid_parts len copies expiry minute e in absurd (k p.1 p.2)
-    go false e = e
-
--- what `within` says of a place and a length
-pub fits : (a b : ℕ) (r : Bool) → r ≡ leb a b → r ≡ true → a ≤ b
-fits a b r e t = leb-true a b (sym e ∙ t)
-
-pub fits_not : (a b : ℕ) (r : Bool) → r ≡ leb a b → r ≡ false → b < a
-fits_not a b r e t = leb-false a b (sym e ∙ t)
+not_valid len copies expiry minute k =
+    false_from_ne_true (envelope_valid len copies expiry minute) (λ e. let p = valid_parts len copies expiry minute e in k p.1 p.2)

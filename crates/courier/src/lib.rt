@@ -23,18 +23,18 @@ pub struct Header {
     pub copies: u8,
 }
 
-// A courier's answer to an envelope.
+// A courier's answer to an envelope, and its byte.
 #[derive(Clone, Copy, PartialEq, Eq)]
 pub enum Custody {
-    Accepted,
-    Full,
-    Duplicate,
-    Off,
-    Invalid,
+    Accepted = 0,
+    Full = 1,
+    Duplicate = 2,
+    Off = 3,
+    Invalid = 4,
 }
 
 // The MAC of the direction, the generation and the index: no more than 7 bytes, which stand at the front of an array.
-#[tactic(auto, unfolding(kdf::specs::Kdf::key_as, kdf::specs::Kdf::answered))]
+#[tactic(auto, using(crate::proofs::TagLaws::index_fits), unfolding(kdf::specs::Kdf::key_as, kdf::specs::Kdf::answered))]
 pub fn route_tag(key: [u8; 32], dir: Dir, generation: u8, idx: u32) -> [u8; 16]
     ensures { result ≡ route_tag key dir generation idx }
 {
@@ -140,18 +140,14 @@ pub fn valid(len: usize, copies: u8, expiry: u32, minute: u32) -> bool
 }
 
 impl Custody {
+    // data.rs's `code as u8`.
     pub fn code(self) -> u8
         ensures { result ≡ custody_code self }
     {
-        match self {
-            Custody::Accepted => 0,
-            Custody::Full => 1,
-            Custody::Duplicate => 2,
-            Custody::Off => 3,
-            Custody::Invalid => 4,
-        }
+        self as u8
     }
 
+    // courier.rs's own name. A `TryFrom` would need an error type, which says no more than `None`.
     #[tactic(auto, unfolding(crate::specs::Courier::from_code))]
     pub fn from_code(code: u8) -> Option<Custody>
         ensures { result ≡ from_code code }

@@ -8,23 +8,19 @@ ghost use Rattle.courier_core.specs.Core.{refusal_number, verification_byte, ver
 #[derive(Clone, Copy, PartialEq, Eq)]
 pub struct ContactId(pub u64);
 
-// What is known of a contact's key; a byte in a record.
+// What is known of a contact's key, and its byte in a record.
 #[derive(Clone, Copy, PartialEq, Eq)]
 pub enum Verification {
-    Unverified,
-    Verified,
-    Compromised,
+    Unverified = 0,
+    Verified = 1,
+    Compromised = 2,
 }
 
 impl Verification {
     pub fn byte(self) -> u8
         ensures { result ≡ verification_byte self }
     {
-        match self {
-            Verification::Unverified => 0,
-            Verification::Verified => 1,
-            Verification::Compromised => 2,
-        }
+        self as u8
     }
 
     pub fn from_byte(byte: u8) -> Option<Verification>
@@ -39,54 +35,28 @@ impl Verification {
     }
 }
 
-// Why a call is refused. `number` is document 01's number of each.
+// Why a call is refused, and document 01's number of each.
 #[derive(Clone, Copy, PartialEq, Eq)]
 pub enum Refusal {
-    ShortArea,
-    UnknownContact,
-    WrongExchange,
-    NoCell,
-    NoTombstoneRow,
-    NoSlot,
-    Configuration,
-    SavedFile,
-    NoBadTagRow,
-    MessageNumberTaken,
-    OwnLength,
-    WindowRows,
-    LogRecord,
+    ShortArea = 1,
+    UnknownContact = 2,
+    WrongExchange = 3,
+    NoCell = 4,
+    NoTombstoneRow = 5,
+    NoSlot = 6,
+    Configuration = 7,
+    SavedFile = 8,
+    NoBadTagRow = 9,
+    MessageNumberTaken = 10,
+    OwnLength = 11,
+    WindowRows = 12,
+    LogRecord = 13,
 }
 
 impl Refusal {
     pub fn number(self) -> u8
         ensures { result ≡ refusal_number self }
     {
-        match self {
-            Refusal::ShortArea => 1,
-            Refusal::UnknownContact => 2,
-            Refusal::WrongExchange => 3,
-            Refusal::NoCell => 4,
-            Refusal::NoTombstoneRow => 5,
-            Refusal::NoSlot => 6,
-            Refusal::Configuration => 7,
-            Refusal::SavedFile => 8,
-            Refusal::NoBadTagRow => 9,
-            Refusal::MessageNumberTaken => 10,
-            Refusal::OwnLength => 11,
-            Refusal::WindowRows => 12,
-            Refusal::LogRecord => 13,
-        }
+        self as u8
     }
-}
-
-pub fn refusal_number(why: Refusal) -> u8
-    ensures { result ≡ refusal_number why }
-{
-    why.number()
-}
-
-pub fn verification_byte(v: Verification) -> u8
-    ensures { result ≡ verification_byte v }
-{
-    v.byte()
 }

@@ -1,186 +1,204 @@
 // What is written: a line for each row or answer, its parts as document 01 names them.
-ghost use Rattle.std.specs.Prelude.{◌+◌, ◌≤◌};
-
 use courier_core::Refusal;
-use rows::Device;
+use rows::{
+    ACTION_WIDTH, Action, CARRIED_WIDTH, Carried, Device, OWN_WIDTH, Own, REPLY_WIDTH, Reply, Row,
+    TOMBSTONE_WIDTH, Tombstone,
+};
+use std::{fmt, io};
 
-// Standard output.
-const STDOUT: i32 = 1;
-
-pub fn text(s: &[u8]) {
-    io::write_all(STDOUT, s);
-}
-
-pub fn number(n: u64) {
-    text(b" ");
-    io::print_decimal(STDOUT, n);
-}
-
-pub fn end() {
-    text(b"\n");
-}
+// What is written of a fetch that finds nothing.
+const NOTHING: u8 = 255;
 
 // A tag or a secret: its first and its last byte.
-fn show_tag(tag: [u8; 16]) {
-    text(b" ");
-    io::print_hex(STDOUT, tag[0] as u64, 2);
-    text(b"..");
-    io::print_hex(STDOUT, tag[15] as u64, 2);
+#[derive(Clone, Copy)]
+struct Tag([u8; 16]);
+
+impl fmt::Display for Tag {
+    fn fmt<W: fmt::Write>(&self, f: &mut fmt::Formatter<W>) -> fmt::Result {
+        let first = self.0[0];
+        let last = self.0[15];
+        write!(f, "{first:02x}..{last:02x}")
+    }
 }
 
-pub fn show_refusal(why: Refusal) {
-    text(b"refused");
-    number(courier_core::refusal_number(why) as u64);
-    end();
+// The first n rows, or all where there are fewer.
+pub fn first<T>(rows: &[T], n: usize) -> &[T] {
+    &rows[..n.min(rows.len())]
+}
+
+pub fn show_refusal(rt: &impl Print, why: Refusal) -> io::Result<()> {
+    println!(rt; "refused {}", why.number())
 }
 
 // ---- replies and actions
 
-// The envelope of a reply: its cell, expiry and copies.
-fn show_envelope(replies: &[u8; 61440], at: usize)
-    requires { at + 40 ≤ 61440 }
-{
-    text(b" cell");
-    number(octets::get_u16(replies, at + 1) as u64);
-    text(b" expiry");
-    number(octets::get_u32(replies, at + 35) as u64);
-    text(b" copies");
-    number(octets::get_u8(replies, at + 39) as u64);
+#[derive(Clone, Copy)]
+enum ReplyKind {
+    Fetch,
+    Envelope,
+    Custody,
+    Tomb,
 }
 
-fn show_kind(kind: u8) {
-    match kind {
-        0 => text(b"fetch"),
-        1 => text(b"envelope"),
-        2 => text(b"custody"),
-        _ => text(b"tomb"),
+// (Here and below no `TryFrom`: it would need an error type, which says no more than `None`.)
+impl ReplyKind {
+    fn from_byte(byte: u8) -> Option<ReplyKind> {
+        match byte {
+            0 => Some(ReplyKind::Fetch),
+            1 => Some(ReplyKind::Envelope),
+            2 => Some(ReplyKind::Custody),
+            3 => Some(ReplyKind::Tomb),
+            _ => None,
+        }
     }
 }
 
-// A reply: its kind and tag; then of an envelope its parts, of a custody the code, of a tomb the secret.
-fn show_reply(replies: &[u8; 61440], i: usize) {
-    let at = i % 1536 * 40;
-    let kind = octets::get_u8(replies, at);
-    show_kind(kind);
-    show_tag(octets::get_array(replies, at + 3));
-    match kind {
-        0 => {}
-        1 => show_envelope(replies, at),
-        2 => number(octets::get_u8(replies, at + 19) as u64),
-        _ => show_tag(octets::get_array(replies, at + 19)),
+// A reply: its kind and tag; then of an envelope its cell, expiry and copies, of a custody the code, of a tomb the secret.
+fn show_reply(rt: &impl Print, row: Reply) -> io::Result<()> {
+    let tag = Tag(octets::get_array(&row.body, 0));
+    match ReplyKind::from_byte(row.kind) {
+        Some(ReplyKind::Fetch) => println!(rt; "fetch {tag}"),
+        Some(ReplyKind::Envelope) => {
+            let expiry = octets::get_u32(&row.body, 32);
+            let copies = row.body[36];
+            println!(rt;
+                "envelope {tag} cell {} expiry {expiry} copies {copies}",
+                row.cell
+            )
+        }
+        Some(ReplyKind::Custody) => {
+            let code = row.body[16];
+            println!(rt; "custody {tag} {code}")
+        }
+        Some(ReplyKind::Tomb) => {
+            println!(rt; "tomb {tag} {}", Tag(octets::get_array(&row.body, 16)))
+        }
+        None => println!(rt; "unknown reply {}", row.kind),
     }
-    end();
 }
 
-// A fetch: 0 and the ciphertext's length, with the envelope.
-pub fn show_fetched(len: usize, replies: &[u8; 61440]) {
-    text(b"answer 0");
-    number(len as u64);
-    end();
-    show_reply(replies, 0);
+// (Here and for actions a loop of its own: one for both would take the width, the type and the function that shows a row.)
+pub fn show_replies(rt: &impl Print, replies: &[[u8; REPLY_WIDTH]]) -> io::Result<()> {
+    for row in replies {
+        show_reply(rt, Reply::read(row, 0))?;
+    }
+    Ok(())
 }
 
-// A fetch without one: a refusal's number, or 255 for none; and no length.
-pub fn show_missing(answer: u8) {
-    text(b"answer");
-    number(answer as u64);
-    text(b" 0\n");
+// A fetch: 0 and the ciphertext's length, with the envelope; or a refusal's number, or that of none, and no length.
+pub fn show_fetched(
+    rt: &impl Print,
+    fetched: Result<Option<&[u8]>, Refusal>,
+    envelope: Reply,
+) -> io::Result<()> {
+    match fetched {
+        Ok(Some(ct)) => {
+            println!(rt; "answer 0 {}", ct.len())?;
+            show_reply(rt, envelope)
+        }
+        Ok(None) => println!(rt; "answer {NOTHING} 0"),
+        Err(why) => println!(rt; "answer {} 0", why.number()),
+    }
 }
 
-pub fn show_replies(replies: &[u8; 61440], n: usize) {
-    for i in 0..n {
-        show_reply(replies, i);
+#[derive(Clone, Copy)]
+enum ActionKind {
+    Put,
+    Delete,
+    OwnPut,
+}
+
+impl ActionKind {
+    fn from_byte(byte: u8) -> Option<ActionKind> {
+        match byte {
+            0 => Some(ActionKind::Put),
+            1 => Some(ActionKind::Delete),
+            2 => Some(ActionKind::OwnPut),
+            _ => None,
+        }
     }
 }
 
 // An action: a slot put or deleted, or an own row's contact and message number.
-fn show_action(actions: &[u8; 6708], i: usize) {
-    let row = rows::action_at(actions, i % 516 * 13);
-    match row.kind {
-        0 => text(b"put"),
-        1 => text(b"del"),
-        _ => text(b"own put"),
+fn show_action(rt: &impl Print, row: Action) -> io::Result<()> {
+    match ActionKind::from_byte(row.kind) {
+        Some(ActionKind::Put) => println!(rt; "put {}", row.number),
+        Some(ActionKind::Delete) => println!(rt; "del {}", row.number),
+        Some(ActionKind::OwnPut) => println!(rt; "own put {} {}", row.number, row.msgno),
+        None => println!(rt; "unknown action {}", row.kind),
     }
-    number(row.number);
-    if row.kind == 2 {
-        number(row.msgno as u64);
-    }
-    end();
 }
 
-pub fn show_actions(actions: &[u8; 6708], n: usize) {
-    for i in 0..n {
-        show_action(actions, i);
+pub fn show_actions(rt: &impl Print, actions: &[[u8; ACTION_WIDTH]]) -> io::Result<()> {
+    for row in actions {
+        show_action(rt, Action::read(row, 0))?;
     }
+    Ok(())
 }
 
 // ---- rows and counts
 
-// Slot, depositor, tag, expiry, copies.
-pub fn show_carried(carried: &[u8; 14592], i: usize) {
-    let row = rows::carried_at(carried, i % 256 * 57);
-    text(b"carried");
-    number(row.slot);
-    number(row.depositor.0);
-    show_tag(row.tag);
-    text(b" expiry");
-    number(row.expiry_min as u64);
-    text(b" copies");
-    number(row.copies as u64);
-    end();
+// Slot, depositor, tag, expiry, copies of each.
+pub fn show_carried(rt: &impl Print, rows: &[[u8; CARRIED_WIDTH]]) -> io::Result<()> {
+    for bytes in rows {
+        let row = Carried::read(bytes, 0);
+        println!(rt;
+            "carried {} {} {} expiry {} copies {}",
+            row.slot,
+            row.depositor.0,
+            Tag(row.tag),
+            row.expiry_min,
+            row.copies
+        )?;
+    }
+    Ok(())
 }
 
-// Contact, message number, tag, expiry, copies, renewed.
-pub fn show_own(own: &[u8; 13824], i: usize) {
-    let row = rows::own_at(own, i % 256 * 54);
-    text(b"own");
-    number(row.contact.0);
-    number(row.msgno as u64);
-    show_tag(row.tag);
-    text(b" expiry");
-    number(row.expiry_min as u64);
-    text(b" copies");
-    number(row.copies as u64);
-    text(b" renewed");
-    number(row.renewed as u64);
-    end();
+// Contact, message number, tag, expiry, copies, renewed of each.
+pub fn show_own(rt: &impl Print, rows: &[[u8; OWN_WIDTH]]) -> io::Result<()> {
+    for bytes in rows {
+        let row = Own::read(bytes, 0);
+        println!(rt;
+            "own {} {} {} expiry {} copies {} renewed {}",
+            row.contact.0,
+            row.msgno,
+            Tag(row.tag),
+            row.expiry_min,
+            row.copies,
+            row.renewed
+        )?;
+    }
+    Ok(())
 }
 
-// Slot, tag, secret, expiry.
-pub fn show_tombstone(tombstones: &[u8; 176], i: usize) {
-    let row = rows::tombstone_at(tombstones, i % 4 * 44);
-    text(b"tombstone");
-    number(row.slot);
-    show_tag(row.tag);
-    show_tag(row.s);
-    text(b" expiry");
-    number(row.expiry_min as u64);
-    end();
+// Slot, tag, secret, expiry of each.
+pub fn show_tombstones(rt: &impl Print, rows: &[[u8; TOMBSTONE_WIDTH]]) -> io::Result<()> {
+    for bytes in rows {
+        let row = Tombstone::read(bytes, 0);
+        println!(rt;
+            "tombstone {} {} {} expiry {}",
+            row.slot,
+            Tag(row.tag),
+            Tag(row.s),
+            row.expiry_min
+        )?;
+    }
+    Ok(())
 }
 
 // How many own rows, carried rows and tombstones there are.
-pub fn show_counts(device: Device) {
-    text(b"held");
-    number(device.own as u64);
-    number(device.carried as u64);
-    number(device.tombstones as u64);
-    end();
-}
-
-// The first byte of a prefix.
-fn show_prefix(prefixes: &[u8; 4096], i: usize) {
-    text(b" ");
-    let first = octets::get_u8(prefixes, i % 512 * 8);
-    io::print_hex(STDOUT, first as u64, 2);
+pub fn show_counts(rt: &impl Print, device: &Device) -> io::Result<()> {
+    println!(rt;
+        "held {} {} {}",
+        device.own, device.carried, device.tombstones
+    )
 }
 
 // How many prefixes there are, and the first byte of each.
-pub fn show_prefixes(prefixes: &[u8; 4096], n: usize) {
-    text(b"ours");
-    number(n as u64);
-    text(b":");
-    for i in 0..n {
-        show_prefix(prefixes, i);
+pub fn show_prefixes(rt: &impl Print, prefixes: &[[u8; 8]]) -> io::Result<()> {
+    print!(rt; "ours {}:", prefixes.len())?;
+    for prefix in prefixes {
+        print!(rt; " {:02x}", prefix[0])?;
     }
-    end();
+    println!(rt)
 }

@@ -1,6 +1,8 @@
 // Document 01's unmarked corners of couriering.rs, put to a small post: a short line for each row or answer.
 #![tactic(auto)]
 
+use std::io;
+
 mod ended; // tombs and maintenance
 mod expired; // rows that have expired
 mod lines; // what is written
@@ -8,17 +10,17 @@ mod listed; // what lists and fetches are answered with
 mod post; // the post, and the calls
 mod time; // minute, lifetime end, what is accepted
 
-pub fn main() {
-    time::minute();
-    time::last_minute();
-    time::lifetime_end();
-    time::accepted();
-    listed::fetches();
-    listed::tombstoned_rows();
-    listed::tombs();
-    listed::offers();
-    listed::tombstoned();
-    expired::expired();
-    ended::tombs();
-    ended::maintenance();
+fn main(rt: HostRuntime) -> io::Result<()> {
+    time::minute(&rt)?;
+    time::last_minute(&rt)?;
+    time::lifetime_end(&rt)?;
+    time::accepted(&rt)?;
+    listed::fetches(&rt)?;
+    listed::tombstoned_rows(&rt)?;
+    listed::tombs(&rt)?;
+    listed::offers(&rt)?;
+    listed::tombstoned(&rt)?;
+    expired::expired(&rt)?;
+    ended::tombs(&rt)?;
+    ended::maintenance(&rt)
 }

@@ -1,11 +1,12 @@
 // A small post, and what is put to it. What only sets it up writes nothing; the other calls write what they answer.
 use crate::lines;
-use crate::lines::{end, number, text};
+use crate::lines::first;
 use chain::Dir;
 use courier::Header;
 use courier_core::{ContactId, Refusal, Verification};
 use envelope::Answer;
-use rows::{Device, Exchange};
+use rows::{CARRIED_WIDTH, Carried, Device, Exchange, OWN_WIDTH, Reply, Row, TOMBSTONE_WIDTH};
+use std::io;
 
 // What goes by value and the lent areas: 16 carried cells, 4 own ones, 4 tombstone rows, 2 rows of bad tags.
 #[derive(Drop)]
@@ -142,9 +143,14 @@ impl Post {
         self
     }
 
-    // A carried row's copies fell to 0, as peers that accept leave them.
+    // The copies of the carried row at i fell to 0, as peers that accept leave them.
     pub fn without_copies(mut self, i: usize) -> Post {
-        self.carried[i % 256 * 57 + 52] = 0;
+        let at = i % 256 * CARRIED_WIDTH;
+        let row = Carried {
+            copies: 0,
+            ..Carried::read(&self.carried, at)
+        };
+        row.put(&mut self.carried, at);
         self
     }
 
@@ -181,23 +187,23 @@ impl Post {
     }
 
     // An envelope that a peer sends, with no window.
-    pub fn send(mut self, peer: u64, head: Header) -> Post {
+    pub fn send(mut self, rt: &impl Print, peer: u64, head: Header) -> io::Result<Post> {
         let mut replies = [0u8; 61440];
         let mut actions = [0u8; 6708];
         match self.take(peer, head, &mut replies, &mut actions) {
-            Err(why) => lines::show_refusal(why),
-            Ok(Answer::Ours(_, _, _)) => text(b"ours\n"),
+            Err(why) => lines::show_refusal(rt, why)?,
+            Ok(Answer::Ours(_, _, _)) => println!(rt; "ours")?,
             Ok(Answer::Done(n, m)) => {
-                lines::show_replies(&replies, n);
-                lines::show_actions(&actions, m);
+                lines::show_replies(rt, first(replies.as_chunks().0, n))?;
+                lines::show_actions(rt, first(actions.as_chunks().0, m))?;
             }
         }
-        self
+        Ok(self)
     }
 
-    pub fn fetch(&self, peer: u64, tag: [u8; 16]) {
+    pub fn fetch(&self, rt: &impl Print, peer: u64, tag: [u8; 16]) -> io::Result<()> {
         let mut replies = [0u8; 61440];
-        match fetch::fetch(
+        let fetched = fetch::fetch(
             self.device,
             ContactId(peer),
             tag,
@@ -207,11 +213,8 @@ impl Post {
             &self.own_cells,
             &self.carried_cells,
             &mut replies,
-        ) {
-            Ok(Some(ct)) => lines::show_fetched(ct.len(), &replies),
-            Ok(None) => lines::show_missing(255),
-            Err(why) => lines::show_missing(courier_core::refusal_number(why)),
-        }
+        );
+        lines::show_fetched(rt, fetched, Reply::read(&replies, 0))
     }
 
     // A tombstone whose secret has the bytes of its tag is stored.
@@ -244,7 +247,7 @@ impl Post {
     }
 
     // A tomb from contact 7.
-    pub fn tomb(mut self, tag: [u8; 16], s: [u8; 16]) -> Post {
+    pub fn tomb(mut self, rt: &impl Print, tag: [u8; 16], s: [u8; 16]) -> io::Result<Post> {
         let mut actions = [0u8; 6708];
         let said = tombs::receive_tomb(
             &mut self.device,
@@ -257,12 +260,18 @@ impl Post {
             &mut self.tombstones,
             &mut actions,
         );
-        show_said(said, &actions);
-        lines::show_counts(self.device);
-        self
+        match said {
+            Err(why) => lines::show_refusal(rt, why)?,
+            Ok(tombs::Said::Malformed) => println!(rt; "malformed")?,
+            Ok(tombs::Said::Done(n)) => {
+                lines::show_actions(rt, first(actions.as_chunks().0, n))?;
+            }
+        }
+        lines::show_counts(rt, &self.device)?;
+        Ok(self)
     }
 
-    pub fn maintenance(mut self) -> Post {
+    pub fn maintenance(mut self, rt: &impl Print) -> io::Result<Post> {
         let mut actions = [0u8; 6708];
         let listed = maintenance::maintain_couriers(
             &mut self.device,
@@ -272,15 +281,15 @@ impl Post {
             &mut actions,
         );
         match listed {
-            Err(why) => lines::show_refusal(why),
-            Ok(n) => lines::show_actions(&actions, n),
+            Err(why) => lines::show_refusal(rt, why)?,
+            Ok(n) => lines::show_actions(rt, first(actions.as_chunks().0, n))?,
         }
-        lines::show_counts(self.device);
-        self
+        lines::show_counts(rt, &self.device)?;
+        Ok(self)
     }
 
     // Our inventory for a peer.
-    pub fn inventory_of_ours(&self, peer: u64) {
+    pub fn inventory_of_ours(&self, rt: &impl Print, peer: u64) -> io::Result<()> {
         let mut prefixes = [0u8; 4096];
         match inventory::inventory(
             self.device,
@@ -290,13 +299,13 @@ impl Post {
             &self.carried,
             &mut prefixes,
         ) {
-            Err(why) => lines::show_refusal(why),
-            Ok(n) => lines::show_prefixes(&prefixes, n),
+            Err(why) => lines::show_refusal(rt, why),
+            Ok(n) => lines::show_prefixes(rt, first(prefixes.as_chunks().0, n)),
         }
     }
 
     // A fresh exchange with contact 5, in which it lists prefixes and then none.
-    pub fn listed(&self, window: &[u8], list: &[u8]) {
+    pub fn listed(&self, rt: &impl Print, window: &[u8], list: &[u8]) -> io::Result<()> {
         let mut prefixes = [0u8; 4096];
         let mut offers = [0u8; 8704];
         match contacts::fresh_exchange(
@@ -306,26 +315,25 @@ impl Post {
             &prefixes,
             &offers,
         ) {
-            Err(why) => lines::show_refusal(why),
+            Err(why) => lines::show_refusal(rt, why),
             Ok(exchange) => {
-                let e = self.receive(exchange, window, list, &mut prefixes, &mut offers);
-                let e = self.receive(e, window, b"", &mut prefixes, &mut offers);
-                text(b"offered");
-                number(e.offered as u64);
-                end();
+                let e = self.receive(rt, exchange, window, list, &mut prefixes, &mut offers)?;
+                let e = self.receive(rt, e, window, b"", &mut prefixes, &mut offers)?;
+                println!(rt; "offered {}", e.offered)
             }
         }
     }
 
-    // Writes what a list of prefixes from contact 5 is answered with.
+    // Writes what a list of prefixes from contact 5 is answered with, and for how many rows the tombstones were searched.
     fn receive(
         &self,
+        rt: &impl Print,
         exchange: Exchange,
         window: &[u8],
         list: &[u8],
         prefixes: &mut [u8; 4096],
         offers: &mut [u8; 8704],
-    ) -> Exchange {
+    ) -> io::Result<Exchange> {
         let mut replies = [0u8; 61440];
         let r = inventory::receive_inventory(
             self.device,
@@ -342,33 +350,28 @@ impl Post {
             offers,
             &mut replies,
         );
-        show_received(r.said, &replies);
-        r.exchange
+        match r.said {
+            Err(why) => lines::show_refusal(rt, why)?,
+            Ok(inventory::Said::Malformed) => println!(rt; "malformed")?,
+            Ok(inventory::Said::Done(n, searched)) => {
+                lines::show_replies(rt, first(replies.as_chunks().0, n))?;
+                println!(rt; "searched {searched}")?;
+            }
+        }
+        Ok(r.exchange)
     }
-}
 
-// ---- what the calls answer
+    // ---- the rows that it has
 
-// The replies, and for how many rows the tombstones were searched.
-fn show_answered(replies: &[u8; 61440], n: usize, searched: usize) {
-    lines::show_replies(replies, n);
-    text(b"searched");
-    number(searched as u64);
-    end();
-}
-
-fn show_received(said: Result<inventory::Said, Refusal>, replies: &[u8; 61440]) {
-    match said {
-        Err(why) => lines::show_refusal(why),
-        Ok(inventory::Said::Malformed) => text(b"malformed\n"),
-        Ok(inventory::Said::Done(n, searched)) => show_answered(replies, n, searched),
+    pub fn own_rows(&self) -> &[[u8; OWN_WIDTH]] {
+        first(self.own.as_chunks().0, self.device.own)
     }
-}
 
-fn show_said(said: Result<tombs::Said, Refusal>, actions: &[u8; 6708]) {
-    match said {
-        Err(why) => lines::show_refusal(why),
-        Ok(tombs::Said::Malformed) => text(b"malformed\n"),
-        Ok(tombs::Said::Done(n)) => lines::show_actions(actions, n),
+    pub fn carried_rows(&self) -> &[[u8; CARRIED_WIDTH]] {
+        first(self.carried.as_chunks().0, self.device.carried)
+    }
+
+    pub fn tombstone_rows(&self) -> &[[u8; TOMBSTONE_WIDTH]] {
+        first(self.tombstones.as_chunks().0, self.device.tombstones)
     }
 }

@@ -1,19 +1,19 @@
 -- Laws of the tests of the envelope call: rows by their keys, and each test over its parts.
 -- Assumes nothing.
-use Rattle.std.proofs.Common.{◌≡◌, ℕ, suc, ◌+◌, ◌*◌, ◌<◌, ◌≤◌, Bool, true, false, cond, not, ◌||◌, eqb, ltb, leb, List, map, length, drop, sym, ap, ◌∙◌, ap₂, arith, drop_of_length-le, le-ltb}
-use Rattle.octets.specs.Bytes.{part, num}
+use Rattle.std.proofs.Common.{◌≡◌, ℕ, suc, ◌+◌, ◌*◌, ◌<◌, ◌≤◌, Bool, true, false, cond, refl, not, ◌||◌, eqb, ltb, leb, List, length, drop, sym, ap, ◌∙◌, ap₂, arith, drop_of_length-le, le-ltb}
+use Rattle.octets.specs.Bytes.{part, num, same_bytes}
 use Rattle.octets.proofs.Parts.{part_part}
 use Rattle.courier_core.specs.declared.ContactId.{ContactId}
 use Rattle.courier.specs.declared.Header.{Header}
 use Rattle.courier.specs.declared.Custody.{Custody}
 use Rattle.courier.specs.declared.Custody.TheVariants as custody
 use Rattle.courier.specs.Courier.{envelope_valid}
-use Rattle.table.specs.Lists.{any, is_at}
-use Rattle.table.specs.Rows.{held, rows}
+use Rattle.table.specs.Lists.{any}
+use Rattle.table.specs.Rows.{held, rows, has_key}
 use Rattle.table.specs.Codec.{Codec, table_of}
-use Rattle.table.proofs.FindLaws.{count_next, count_end, position_any, position_map}
+use Rattle.table.proofs.FindLaws.{count_next, count_end, key_run}
 use Rattle.table.proofs.RowLaws.{held_inside}
-use Rattle.table.proofs.TableLaws.{length_table, table_next}
+use Rattle.table.proofs.TableLaws.{length_table, table_next, table_any}
 use Rattle.rows.specs.declared.Device.{Device}
 use Rattle.rows.specs.declared.Carried.{Carried}
 use Rattle.rows.specs.declared.Contact.{Contact}
@@ -31,14 +31,11 @@ use Rattle.model.proofs.Laws.{carried_total_lem}
 pub clash : {A : Type 0} (b : Bool) → b ≡ true → b ≡ false → A
 clash b p q = let z : ◌≡◌ {A = ℕ} 0 1 = cc in absurd (omega arith)
 
--- a test of the rows of an area is the same test of the typed rows
-pub any_row : {A : Type 0} (c : Codec A) (count n : ℕ) (a : List ℕ) → n ≡ held (length a) c.width count → (p : List ℕ → Bool) (q : A → Bool)
-    → ((b : List ℕ) → p b ≡ q (c.decode b)) → (b : Bool) → b ≡ any p (rows c.width n a) → b ≡ any q (table_of c count a)
-unfolding table_of
-any_row c count n a h p q same b e =
-    let R : List (List ℕ) = rows c.width n a in
-    e ∙ sym (position_any p 0 R) ∙ ap is_at (position_map c.decode p q same 0 R) ∙ position_any q 0 (map c.decode R)
-    ∙ ap (λ (k : ℕ). any q (map c.decode (rows c.width k a))) h
+-- a search of the rows of bytes for a tag, at the place where the rows have it, is the search of the typed rows
+pub tagged : {A : Type 0} (c : Codec A) (tag_of : A → List ℕ) (o : ℕ) → ((b : List ℕ) → part b o 16 ≡ tag_of (c.decode b)) → (tag : List ℕ) (count : ℕ) (a : List ℕ) (b : Bool)
+    → length tag ≡ 16 → b ≡ any (has_key o tag) (rows c.width (held (length a) c.width count) a) → any (λ (r : A). same_bytes (tag_of r) tag) (table_of c count a) ≡ b
+tagged {A} c tag_of o same tag count a b l e =
+    sym (table_any c count _ a refl (has_key o tag) (λ (r : A). same_bytes (tag_of r) tag) (λ r. key_run o 16 tag r l ∙ ap (λ (t : List ℕ). same_bytes t tag) (same r)) b e)
 
 -- what own, carried and tombstone rows say of a tag is what duplicate says
 pub duplicate_of : {device : Device} {own carried tombstones : List ℕ} (tag : List ℕ) (a : Areas) → a.device ≡ device → a.own ≡ own → a.carried ≡ carried

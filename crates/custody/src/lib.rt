@@ -5,8 +5,9 @@ ghost use Rattle.std.specs.Prelude.{◌≡◌, ◌+◌, ◌*◌, ◌≤◌, ◌&
 ghost use Rattle.octets.specs.Bytes.{part, num, same_bytes};
 ghost use Rattle.courier_core.specs.declared.ContactId.{ContactId};
 ghost use Rattle.table.specs.Lists.{any};
-ghost use Rattle.table.specs.Rows.{rows, held, has_key, Fits};
+ghost use Rattle.table.specs.Rows.{held};
 ghost use Rattle.table.specs.Codec.{table_of};
+ghost use Rattle.table.specs.Tables.{rows_in};
 ghost use Rattle.rows.specs.Rows.{carried_width, contact_codec, own_codec, carried_codec, bad_tag_codec, reachable_of};
 ghost use Rattle.model.specs.State.{State};
 ghost use Rattle.model.specs.Areas.{Areas, view};
@@ -14,14 +15,15 @@ ghost use Rattle.model.specs.Cells.{cell_length, free_cell};
 ghost use Rattle.model.specs.Window.{window_rows, lookup, wrong_direction, key_below, keys_rise, wrong_window, is_bad};
 ghost use Rattle.custody.specs.Lent.{Lent};
 ghost use Rattle.custody.specs.Named.{cells_named, Marked};
-ghost use Rattle.model.specs.Custody.{own_of_tag, carried_of_tag, max_carried_bytes, envelope_header, quota, duplicate, deposited, carried_total, full, custody_of};
+ghost use Rattle.model.specs.Custody.{max_carried_bytes, envelope_header, quota, duplicate, deposited, carried_total, full, custody_of};
 
 use chain::no_dir;
 use contacts::{is_verified, now_min};
 use courier::{Custody, ENVELOPE_HEADER, Header};
 use courier_core::ContactId;
-use rows::{BAD_TAG_WIDTH, CARRIED_WIDTH, Device, OWN_WIDTH, REACHABLE_WIDTH, Reachable};
+use rows::{BAD_TAG_WIDTH, CARRIED_WIDTH, Device, OWN_WIDTH, REACHABLE_WIDTH, Reachable, Row};
 use state::CELL;
+use table::Table;
 use tombstones::tombstoned;
 
 // The cells of an area that count, at most.
@@ -64,46 +66,16 @@ pub struct Tables<'a> {
     pub size: usize,
 }
 
-// ---- rows by tag
-
-// Has one of the rows the tag at the offset?
-fn tagged(area: &[u8], width: usize, count: usize, offset: usize, tag: [u8; 16]) -> bool
-    requires { offset + 16 ≤ width }
-    ensures { result ≡ any (has_key offset tag) (rows width (held (length area.now) width count) area.now) }
-{
-    let n = table::fit(area.len(), width, count);
-    table::find(area, width, n, offset, &tag).is_some()
-}
-
-pub fn own_tagged(own: &[u8], count: usize, tag: [u8; 16]) -> bool
-    ensures { result ≡ any (own_of_tag tag) (table_of own_codec count own.now) }
-{
-    tagged(own, OWN_WIDTH, count, OWN_TAG, tag)
-}
-
-pub fn carried_tagged(carried: &[u8], count: usize, tag: [u8; 16]) -> bool
-    ensures { result ≡ any (carried_of_tag tag) (table_of carried_codec count carried.now) }
-{
-    tagged(carried, CARRIED_WIDTH, count, CARRIED_TAG, tag)
-}
-
 // ---- the limits
 
-// How many carried rows there are.
-fn row_count(carried: &[u8], count: usize) -> usize
-    ensures { Fits (length carried.now) carried_width count result }
-{
-    table::fit(carried.len(), CARRIED_WIDTH, count)
-}
-
 // How many carried rows a peer has deposited; an expired one counts until maintenance.
-pub fn deposited(carried: &[u8], count: usize, peer: ContactId) -> usize
-    ensures { result ≡ deposited (table_of carried_codec count carried.now) peer }
+pub fn deposited(carried: Table<CARRIED_WIDTH>, peer: ContactId) -> usize
+    ensures { result ≡ deposited (rows_in carried_codec carried.entry) peer }
 {
     let mut sum = 0;
-    for i in 0..row_count(carried, count) {
-        let depositor = ContactId(octets::get_u64(carried, i * CARRIED_WIDTH + CARRIED_DEPOSITOR));
-        if depositor == peer {
+    for i in 0..carried.len() {
+        let at = i * CARRIED_WIDTH + CARRIED_DEPOSITOR;
+        if ContactId(octets::get_u64(carried.area, at)) == peer {
             sum += 1;
         }
     }
@@ -132,13 +104,13 @@ fn ciphertext_length(carried: &[u8], at: usize, size: usize) -> usize
 }
 
 // Header and ciphertext bytes of carried rows, in a cell area of size bytes. There are 256 rows at most, so that the sum fits.
-fn carried_total(carried: &[u8], count: usize, size: usize) -> usize
-    requires { length carried.now ≤ 14592 }
-    ensures { result ≡ carried_total size (table_of carried_codec count carried.now) }
+fn carried_total(carried: Table<CARRIED_WIDTH>, size: usize) -> usize
+    requires { length carried.area.now ≤ 14592 }
+    ensures { result ≡ carried_total size (rows_in carried_codec carried.entry) }
 {
     let mut sum = 0;
-    for i in 0..row_count(carried, count) {
-        sum += ENVELOPE_HEADER + ciphertext_length(carried, i * CARRIED_WIDTH, size);
+    for i in 0..carried.len() {
+        sum += ENVELOPE_HEADER + ciphertext_length(carried.area, i * CARRIED_WIDTH, size);
     }
     sum
 }
@@ -162,23 +134,23 @@ fn over_bytes(bytes: usize, len: usize) -> bool
 }
 
 // The same, over the carried rows. 256 of them have 537,856 bytes at most, so that a ciphertext which fits a cell never passes it.
-fn too_many_bytes(carried: &[u8], count: usize, size: usize, len: usize) -> bool
-    requires { length carried.now ≤ 14592 }
-    ensures { result ≡ nat_lt max_carried_bytes (carried_total size (table_of carried_codec count carried.now) + (envelope_header + len)) }
+fn too_many_bytes(carried: Table<CARRIED_WIDTH>, size: usize, len: usize) -> bool
+    requires { length carried.area.now ≤ 14592 }
+    ensures { result ≡ nat_lt max_carried_bytes (carried_total size (rows_in carried_codec carried.entry) + (envelope_header + len)) }
 {
-    len > CELL && over_bytes(carried_total(carried, count, size), len)
+    len > CELL && over_bytes(carried_total(carried, size), len)
 }
 
 // ---- the cell of a new row
 
 // Which of 256 cells the rows name. A row may name any number: one past them marks nothing.
-fn mark_cells(area: &[u8], width: usize, n: usize, offset: usize) -> [u8; MAX_CELLS]
-    requires { (n * width ≤ length area.now) × (offset + 2 ≤ width) }
-    ensures { Marked (cells_named width offset n area.now) result }
+fn mark_cells<const W: usize>(rows: Table<W>, offset: usize) -> [u8; MAX_CELLS]
+    requires { offset + 2 ≤ W }
+    ensures { Marked (cells_named W offset (held (length rows.entry.area.now) W rows.entry.count) rows.entry.area.now) result }
 {
     let mut marks = [0; MAX_CELLS];
-    for i in 0..n {
-        let cell = usize::from(octets::get_u16(area, i * width + offset));
+    for i in 0..rows.len() {
+        let cell = usize::from(octets::get_u16(rows.area, i * W + offset));
         if cell < MAX_CELLS {
             marks[cell] = 1;
         }
@@ -194,35 +166,50 @@ fn first_zero(marks: &[u8]) -> Option<usize>
 
 // The first cell that no row names, in a cell area of size bytes: up to 256 cells count.
 // One pass over the rows marks what they name, so that the time grows with the rows and not with their square.
-fn free_cell(area: &[u8], width: usize, count: usize, offset: usize, size: usize) -> Option<usize>
-    requires { offset + 2 ≤ width }
-    ensures { result ≡ free_cell size (cells_named width offset (held (length area.now) width count) area.now) }
+fn free_cell<const W: usize>(rows: Table<W>, offset: usize, size: usize) -> Option<usize>
+    requires { offset + 2 ≤ W }
+    ensures { result ≡ free_cell size (cells_named W offset (held (length rows.entry.area.now) W rows.entry.count) rows.entry.area.now) }
 {
-    let marks = mark_cells(area, width, table::fit(area.len(), width, count), offset);
+    let marks = mark_cells(rows, offset);
     first_zero(&marks[..MAX_CELLS.min(size / CELL)])
 }
 
-pub fn free_carried_cell(carried: &[u8], count: usize, size: usize) -> Option<usize>
-    ensures { result ≡ free_cell size (map (λ x. x.cell) (table_of carried_codec count carried.now)) }
+// Of carried rows and of own rows. (Two functions: each names where its rows have the cell, and is one call.)
+pub fn free_carried_cell(carried: Table<CARRIED_WIDTH>, size: usize) -> Option<usize>
+    ensures { result ≡ free_cell size (map (λ x. x.cell) (rows_in carried_codec carried.entry)) }
 {
-    free_cell(carried, CARRIED_WIDTH, count, CARRIED_CELL, size)
+    free_cell(carried, CARRIED_CELL, size)
 }
 
-pub fn free_own_cell(own: &[u8], count: usize, size: usize) -> Option<usize>
-    ensures { result ≡ free_cell size (map (λ x. x.cell) (table_of own_codec count own.now)) }
+pub fn free_own_cell(own: Table<OWN_WIDTH>, size: usize) -> Option<usize>
+    ensures { result ≡ free_cell size (map (λ x. x.cell) (rows_in own_codec own.entry)) }
 {
-    free_cell(own, OWN_WIDTH, count, OWN_CELL, size)
+    free_cell(own, OWN_CELL, size)
 }
 
 // ---- the window
 
-// The first row whose tag begins with a key: a whole tag, or a prefix of 8 bytes. Every row is looked at.
-pub fn lookup<const N: usize>(window: &[u8], key: [u8; N]) -> Option<usize>
-    requires { N ≤ 16 }
-    ensures { result ≡ lookup (window_rows window.now) key.entry }
+// The first row whose tag begins with a key of 16 bytes at most. Every row is looked at.
+fn lookup_key(window: &[u8], key: &[u8]) -> Option<usize>
+    requires { length key.now ≤ 16 }
+    ensures { result ≡ lookup (window_rows window.now) key.now }
 {
     let n = window.len() / REACHABLE_WIDTH;
-    table::scan(window, REACHABLE_WIDTH, n, REACHABLE_TAG, &key)
+    table::scan(window, REACHABLE_WIDTH, n, REACHABLE_TAG, key)
+}
+
+// The first row with the tag. (Two functions, of the two lengths that there are: of any length, it would ask that the key is no longer than a tag.)
+pub fn lookup(window: &[u8], tag: [u8; 16]) -> Option<usize>
+    ensures { result ≡ lookup (window_rows window.now) tag }
+{
+    lookup_key(window, &tag)
+}
+
+// The first row whose tag begins with the prefix.
+pub fn lookup_prefix(window: &[u8], prefix: [u8; 8]) -> Option<usize>
+    ensures { result ≡ lookup (window_rows window.now) prefix }
+{
+    lookup_key(window, &prefix)
 }
 
 fn wrong_directions(window: &[u8]) -> bool
@@ -236,7 +223,7 @@ fn wrong_directions(window: &[u8]) -> bool
     )
 }
 
-// (contact, dir, generation, index)
+// (contact, dir, generation, index): a derived order would have the tag too, which is no part of the key.
 fn key_below(a: Reachable, b: Reachable) -> bool
     ensures { result ≡ key_below a b }
 {
@@ -251,8 +238,8 @@ fn rises(window: &[u8], at: usize) -> bool
     ensures { result ≡ key_below (reachable_of (part window.now at 30)) (reachable_of (part window.now (at + 30) 30)) }
 {
     key_below(
-        rows::reachable_at(window, at),
-        rows::reachable_at(window, at + REACHABLE_WIDTH),
+        Reachable::read(window, at),
+        Reachable::read(window, at + REACHABLE_WIDTH),
     )
 }
 
@@ -285,11 +272,10 @@ fn is_bad_row(row: &[u8], peer: ContactId, tag: [u8; 16]) -> bool
 }
 
 // Is a tag bad for a peer?
-pub fn is_bad(bad: &[u8], count: usize, peer: ContactId, tag: [u8; 16]) -> bool
-    ensures { result ≡ is_bad (table_of bad_tag_codec count bad.now) peer tag }
+pub fn is_bad(bad: Table<BAD_TAG_WIDTH>, peer: ContactId, tag: [u8; 16]) -> bool
+    ensures { result ≡ is_bad (rows_in bad_tag_codec bad.entry) peer tag }
 {
-    let n = table::fit(bad.len(), BAD_TAG_WIDTH, count);
-    table::any(bad, BAD_TAG_WIDTH, n, |row| is_bad_row(row, peer, tag))
+    bad.any(|row| is_bad_row(row, peer, tag))
 }
 
 // ---- `custody`
@@ -299,23 +285,38 @@ impl Tables<'_> {
     pub fn duplicate(self, tag: [u8; 16]) -> bool
         ensures { (a : Areas) → a.device ≡ self.entry.device → a.own ≡ self.entry.own.now → a.carried ≡ self.entry.carried.now → a.tombstones ≡ self.entry.tombstones.now → result ≡ duplicate (view a) tag }
     {
-        let device = self.device;
-        let carried = self.carried;
-        own_tagged(self.own, device.own, tag)
-            || carried_tagged(carried, device.carried, tag)
-            || tombstoned(self.tombstones, device.tombstones, tag)
+        let own = Table::<OWN_WIDTH> {
+            area: self.own,
+            count: self.device.own,
+        };
+        let area = self.carried;
+        let carried = Table::<CARRIED_WIDTH> {
+            area,
+            count: self.device.carried,
+        };
+        let tombstones = Table {
+            area: self.tombstones,
+            count: self.device.tombstones,
+        };
+        own.has(OWN_TAG, &tag) || carried.has(CARRIED_TAG, &tag) || tombstoned(tombstones, tag)
     }
 
     // Full, of an envelope of len ciphertext bytes.
     pub fn full(self, peer: ContactId, len: usize) -> bool
         ensures { (s : State) → s.carried ≡ table_of carried_codec self.entry.device.carried self.entry.carried.now → s.contacts ≡ table_of contact_codec self.entry.device.contacts self.entry.contacts.now → self.entry.size ≡ length s.carried_cells → result ≡ full s peer len }
     {
-        let device = self.device;
-        let carried = self.carried;
-        row_count(carried, device.carried) >= MAX_CARRIED
-            || too_many_bytes(carried, device.carried, self.size, len)
-            || deposited(carried, device.carried, peer)
-                >= quota(is_verified(self.contacts, device.contacts, peer))
+        let contacts = Table {
+            area: self.contacts,
+            count: self.device.contacts,
+        };
+        let area = self.carried;
+        let carried = Table {
+            area,
+            count: self.device.carried,
+        };
+        carried.len() >= MAX_CARRIED
+            || too_many_bytes(carried, self.size, len)
+            || deposited(carried, peer) >= quota(is_verified(contacts, peer))
     }
 
     // The tests Off, Invalid, Duplicate, Full: the first that applies is the code.
@@ -323,15 +324,13 @@ impl Tables<'_> {
         ensures { (a : Areas) → Lent a self.entry → result ≡ custody_of (view a) peer head len }
     {
         let device = self.device;
-        let config = device.courier;
-        if !config.enabled {
+        if !device.courier.enabled {
             return Custody::Off;
         }
         if !courier::valid(len, head.copies, head.expiry_min, now_min(device.now_s)) {
             return Custody::Invalid;
         }
-        let tag = head.tag;
-        if self.duplicate(tag) {
+        if self.duplicate(head.tag) {
             return Custody::Duplicate;
         }
         if self.full(peer, len) {

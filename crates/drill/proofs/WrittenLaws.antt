@@ -3,12 +3,12 @@ use mathlib.Core.Path.{◌≡◌, refl, sym, ap, ◌∙◌, subst}
 use mathlib.Core.Bool.{true, false, false≢true}
 use Rattle.std.specs.Prelude.{Bool, Option, Some, None}
 use mathlib.Core.List.{List, [], ◌++◌, append-nil, append_assoc}
-use Prim.Native.Nat.{ℕ, ◌+◌, ◌-◌, ◌%◌, ◌^◌, ◌≤◌, ◌<◌}
+use Prim.Native.Nat.{ℕ, ◌+◌, ◌-◌, ◌%◌, ◌^◌, ◌≤◌}
 use native.Mathlib.Omega.{arith}
-use lib.ListN.{length, length-append, take, drop}
-use lib.Seq.{length-take-le, take_all, take-take, take-add}
-use Rattle.octets.specs.Bytes.{part}
-use Rattle.octets.proofs.Parts.{length_part, take_written}
+use lib.ListN.{length, length-append, length-drop, take, drop}
+use lib.Seq.{length-take-le, take_all, take-add}
+use Rattle.std.proofs.lemmas.List.{take_rest}
+use Rattle.octets.proofs.Parts.{take_written}
 use Rattle.text.specs.Text.{Puts}
 use Rattle.model.specs.State.{State}
 use Rattle.model.specs.Areas.{Areas}
@@ -40,31 +40,22 @@ takes_once {total} {total'} {n} bytes h e = record {
 pub takes_none : (total : ℕ) (bytes : List ℕ) → Takes total bytes 0 total
 takes_none total bytes = record { near = omega arith; sent = λ before s. subst (Sent total) (sym (append-nil before)) s }
 
--- of the first n bytes the first were sent, and then the first of the rest
-module _ (bytes : List ℕ) (n done : ℕ) (order : done ≤ n) (inside : n ≤ length bytes) where
-  rest_length : length (take (n - done) (drop done bytes)) ≡ n - done
-  unfolding part
-  rest_length = length_part bytes done (n - done) (omega arith)
-
-  pub takes_on : {total sum sum' k : ℕ} → Takes total (take n bytes) done sum → Takes sum (take (n - done) (drop done bytes)) k sum' → Takes total (take n bytes) (done + k) sum'
-  takes_on {total} {sum} {sum'} {k} f g =
-      let room : k ≤ n - done = omega (arith, g.near, rest_length) in
-      let all : done + k ≤ n = omega arith in
-      let e : take done (take n bytes) ++ take k (take (n - done) (drop done bytes)) ≡ take (done + k) (take n bytes) =
-      (λ i. take-take done n bytes order i ++ take-take k (n - done) (drop done bytes) room i) ∙ sym (take-add done k bytes) ∙ sym (take-take (done + k) n bytes all) in
-      record {
-        near = omega (arith, length-take-le n bytes inside);
-        sent = λ before s.
-            subst (Sent sum') (append_assoc before (take done (take n bytes)) (take k (take (n - done) (drop done bytes))) ∙ ap (λ (l : List ℕ). before ++ l) e)
-            (g.sent (before ++ take done (take n bytes)) (f.sent before s));
-      }
+-- the first were sent, and then the first of the rest
+pub takes_on : (bytes : List ℕ) (done : ℕ) {total sum sum' k : ℕ} → Takes total bytes done sum → Takes sum (take (length bytes - done) (drop done bytes)) k sum'
+    → Takes total bytes (done + k) sum'
+takes_on bytes done {total} {sum} {sum'} {k} f g =
+    let h : Takes sum (drop done bytes) k sum' = subst (λ (l : List ℕ). Takes sum l k sum') (take_rest bytes done) g in
+    record {
+      near = omega (arith, f.near, h.near, length-drop done bytes);
+      sent = λ before s.
+          subst (Sent sum') (append_assoc before (take done bytes) (take k (drop done bytes)) ∙ ap (λ (l : List ℕ). before ++ l) (sym (take-add done k bytes)))
+          (h.sent (before ++ take done bytes) (f.sent before s));
+    }
 
 -- as many as were asked
-pub wrote_all : (bytes : List ℕ) (n : ℕ) {total k total' : ℕ} → n ≤ length bytes → n ≤ k → Takes total (take n bytes) k total'
-    → Writes total (take n bytes) (record { total = total'; whole = true })
+pub wrote_all : (bytes : List ℕ) {total k total' : ℕ} → length bytes ≤ k → Takes total bytes k total' → Writes total bytes (record { total = total'; whole = true })
 unfolding Writes
-wrote_all bytes n {total} {k} {total'} inside h f e before s =
-    subst (λ (l : List ℕ). Sent total' (before ++ l)) (take_all k (take n bytes) (omega (arith, length-take-le n bytes inside))) (f.sent before s)
+wrote_all bytes {total} {k} {total'} h f e before s = subst (λ (l : List ℕ). Sent total' (before ++ l)) (take_all k bytes h) (f.sent before s)
 
 pub wrote_cut : (total total' : ℕ) (bytes : List ℕ) → Writes total bytes (record { total = total'; whole = false })
 unfolding Writes

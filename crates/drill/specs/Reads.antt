@@ -1,5 +1,5 @@
 -- What a read leaves. Assumes nothing.
-use Rattle.std.specs.Prelude.{ℕ, ◌+◌, ◌≤◌, ◌<◌, ◌≡◌, true, Result, Ok, Err, List, length, take}
+use Rattle.std.specs.Prelude.{ℕ, ◌+◌, ◌≤◌, ◌≡◌, true, Result, Ok, Err, List, length, take}
 use Rattle.drill_log.specs.declared.Why.TheVariants as cause
 use Rattle.drill_log.specs.Run.{goes_on}
 use Rattle.drill_turn.specs.declared.Turn.{Turn}

@@ -1,6 +1,6 @@
 -- What the program writes: bytes that write took, in order. No contract says what the system does with the bytes of a write, so that these
 -- definitions count them. Assumes nothing.
-use Rattle.std.specs.Prelude.{ℕ, ◌+◌, ◌%◌, ◌^◌, ◌≤◌, ◌<◌, ◌≡◌, Bool, true, false, Option, Some, None, List, [], ◌∷◌, ◌++◌, length, take}
+use Rattle.std.specs.Prelude.{ℕ, ◌+◌, ◌%◌, ◌^◌, ◌≤◌, ◌≡◌, Bool, true, false, Option, Some, None, List, [], ◌∷◌, ◌++◌, length, take}
 use Rattle.model.specs.State.{State}
 use Rattle.model.specs.Areas.{Areas}
 use Rattle.drill_run.specs.Drill.{printed}

@@ -1,7 +1,7 @@
 // Reads a log from standard input, and writes its lines to standard output. What it keeps, hands on and puts at the end is `drill_turn`'s.
 #![tactic(auto)]
 
-ghost use Rattle.std.specs.Prelude.{◌≡◌, ◌≤◌, ◌<◌, length, take, replicate};
+ghost use Rattle.std.specs.Prelude.{◌≡◌, ◌<◌, length, replicate};
 ghost use Rattle.drill_run.specs.Drill.{drill_start};
 ghost use Rattle.drill_turn.specs.Stream.{Inside, Waits, Stops};
 ghost use Rattle.drill.specs.Reads.{count_of, Reads, Filled};
@@ -62,7 +62,8 @@ fn fill(stdin: Stdin, stderr: Stderr, turn: Turn, input: &mut [u8; 65536]) -> Tu
 
 // ---- writing
 
-// What write took: so many of the bytes that it was handed, and so many in all, modulo 2^64; and the error of a write that failed.
+// What write took: so many of the bytes that it was handed, and so many in all, modulo 2^64; and the error of a write that failed. (The
+// counts hold beside an error too: they say what was sent before it.)
 #[derive(Drop)]
 struct Took {
     n: usize,
@@ -88,15 +89,15 @@ fn write_once(to: &impl Print, bytes: &[u8], total: u64) -> Took
     }
 }
 
-// Writes the first n bytes in order, and stops at a write that takes none.
-fn write_front(to: &impl Print, bytes: &[u8], n: usize, total: u64) -> Took
-    requires { n ≤ length bytes.now }
-    ensures { Takes total (take n bytes.now) result.n result.total }
+// Writes the bytes in order, and stops at a write that takes none. (A loop over writes: `write_all` does not say how many bytes went before
+// an error.)
+fn write_front(to: &impl Print, bytes: &[u8], total: u64) -> Took
+    ensures { Takes total bytes.now result.n result.total }
 {
     let mut done = 0;
     let mut sum = total;
-    while done < n {
-        let took = write_once(to, &bytes[done..n], sum);
+    while done < bytes.len() {
+        let took = write_once(to, &bytes[done..], sum);
         if took.n == 0 {
             return Took {
                 n: done,
@@ -114,20 +115,19 @@ fn write_front(to: &impl Print, bytes: &[u8], n: usize, total: u64) -> Took
     }
 }
 
-// So many bytes in all, and whether those that were asked are among them.
+// So many bytes in all, and whether those that were asked are among them. (The total counts where they are not, too.)
 #[derive(Drop)]
 struct Wrote {
     total: u64,
     whole: bool,
 }
 
-// Writes the first n bytes to standard output, or says that it could not.
-fn emit(stdout: Stdout, stderr: Stderr, out: &[u8; 655360], n: usize, total: u64) -> Wrote
-    requires { n ≤ 655360 }
-    ensures { Writes total (take n out.now) result }
+// Writes lines to standard output, or says that it could not.
+fn emit(stdout: Stdout, stderr: Stderr, lines: &[u8], total: u64) -> Wrote
+    ensures { Writes total lines.now result }
 {
-    let took = write_front(&stdout, out, n, total);
-    if took.n < n {
+    let took = write_front(&stdout, lines, total);
+    if took.n < lines.len() {
         fail(
             stderr,
             "standard output",
@@ -153,8 +153,8 @@ fn tell(stderr: Stderr, turn: Turn, input: &[u8; 65536]) -> Took
     let mut message = [0u8; drill_reason::LONGEST_MESSAGE];
     let number = drill_turn::further(turn.records, 1);
     let byte = drill_turn::further(turn.bytes, turn.from);
-    let n = drill_reason::message_at(input, turn.from, turn.have, number, byte, &mut message);
-    write_front(&stderr, &message, n, 0)
+    let n = drill_reason::message_at(&input[turn.from..turn.have], number, byte, &mut message);
+    write_front(&stderr, &message[..n], 0)
 }
 
 // ---- the run
@@ -207,7 +207,7 @@ fn finish(
         return ended(turn, total, Some(Why::Failed));
     }
     let n = drill_turn::at_end(turn, out);
-    let wrote = emit(stdout, stderr, out, n, total);
+    let wrote = emit(stdout, stderr, &out[..n], total);
     if wrote.whole {
         if n > 0 {
             tell(stderr, turn, input);
@@ -251,7 +251,7 @@ fn run(stdin: Stdin, stdout: Stdout, stderr: Stderr) -> Ran
             return finish(stdout, stderr, filled, &input, &mut out, total);
         }
         let next = drill_turn::advance(filled, &input, &mut tables, &mut out);
-        let wrote = emit(stdout, stderr, &out, next.put, total);
+        let wrote = emit(stdout, stderr, &out[..next.put], total);
         if next.why.goes_on() && wrote.whole {
             turn = next;
             total = wrote.total;
@@ -268,7 +268,7 @@ fn run(stdin: Stdin, stdout: Stdout, stderr: Stderr) -> Ran
 fn say(stderr: Stderr, text: &[u8]) -> Took
     ensures { Takes 0 text.now result.n result.total }
 {
-    write_front(&stderr, text, text.len(), 0)
+    write_front(&stderr, text, 0)
 }
 
 fn say_use(stderr: Stderr) -> Took

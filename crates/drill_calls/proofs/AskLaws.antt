@@ -1,6 +1,6 @@
 -- From what each call does to what is told of its record.
 -- Assumes nothing.
-use Rattle.std.proofs.Common.{◌≡◌, ◌≤◌, List, ℕ, length, refl, sym, ap, ◌∙◌, subst, Option, Some}
+use Rattle.std.proofs.Common.{◌≡◌, ◌≤◌, List, ℕ, length, refl, sym, ap, ◌∙◌, subst, Option, Some, Err}
 use Rattle.std.specs.Prelude.{IsSome}
 use Rattle.std.proofs.lemmas.Option.{same_Some}
 use Rattle.octets.specs.Bytes.{part}
@@ -16,7 +16,6 @@ use Rattle.model.specs.Calls.{Call, Result}
 use Rattle.model.specs.Step.{step}
 use Rattle.model.specs.Areas.{Areas, AnswerAreas, Written, view}
 use Rattle.model.specs.Lent.{Does}
-use Rattle.drill_lines.specs.declared.Last.TheVariants as last
 use Rattle.drill_run.specs.Drill.{record_step, call_of}
 use Rattle.drill_calls.specs.declared.Told.{Told}
 use Rattle.drill_calls.specs.Asking.{told_by, line_told, told_of_number, Asks}
@@ -32,7 +31,7 @@ asked told {says} {said} {r} m {c} {before} {after} {lent} {back} e same w q a =
     record { answer = ap told_by q ∙ ap (λ x. told_by (told x)) v.answer ∙ same (view (before a)); areas = v.areas; answers = v.answers }
 
 -- a refusal is told from its number
-pub fetch_refused : (why : Refusal) → line_told (last.Refused why) ≡ told_of_number (refusal_number why)
+pub fetch_refused : (why : Refusal) → line_told (Err why) ≡ told_of_number (refusal_number why)
 fetch_refused refusal.ShortArea = refl
 fetch_refused refusal.UnknownContact = refl
 fetch_refused refusal.WrongExchange = refl

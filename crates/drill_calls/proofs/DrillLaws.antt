@@ -1,6 +1,6 @@
 -- What is told of a record on the areas that its call is lent is told of it on all areas of the drill, of which the others stay as they are.
 -- Assumes nothing.
-use Rattle.std.proofs.Common.{◌≡◌, ℕ, ◌≤◌, List, length, refl, sym, ap, ◌∙◌, subst, Option, None}
+use Rattle.std.proofs.Common.{◌≡◌, ℕ, ◌≤◌, List, length, refl, sym, ap, ◌∙◌, subst, Option, Some, None, Err}
 use Rattle.courier_core.specs.declared.Refusal.TheVariants as refusal
 use Rattle.model.specs.Areas.{Areas, AnswerAreas}
 use Rattle.model.specs.Calls.{Call, Result}
@@ -8,27 +8,33 @@ use Rattle.model.specs.Lent.{Does, no_answers, replies_lent, actions_lent, answe
 use Rattle.model.proofs.CallLaws.{refused_call}
 use Rattle.wire.specs.declared.Mark.{Mark}
 use Rattle.wire.specs.declared.Body.{Body}
-use Rattle.wire.specs.Log.{Record, body_of}
+use Rattle.wire.specs.Log.{body_of}
 use Rattle.wire.specs.Read.{record_of, least_of}
 use Rattle.wire.specs.Read as read
-use Rattle.drill_lines.specs.declared.Last.TheVariants as last
 use Rattle.drill_run.specs.Drill.{record_step, tells}
 use Rattle.drill_calls.specs.declared.Told.{Told}
 use Rattle.drill_calls.specs.Asking.{line_told, Asks}
+use Rattle.drill_calls.proofs.AskLaws.{asks_of}
 use Rattle.drill_calls.proofs.AreaLaws.{with_replies, with_actions, with_both}
 
 -- what was read of a body is its record, and the bytes that the record needs are there
-module _ {m : Mark} {b : List ℕ} {x : Option Body} (t : read.Told m b x) (k : Option Body) (e : x ≡ k) where
-  pub record_read : body_of m b ≡ record_of k b
-  record_read = sym t.whole ∙ ap (λ (y : Option Body). record_of y b) e
+module _ {m : Mark} {b : List ℕ} {x : Option Body} (t : read.Told m b x) where
+  read_is : (k : Option Body) → x ≡ k → body_of m b ≡ record_of k b
+  read_is k e = sym t.whole ∙ ap (λ (y : Option Body). record_of y b) e
 
-  pub bytes_read : least_of k ≤ length b
-  bytes_read = subst (λ (y : Option Body). least_of y ≤ length b) e t.room
+  module _ {y : Body} (k : Body) (e : x ≡ Some y) (q : y ≡ k) where
+    pub bytes_read : least_of (Some k) ≤ length b
+    bytes_read = subst (λ (z : Option Body). least_of z ≤ length b) (e ∙ ap Some q) t.room
 
--- a body that is no record
-pub ask_wrong : {m : Option Record} {r : Told} (before : Areas → Areas) {lent : AnswerAreas} → m ≡ None → r ≡ line_told (last.Refused refusal.LogRecord) → Asks m r before before lent lent
-unfolding record_step tells
-ask_wrong before em q a = rw (em, q) (refused_call refusal.LogRecord refl refl refl)
+    pub asks_read : {r : Told} {before after : Areas → Areas} {lent back : AnswerAreas} → Asks (record_of (Some k) b) r before after lent back
+        → Asks (body_of m b) r before after lent back
+    asks_read h = asks_of (read_is (Some k) (e ∙ ap Some q)) h
+
+  -- a body that is no record
+  pub asks_wrong : x ≡ None → {r : Told} (before : Areas → Areas) {lent : AnswerAreas} → r ≡ line_told (Err refusal.LogRecord)
+      → Asks (body_of m b) r before before lent lent
+  unfolding record_step tells
+  asks_wrong e before q a = rw (read_is None e, q) (refused_call refusal.LogRecord refl refl refl)
 
 -- What a call does on the areas that it is lent it does on the drill's, of which `before` has the others: by the answer areas that it is lent.
 module _ {A : Type 0} {says : Result → A} (c : Call) {said : A} {inner outer : Areas → Areas} (before : Areas → Areas) where

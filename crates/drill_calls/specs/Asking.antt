@@ -12,8 +12,8 @@ use Rattle.inventory.specs.declared.Said.TheVariants as received
 use Rattle.fetch.specs.Fetch.{Fetched}
 use Rattle.tombs.specs.declared.Said.{Said as Met}
 use Rattle.tombs.specs.declared.Said.TheVariants as met
-use Rattle.drill_lines.specs.declared.Last.{Last}
-use Rattle.drill_lines.specs.declared.Last.TheVariants as last
+use Rattle.drill_lines.specs.declared.Said.TheVariants as said
+use Rattle.drill_lines.specs.Lines.{Last}
 use Rattle.rows.specs.declared.Device.{Device}
 use Rattle.rows.specs.declared.Exchange.{Exchange}
 use Rattle.model.specs.Lent.{answers_lent}
@@ -31,28 +31,28 @@ abbrev pub line_told : Last → Told
 line_told end = record { acted = 0; replied = 0; last = end }
 
 abbrev pub rows_told : (acted replied : ℕ) → Told
-rows_told acted replied = record { acted = acted; replied = replied; last = last.Ok }
+rows_told acted replied = record { acted = acted; replied = replied; last = Ok said.Done }
 
 -- ---- the same, of what each call answers
 
 -- contact, setting, clock, session; and custody code, maintenance
 abbrev pub done_told : Result Unit Refusal → Told
-done_told (Ok u) = line_told last.Ok
-done_told (Err why) = line_told (last.Refused why)
+done_told (Ok u) = line_told (Ok said.Done)
+done_told (Err why) = line_told (Err why)
 
 abbrev pub acted_told : Result ℕ Refusal → Told
 acted_told (Ok actions) = rows_told actions 0
-acted_told (Err why) = line_told (last.Refused why)
+acted_told (Err why) = line_told (Err why)
 
 abbrev pub envelope_told : Result Answer Refusal → Told
-envelope_told (Ok (answer.Ours contact generation idx)) = line_told last.Ok
+envelope_told (Ok (answer.Ours contact generation idx)) = line_told (Ok said.Done)
 envelope_told (Ok (answer.Done replies actions)) = rows_told actions replies
-envelope_told (Err why) = line_told (last.Refused why)
+envelope_told (Err why) = line_told (Err why)
 
 abbrev pub inventory_told : Result Received Refusal → Told
-inventory_told (Ok received.Malformed) = line_told last.Malformed
+inventory_told (Ok received.Malformed) = line_told (Ok said.Malformed)
 inventory_told (Ok (received.Done replies searched)) = rows_told 0 replies
-inventory_told (Err why) = line_told (last.Refused why)
+inventory_told (Err why) = line_told (Err why)
 
 -- the refusal that has the number
 abbrev pub refusal_with : ℕ → Refusal
@@ -72,15 +72,15 @@ refusal_with n =
 
 -- a fetch by its number: 0 an envelope, 255 none, or a refusal's
 abbrev pub told_of_number : ℕ → Told
-told_of_number n = cond (n == 0) (rows_told 0 1) (cond (n == 255) (line_told last.Ok) (line_told (last.Refused (refusal_with n))))
+told_of_number n = cond (n == 0) (rows_told 0 1) (cond (n == 255) (line_told (Ok said.Done)) (line_told (Err (refusal_with n))))
 
 abbrev pub fetch_told : Fetched → Told
 fetch_told f = told_of_number f.number
 
 abbrev pub tomb_told : Result Met Refusal → Told
-tomb_told (Ok met.Malformed) = line_told last.Malformed
+tomb_told (Ok met.Malformed) = line_told (Ok said.Malformed)
 tomb_told (Ok (met.Done actions)) = rows_told actions 0
-tomb_told (Err why) = line_told (last.Refused why)
+tomb_told (Err why) = line_told (Err why)
 
 -- ---- the contract: a record, or none where the grammar refuses it, is answered as the model's step of it says, on any areas
 

@@ -10,7 +10,7 @@ ghost use Rattle.drill_calls.specs.Asking.{line_told, rows_told, done_told, acte
 
 use courier::Custody;
 use courier_core::{ContactId, Refusal};
-use drill_lines::Last;
+use drill_lines::Said;
 use rows::{Device, Exchange};
 use wire::{Body, Mark};
 
@@ -35,12 +35,12 @@ pub struct Tables {
 pub struct Told {
     pub acted: usize,
     pub replied: usize,
-    pub last: Last,
+    pub last: Result<Said, Refusal>,
 }
 
 // ---- what the calls answer
 
-fn line(last: Last) -> Told
+fn line(last: Result<Said, Refusal>) -> Told
     ensures { result ≡ line_told last }
 {
     Told {
@@ -56,7 +56,7 @@ fn listed(acted: usize, replied: usize) -> Told
     Told {
         acted,
         replied,
-        last: Last::Ok,
+        last: Ok(Said::Done),
     }
 }
 
@@ -65,8 +65,8 @@ fn done(said: Result<(), Refusal>) -> Told
     ensures { result ≡ done_told said }
 {
     match said {
-        Ok(()) => line(Last::Ok),
-        Err(why) => line(Last::Refused(why)),
+        Ok(()) => line(Ok(Said::Done)),
+        Err(why) => line(Err(why)),
     }
 }
 
@@ -76,7 +76,7 @@ fn acted(said: Result<usize, Refusal>) -> Told
 {
     match said {
         Ok(acted) => listed(acted, 0),
-        Err(why) => line(Last::Refused(why)),
+        Err(why) => line(Err(why)),
     }
 }
 
@@ -85,8 +85,8 @@ fn enveloped(said: Result<envelope::Answer, Refusal>) -> Told
 {
     match said {
         Ok(envelope::Answer::Done(replied, acted)) => listed(acted, replied),
-        Ok(envelope::Answer::Ours(_, _, _)) => line(Last::Ok),
-        Err(why) => line(Last::Refused(why)),
+        Ok(envelope::Answer::Ours(_, _, _)) => line(Ok(Said::Done)),
+        Err(why) => line(Err(why)),
     }
 }
 
@@ -95,8 +95,8 @@ fn received(said: Result<inventory::Said, Refusal>) -> Told
 {
     match said {
         Ok(inventory::Said::Done(replied, _)) => listed(0, replied),
-        Ok(inventory::Said::Malformed) => line(Last::Malformed),
-        Err(why) => line(Last::Refused(why)),
+        Ok(inventory::Said::Malformed) => line(Ok(Said::Malformed)),
+        Err(why) => line(Err(why)),
     }
 }
 
@@ -105,8 +105,8 @@ fn fetched(said: Result<Option<&[u8]>, Refusal>) -> Told
 {
     match said {
         Ok(Some(_)) => listed(0, 1),
-        Ok(None) => line(Last::Ok),
-        Err(why) => line(Last::Refused(why)),
+        Ok(None) => line(Ok(Said::Done)),
+        Err(why) => line(Err(why)),
     }
 }
 
@@ -115,8 +115,8 @@ fn met(said: Result<tombs::Said, Refusal>) -> Told
 {
     match said {
         Ok(tombs::Said::Done(acted)) => listed(acted, 0),
-        Ok(tombs::Said::Malformed) => line(Last::Malformed),
-        Err(why) => line(Last::Refused(why)),
+        Ok(tombs::Said::Malformed) => line(Ok(Said::Malformed)),
+        Err(why) => line(Err(why)),
     }
 }
 
@@ -200,16 +200,15 @@ fn fetch_tagged(
     exchange: Exchange,
     tables: &mut Tables,
     peer: ContactId,
-    body: &[u8],
+    tag: [u8; 16],
 ) -> Told
-    requires { 24 ≤ length body.now }
-    ensures { Asks (Some (log.fetch peer (part body.now 8 16))) result
+    ensures { Asks (Some (log.fetch peer tag)) result
         (tables_in device exchange tables.old) (tables_in device exchange tables.new) (answers_of tables.old) (answers_of tables.new) }
 {
     fetched(fetch::fetch(
         device,
         peer,
-        tag_in(body),
+        tag,
         &tables.contacts,
         &tables.own,
         &tables.carried,
@@ -224,18 +223,17 @@ fn receive_custody(
     exchange: &mut Exchange,
     tables: &mut Tables,
     peer: ContactId,
-    body: &[u8],
+    tag: [u8; 16],
     code: Custody,
 ) -> Told
-    requires { 24 ≤ length body.now }
-    ensures { Asks (Some (log.custody peer (part body.now 8 16) code)) result
+    ensures { Asks (Some (log.custody peer tag code)) result
         (tables_in device.old exchange.old tables.old) (tables_in device.new exchange.new tables.new) (answers_of tables.old) (answers_of tables.new) }
 {
     acted(exchange::handed_over(
         exchange,
         device,
         peer,
-        tag_in(body),
+        tag,
         code,
         &tables.contacts,
         &mut tables.own,
@@ -252,17 +250,16 @@ fn receive_tomb(
     exchange: Exchange,
     tables: &mut Tables,
     peer: ContactId,
-    body: &[u8],
+    tag: [u8; 16],
+    s: [u8; 16],
 ) -> Told
-    requires { 40 ≤ length body.now }
-    ensures { Asks (Some (log.tomb peer (part body.now 8 16) (part body.now 24 16))) result
+    ensures { Asks (Some (log.tomb peer tag s)) result
         (tables_in device.old exchange tables.old) (tables_in device.new exchange tables.new) (answers_of tables.old) (answers_of tables.new) }
 {
-    let s = octets::get_array(body, 24);
     met(tombs::receive_tomb(
         device,
         peer,
-        tag_in(body),
+        tag,
         s,
         &tables.contacts,
         &mut tables.own,
@@ -314,12 +311,12 @@ pub fn ask(
         (tables_in device.old exchange.old tables.old) (tables_in device.new exchange.new tables.new) (answers_of tables.old) (answers_of tables.new) }
 {
     let Some(read) = wire::read_body(mark, body) else {
-        return line(Last::Refused(Refusal::LogRecord));
+        return line(Err(Refusal::LogRecord));
     };
     match read {
         Body::Clock { seconds } => {
             contacts::clock(device, seconds);
-            line(Last::Ok)
+            line(Ok(Said::Done))
         }
         Body::Contact { id, verification } => done(contacts::contact(
             device,
@@ -330,11 +327,14 @@ pub fn ask(
         Body::Session { peer } => open_session(*device, exchange, tables, peer),
         Body::Envelope { peer } => receive_envelope(device, *exchange, tables, peer, body),
         Body::Inventory { peer } => receive_inventory(*device, exchange, tables, peer, body),
-        Body::Fetch { peer } => fetch_tagged(*device, *exchange, tables, peer, body),
+        Body::Fetch { peer } => fetch_tagged(*device, *exchange, tables, peer, tag_in(body)),
         Body::Custody { peer, code } => {
-            receive_custody(device, exchange, tables, peer, body, code)
+            receive_custody(device, exchange, tables, peer, tag_in(body), code)
         }
-        Body::Tomb { peer } => receive_tomb(device, *exchange, tables, peer, body),
+        Body::Tomb { peer } => {
+            let s = octets::get_array(body, 24);
+            receive_tomb(device, *exchange, tables, peer, tag_in(body), s)
+        }
         Body::Maintenance => maintain(device, *exchange, tables),
         Body::Setting {
             enabled,

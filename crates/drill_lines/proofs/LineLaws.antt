@@ -4,6 +4,7 @@ use mathlib.Core.List.{flat_map}
 use Rattle.std.specs.Prelude.{Result, Option}
 use Rattle.courier_core.specs.declared.Refusal.{Refusal}
 use Rattle.octets.specs.Bytes.{part, num}
+use Rattle.octets.proofs.Parts.{take_written}
 use Rattle.table.specs.Codec.{Codec, table_of}
 use Rattle.table.specs.Rows.{held}
 use Rattle.table.proofs.ListLaws.{flat_map_append}
@@ -36,6 +37,12 @@ module _ {l m : ℕ} {o x y : List ℕ} {at p q : ℕ} {a b : List ℕ} (room : 
 -- the same place and area, another text that is equal
 pub puts_as : {m : ℕ} {o x : List ℕ} {at r : ℕ} {a b : List ℕ} → a ≡ b → Puts m o at a r x → Puts m o at b r x
 puts_as {m} {o} {x} {at} {r} e f = subst (λ (t : List ℕ). Puts m o at t r x) e f
+
+-- a line that stands at the front of an area of its own, put behind others
+pub line_on : {l z o x : List ℕ} {at k p : ℕ} {w : List ℕ} → length l ≡ 96 → Puts 96 l 0 w k z → Puts (length (take k z)) o at (take k z) p x → Puts 96 o at w p x
+line_on {l} {z} {o} {x} {at} {k} {p} {w} size f g =
+    let e : take k z ≡ w = (λ i. take (f.next i) (f.area i)) ∙ take_written l 0 w (omega (arith, f.near)) in
+    puts_within f.near (subst (λ (v : List ℕ). Puts (length v) o at v p x) e g)
 
 -- ---- the line of a reply, by its kind
 

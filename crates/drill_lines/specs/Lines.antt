@@ -8,13 +8,16 @@ use Rattle.courier_core.specs.declared.Refusal.{Refusal}
 use Rattle.rows.specs.declared.Reply.{Reply}
 use Rattle.rows.specs.declared.Action.{Action}
 use Rattle.model.specs.State.{State}
+use Rattle.model.specs.Areas.{Areas, view}
+use Rattle.saved.specs.Blobs.{held_in}
 use Rattle.model.specs.Calls as calls
 use Rattle.model.specs.Calls.{Answer}
 use Rattle.model.specs.Step.{step}
 use Rattle.columns.specs.Columns.{hexes}
 use Rattle.text.specs.Text.{spaced}
-use Rattle.drill_lines.specs.declared.Last.{Last}
-use Rattle.drill_lines.specs.declared.Last.TheVariants as last
+use Rattle.drill_lines.specs.declared.HeldRows.{HeldRows}
+use Rattle.drill_lines.specs.declared.Said.{Said}
+use Rattle.drill_lines.specs.declared.Said.TheVariants as said
 
 -- ---- one line; 10 is its end
 
@@ -67,32 +70,39 @@ wrote_of (calls.wrote count) = count
 unfoldable pub blob_length : State → ℕ → ℕ
 blob_length s slot = wrote_of (step s (calls.row_blob 2110 slot)).answer
 
+-- the state of areas that have these held rows, and are anything otherwise
+abbrev pub held_view : HeldRows → Areas → State
+held_view h a = view (held_in h.device h.carried.now h.tombstones.now h.cells.now a)
+
 -- ---- the last line
+
+-- what a call says, or the refusal
+abbrev pub Last : Type 0
+Last = Result Said Refusal
 
 unfoldable pub refused_line : ℕ → List ℕ
 refused_line number = (114 ∷ 101 ∷ 102 ∷ 117 ∷ 115 ∷ 101 ∷ 100 ∷ []) ++ spaced number ++ (10 ∷ [])  -- refused
 
 abbrev pub last_line : Last → List ℕ
-last_line last.Ok = 111 ∷ 107 ∷ 10 ∷ []  -- ok
-last_line last.Malformed = 109 ∷ 97 ∷ 108 ∷ 102 ∷ 111 ∷ 114 ∷ 109 ∷ 101 ∷ 100 ∷ 10 ∷ []  -- malformed
-last_line (last.Refused why) = refused_line (refusal_number why)
+last_line (Ok said.Done) = 111 ∷ 107 ∷ 10 ∷ []  -- ok
+last_line (Ok said.Malformed) = 109 ∷ 97 ∷ 108 ∷ 102 ∷ 111 ∷ 114 ∷ 109 ∷ 101 ∷ 100 ∷ 10 ∷ []  -- malformed
+last_line (Err why) = refused_line (refusal_number why)
 
 -- the program stops at number 13
 abbrev pub stops_at : Last → Bool
-stops_at last.Ok = false
-stops_at last.Malformed = false
-stops_at (last.Refused why) = refusal_number why == 13
+stops_at (Ok _) = false
+stops_at (Err why) = refusal_number why == 13
 
 abbrev pub last_of : Answer → Last
-last_of (calls.refused why) = last.Refused why
-last_of calls.malformed = last.Malformed
-last_of calls.done = last.Ok
-last_of (calls.ours contact generation idx) = last.Ok
-last_of (calls.found cells position len) = last.Ok
-last_of calls.missing = last.Ok
-last_of (calls.own_row row) = last.Ok
-last_of calls.no_envelope = last.Ok
-last_of (calls.wrote count) = last.Ok
+last_of (calls.refused why) = Err why
+last_of calls.malformed = Ok said.Malformed
+last_of calls.done = Ok said.Done
+last_of (calls.ours contact generation idx) = Ok said.Done
+last_of (calls.found cells position len) = Ok said.Done
+last_of calls.missing = Ok said.Done
+last_of (calls.own_row row) = Ok said.Done
+last_of calls.no_envelope = Ok said.Done
+last_of (calls.wrote count) = Ok said.Done
 
 -- what a record prints: the lines of its actions, where a put row's blob is that of the state after it, of its replies, and a last one
 unfoldable pub record_lines : State → List Action → List Reply → Last → List ℕ

@@ -15,8 +15,7 @@ use Rattle.model.specs.Lent.{answers_lent}
 use Rattle.model.specs.Good.{Good, Sized}
 use Rattle.model.proofs.StoreLaws.{sized_store, view_store}
 use Rattle.saved.specs.Blobs.{held_in}
-use Rattle.drill_lines.specs.declared.Last.{Last}
-use Rattle.drill_lines.specs.Lines.{record_lines, last_of, stops_at}
+use Rattle.drill_lines.specs.Lines.{Last, record_lines, last_of, stops_at}
 use Rattle.drill_lines.proofs.LineLaws.{puts_as}
 use Rattle.drill_run.specs.Drill.{record_step, tells, drill_areas, drill_in, state_after, lines_of, last_record}
 use Rattle.drill_run.proofs.RecordLaws.{ProperRecord}

@@ -1,27 +1,26 @@
 -- Laws of the run over a buffer. Assumes nothing.
-use Rattle.std.proofs.Common.{◌≡◌, ℕ, ◌+◌, ◌-◌, ◌*◌, ◌<◌, ◌≤◌, Bool, true, false, List, [], ◌++◌, length, take, drop, sym, refl, ap, ◌∙◌, append_assoc, append-nil, arith, drop_at, Option}
+use Rattle.std.proofs.Common.{◌≡◌, ℕ, ◌+◌, ◌-◌, ◌*◌, ◌<◌, ◌≤◌, Bool, true, false, List, [], ◌++◌, length, take, drop, sym, refl, ap, ◌∙◌, subst, append_assoc, append-nil, arith, length-drop, Option, Some, None, Ok, Err}
 use mathlib.Core.Bool.{false≢true}
 use Rattle.octets.specs.Bytes.{part}
-use Rattle.octets.proofs.Parts.{length_part, part_part, part_add, take_written}
+use lib.Seq.{drop-drop}
+use Rattle.octets.proofs.Parts.{part_take, take_written}
+use Rattle.courier_core.specs.declared.Refusal.{Refusal}
 use Rattle.courier_core.specs.declared.Refusal.TheVariants as refusal
 use Rattle.table.specs.Rows.{held}
 use Rattle.table.proofs.RowLaws.{held_le}
 use Rattle.text.specs.Text.{Puts}
-use Rattle.wire.specs.declared.Mark.{Mark}
 use Rattle.wire.specs.declared.Head.{Head}
-use Rattle.wire.specs.declared.Head.TheVariants as head
-use Rattle.wire.specs.Log.{Record, head_of, body_of}
-use Rattle.wire.proofs.HeadLaws.{of_whole, of_more}
+use Rattle.wire.specs.Log.{Record, ReadHead, head_of, body_of}
+use Rattle.wire.proofs.HeadLaws.{of_wrong}
 use Rattle.model.specs.State.{State}
 use Rattle.model.specs.Areas.{Areas, view}
-use Rattle.drill_lines.specs.declared.Last.TheVariants as last
 use Rattle.drill_lines.specs.Lines.{last_line}
 use Rattle.drill_run.specs.Drill.{state_after, lines_of, last_record, records_of, printed, performed, made_of, after_all}
 use Rattle.drill_run.proofs.LogLaws.{printed_on, printed_stop, printed_wrong, performed_on, performed_stop, performed_wrong}
 use Rattle.drill_run.proofs.RunLaws.{after_one}
 use Rattle.drill_log.specs.declared.Why.{Why}
 use Rattle.drill_log.specs.declared.Why.TheVariants as cause
-use Rattle.drill_log.specs.Run.{Within, Ready, Performs, Running, Ran}
+use Rattle.drill_log.specs.Run.{Within, Ready, Performs, Running, Ran, Runs}
 
 -- each has a number of its own, so that no two are the same
 abbrev pub rank : Why → ℕ
@@ -45,34 +44,6 @@ lines_within la lr acted replied ea er p = record {
   high = omega (arith, p.next, p.near, lines_most la lr acted replied ea er);
 }
 
--- what the head in a part of the buffer says of the place behind its record
-module _ (s : List ℕ) (at end : ℕ) (order : at ≤ end) (inside : end ≤ length s) {r : Head} (e : r ≡ head_of (part s at (end - at))) where
-  size : length (part s at (end - at)) ≡ end - at
-  size = length_part s at (end - at) (omega arith)
-
-  pub whole_in : {m : Mark} {n : ℕ} → r ≡ head.Whole m n → at + 4 + n ≤ end
-  whole_in w = omega (arith, size, of_whole (part s at (end - at)) e w)
-
-  pub more_in : r ≡ head.More → end < at + 8196
-  more_in w = omega (arith, size, of_more (part s at (end - at)) e w)
-
-  module _ {m : Mark} {n : ℕ} (w : r ≡ head.Whole m n) where
-    -- the body as it is lent, and what is left behind the record
-    body_lent : take (at + 4 + n - (at + 4)) (drop (at + 4) s) ≡ part (part s at (end - at)) 4 n
-    unfolding part
-    body_lent =
-        let k : at + 4 + n - (at + 4) ≡ n = omega arith in
-        ap (λ (j : ℕ). take j (drop (at + 4) s)) k ∙ sym (part_part s at (end - at) 4 n (omega (arith, whole_in w)))
-
-    left_behind : drop (4 + n) (part s at (end - at)) ≡ part s (at + 4 + n) (end - (at + 4 + n))
-    left_behind =
-        let k : end - at ≡ 4 + n + (end - (at + 4 + n)) = omega (arith, whole_in w) in
-        let j : at + (4 + n) ≡ at + 4 + n = omega arith in
-        ap (λ (i : ℕ). drop (4 + n) (part s at i)) k
-        ∙ ap (drop (4 + n)) (part_add s at (4 + n) (end - (at + 4 + n)))
-        ∙ drop_at (part s at (4 + n)) (part s (at + (4 + n)) (end - (at + 4 + n))) (4 + n) (length_part s at (4 + n) (omega (arith, whole_in w)))
-        ∙ ap (λ (i : ℕ). part s i (end - (at + 4 + n))) j
-
 -- ---- the lines so far
 
 -- a record is begun only if all of its lines have room
@@ -84,85 +55,96 @@ more_lines : {most : ℕ} {out out' w : List ℕ} {at put : ℕ} → at + most �
 more_lines {most} {out} {out'} {w} {at} {put} room p =
     (λ i. take (p.next i) (p.area i)) ∙ take_written out at w (omega (arith, p.near))
 
--- one record further, or at the last
-module _ (s : List ℕ) (at end : ℕ) (order : at ≤ end) (inside : end ≤ length s) {r : Head} (e : r ≡ head_of (part s at (end - at))) where
-  abbrev here : List ℕ
-  here = part s at (end - at)
+-- the body of a record, as it is lent
+pub body_lent : (s record_bytes : List ℕ) (n : ℕ) → record_bytes ≡ take (4 + n) s → length record_bytes ≡ 4 + n
+    → take (length record_bytes - 4) (drop 4 record_bytes) ≡ part s 4 n
+unfolding part
+body_lent s record_bytes n e l =
+    let k : length record_bytes - 4 ≡ n = omega arith in
+    ap (λ (i : ℕ). take i (drop 4 record_bytes)) k ∙ ap (λ (r : List ℕ). take n (drop 4 r)) e ∙ part_take s 4 n (4 + n) (omega arith)
 
-  module _ {m : Mark} {n : ℕ} (w : r ≡ head.Whole m n) {s₀ : State} {b : List ℕ} {a a' : Areas} {out out' : List ℕ} {put put' : ℕ} {stop : Bool}
-      (p : Performs (body_of m (take (at + 4 + n - (at + 4)) (drop (at + 4) s))) a a' out put put' out' stop)
-      (so_far : Running s₀ b a (part s at (end - at)) (take put out)) where
-    same : body_of m (take (at + 4 + n - (at + 4)) (drop (at + 4) s)) ≡ body_of m (part here 4 n)
-    same = ap (body_of m) (body_lent s at end order inside e w)
+-- One record further, or at the last: s is what is left, and r the head at its front.
+module _ (s : List ℕ) {r : ReadHead} (e : r ≡ head_of s) where
+  module _ {h : Head} (w : r ≡ Ok (Some h)) {body : List ℕ} (lent : body ≡ part s 4 h.len) {s₀ : State} {b : List ℕ} {a a' : Areas} {out out' : List ℕ}
+      {put put' : ℕ} {stop : Bool} (p : Performs (body_of h.mark body) a a' out put put' out' stop) (so_far : Running s₀ b a s (take put out)) where
+    abbrev record_at : Option Record
+    record_at = body_of h.mark (part s 4 h.len)
 
-    lines : take put' out' ≡ take put out ++ lines_of (view a) (body_of m (part here 4 n))
+    same : body_of h.mark body ≡ record_at
+    same = ap (body_of h.mark) lent
+
+    lines : take put' out' ≡ take put out ++ lines_of (view a) record_at
     lines = more_lines p.room p.lines ∙ ap (λ (q : Option Record). take put out ++ lines_of (view a) q) same
 
-    ends : stop ≡ last_record (view a) (body_of m (part here 4 n))
+    ends : stop ≡ last_record (view a) record_at
     ends = p.ends ∙ ap (last_record (view a)) same
 
-    leaves : state_after (view a) (body_of m (part here 4 n)) ≡ view a'
+    leaves : state_after (view a) record_at ≡ view a'
     leaves = ap (state_after (view a)) (sym same) ∙ sym p.leaves
 
-    here_held : view a' ≡ after_all s₀ (so_far.calls ++ made_of (body_of m (part here 4 n)))
-    here_held =
-        sym leaves ∙ ap (λ (x : State). state_after x (body_of m (part here 4 n))) so_far.held ∙ sym (after_one s₀ so_far.calls (body_of m (part here 4 n)))
+    held_here : view a' ≡ after_all s₀ (so_far.calls ++ made_of record_at)
+    held_here = sym leaves ∙ ap (λ (x : State). state_after x record_at) so_far.held ∙ sym (after_one s₀ so_far.calls record_at)
 
-    pub record_on : stop ≡ false → Running s₀ b a' (part s (at + 4 + n) (end - (at + 4 + n))) (take put' out')
-    record_on f = record {
+    pub record_on : {behind : List ℕ} → behind ≡ drop (4 + h.len) s → stop ≡ false → Running s₀ b a' behind (take put' out')
+    record_on {behind} place f = record {
       ready = p.ready;
       on = λ t.
           so_far.on t
-          ∙ ap (λ (l : List ℕ). take put out ++ l) (printed_on (view a) here t (sym e ∙ w) (sym ends ∙ f))
-          ∙ sym (append_assoc (take put out) (lines_of (view a) (body_of m (part here 4 n))) _)
-          ∙ (λ i. sym lines i ++ printed (leaves i) (left_behind s at end order inside e w i ++ t));
-      calls = so_far.calls ++ made_of (body_of m (part here 4 n));
+          ∙ ap (λ (l : List ℕ). take put out ++ l) (printed_on (view a) s t (sym e ∙ w) (sym ends ∙ f))
+          ∙ sym (append_assoc (take put out) (lines_of (view a) record_at) _)
+          ∙ (λ i. sym lines i ++ printed (leaves i) (sym place i ++ t));
+      calls = so_far.calls ++ made_of record_at;
       made = λ t.
           so_far.made t
-          ∙ ap (λ (l : List Record). so_far.calls ++ l) (performed_on (view a) here t (sym e ∙ w) (sym ends ∙ f))
-          ∙ sym (append_assoc so_far.calls (made_of (body_of m (part here 4 n))) _)
-          ∙ (λ i. (so_far.calls ++ made_of (body_of m (part here 4 n))) ++ performed (leaves i) (records_of (left_behind s at end order inside e w i ++ t)));
-      held = here_held;
+          ∙ ap (λ (l : List Record). so_far.calls ++ l) (performed_on (view a) s t (sym e ∙ w) (sym ends ∙ f))
+          ∙ sym (append_assoc so_far.calls (made_of record_at) _)
+          ∙ (λ i. (so_far.calls ++ made_of record_at) ++ performed (leaves i) (records_of (sym place i ++ t)));
+      held = held_here;
     }
 
     pub record_stop : {rest : List ℕ} → stop ≡ true → Ran s₀ b a' rest (take put' out') cause.Refused
     record_stop f = record {
       ready = p.ready;
       on = λ h. absurd (false≢true h);
-      stop = λ h t.
-          so_far.on t ∙ ap (λ (l : List ℕ). take put out ++ l) (printed_stop (view a) here t (sym e ∙ w) (sym ends ∙ f)) ∙ sym lines;
+      stop = λ h t. so_far.on t ∙ ap (λ (l : List ℕ). take put out ++ l) (printed_stop (view a) s t (sym e ∙ w) (sym ends ∙ f)) ∙ sym lines;
       wants = λ h. absurd (omega (arith, ap rank h));
-      calls = so_far.calls ++ made_of (body_of m (part here 4 n));
+      calls = so_far.calls ++ made_of record_at;
       made = λ h. absurd (false≢true h);
-      all = λ h t. so_far.made t ∙ ap (λ (l : List Record). so_far.calls ++ l) (performed_stop (view a) here t (sym e ∙ w) (sym ends ∙ f));
-      held = here_held;
+      all = λ h t. so_far.made t ∙ ap (λ (l : List Record). so_far.calls ++ l) (performed_stop (view a) s t (sym e ∙ w) (sym ends ∙ f));
+      held = held_here;
     }
 
-  pub record_wrong : {s₀ : State} {a : Areas} {b : List ℕ} {out out' : List ℕ} {put put' : ℕ} → r ≡ head.Wrong → put + 295008 ≤ length out
-      → Puts 96 out put (last_line (last.Refused refusal.LogRecord)) put' out' → Running s₀ b a (part s at (end - at)) (take put out)
-      → Ran s₀ b a (part s at (end - at)) (take put' out') cause.Refused
-  record_wrong {s₀} {a} {b} {out} {out'} {put} {put'} w room p so_far = record {
-    ready = so_far.ready;
-    on = λ h. absurd (false≢true h);
-    stop = λ h t. so_far.on t ∙ ap (λ (l : List ℕ). take put out ++ l) (printed_wrong (view a) here t (sym e ∙ w)) ∙ sym (more_lines (omega arith) p);
-    wants = λ h. absurd (omega (arith, ap rank h));
-    calls = so_far.calls;
-    made = λ h. absurd (false≢true h);
-    all = λ h t. so_far.made t ∙ ap (λ (l : List Record). so_far.calls ++ l) (performed_wrong (view a) here t (sym e ∙ w)) ∙ append-nil so_far.calls;
-    held = so_far.held;
-  }
+  module _ {s₀ : State} {a : Areas} {b : List ℕ} where
+    pub record_wrong : {why : Refusal} {out out' : List ℕ} {put put' : ℕ} → r ≡ Err why → put + 295008 ≤ length out
+        → Puts 96 out put (last_line (Err why)) put' out' → Running s₀ b a s (take put out) → Ran s₀ b a s (take put' out') cause.Refused
+    record_wrong {why} {out} {out'} {put} {put'} w room p so_far =
+        let q : why ≡ refusal.LogRecord = of_wrong s e w in
+        let z : head_of s ≡ Err refusal.LogRecord = sym e ∙ w ∙ ap Err q in
+        record {
+          ready = so_far.ready;
+          on = λ h. absurd (false≢true h);
+          stop = λ h t.
+              so_far.on t
+              ∙ ap (λ (l : List ℕ). take put out ++ l) (printed_wrong (view a) s t z ∙ ap (λ (x : Refusal). last_line (Err x)) (sym q))
+              ∙ sym (more_lines (omega arith) p);
+          wants = λ h. absurd (omega (arith, ap rank h));
+          calls = so_far.calls;
+          made = λ h. absurd (false≢true h);
+          all = λ h t. so_far.made t ∙ ap (λ (l : List Record). so_far.calls ++ l) (performed_wrong (view a) s t z) ∙ append-nil so_far.calls;
+          held = so_far.held;
+        }
 
-  pub record_more : {s₀ : State} {a : Areas} {b lines : List ℕ} → r ≡ head.More → Running s₀ b a (part s at (end - at)) lines → Ran s₀ b a (part s at (end - at)) lines cause.More
-  record_more w so_far = record {
-    ready = so_far.ready;
-    on = λ h. so_far.on;
-    stop = λ h. absurd (omega (arith, ap rank h));
-    wants = λ h. sym e ∙ w;
-    calls = so_far.calls;
-    made = λ h. so_far.made;
-    all = λ h. absurd (omega (arith, ap rank h));
-    held = so_far.held;
-  }
+    pub record_more : {lines : List ℕ} → r ≡ Ok None → Running s₀ b a s lines → Ran s₀ b a s lines cause.More
+    record_more w so_far = record {
+      ready = so_far.ready;
+      on = λ h. so_far.on;
+      stop = λ h. absurd (omega (arith, ap rank h));
+      wants = λ h. sym e ∙ w;
+      calls = so_far.calls;
+      made = λ h. so_far.made;
+      all = λ h. absurd (omega (arith, ap rank h));
+      held = so_far.held;
+    }
 
 -- before the first record, and where the lines of one more have no room
 pub run_start : (a : Areas) (b : List ℕ) → Ready a → Running (view a) b a b []
@@ -183,10 +165,28 @@ run_full k = record {
 
 -- ---- the loop
 
--- what the run keeps to from record to record
-pub record InRun (before after : Areas) (input : List ℕ) (from end at : ℕ) (out : List ℕ) (put count : ℕ) : Type 0 where
-  pub low : from ≤ at
-  pub high : at ≤ end
+-- what the run keeps to from record to record: rest is what is left of the bytes
+pub record InRun (before after : Areas) (input rest out : List ℕ) (put count : ℕ) : Type 0 where
+  pub place : drop (length input - length rest) input ≡ rest
+  pub fewer : count + length rest ≤ length input
   pub room : put ≤ 655360
-  pub fewer : count ≤ at
-  pub so_far : Ready before → Running (view before) (part input from (end - from)) after (part input at (end - at)) (take put out)
+  pub so_far : Ready before → Running (view before) input after rest (take put out)
+
+-- all of it, before the first record
+pub place_start : (input : List ℕ) → drop (length input - length input) input ≡ input
+place_start input = let k : length input - length input ≡ 0 = omega arith in ap (λ (n : ℕ). drop n input) k
+
+module _ (input rest : List ℕ) (place : drop (length input - length rest) input ≡ rest) (high : length rest ≤ length input) where
+  -- behind n bytes more
+  pub place_on : {behind : List ℕ} (n : ℕ) → n ≤ length rest → behind ≡ drop n rest → drop (length input - length behind) input ≡ behind
+  place_on {behind} n h e =
+      let k : length input - length behind ≡ length input - length rest + n = omega (arith, ap length e, length-drop n rest) in
+      ap (λ (i : ℕ). drop i input) k ∙ sym (drop-drop n (length input - length rest) input) ∙ ap (drop n) place ∙ sym e
+
+  -- where it ends
+  pub run_ends : {before after : Areas} {out : List ℕ} {put : ℕ} {why : Why} → put ≤ 655360 → (why ≡ cause.More → length rest < 8196)
+      → (Ready before → Ran (view before) input after rest (take put out) why) → Runs before after input (length input - length rest) out put why
+  run_ends {before} {after} {out} {put} {why} room short ran = record {
+    ended = record { high = omega arith; room = room; short = λ w. omega (arith, short w) };
+    ran = λ g. subst (λ (l : List ℕ). Ran (view before) input after l (take put out) why) (sym place) (ran g);
+  }

@@ -1,6 +1,6 @@
 -- A whole log, read in pieces: what the runs over the pieces print and make is what the log does, and what the areas hold is what the
 -- model's run of its calls leaves. Assumes nothing.
-use Rattle.std.proofs.Common.{◌≡◌, ℕ, ◌<◌, List, [], ◌++◌, map, length, sym, refl, ap, ◌∙◌, subst, append_assoc, append-nil, arith}
+use Rattle.std.proofs.Common.{◌≡◌, ℕ, ◌<◌, List, [], ◌++◌, map, length, sym, refl, ap, ◌∙◌, subst, append_assoc, append-nil, arith, None, Ok, Err}
 use mathlib.Core.Bool.{true, false≢true}
 use mathlib.Core.List.{map-append}
 use lib.Seq.{take-append_seam}
@@ -8,14 +8,12 @@ use Rattle.octets.specs.Bytes.{Bytes}
 use Rattle.courier_core.specs.declared.Refusal.TheVariants as refusal
 use Rattle.table.specs.Lists.{All}
 use Rattle.table.proofs.ListLaws.{all_take}
-use Rattle.wire.specs.declared.Head.TheVariants as head
 use Rattle.wire.specs.Log.{Record, head_of}
 use Rattle.model.specs.State.{State}
 use Rattle.model.specs.Step.{Post, Lent, run}
 use Rattle.model.specs.Areas.{Areas, view}
 use Rattle.history.specs.History.{CustodyHistory}
 use Rattle.model.specs.Good.{Good}
-use Rattle.drill_lines.specs.declared.Last.TheVariants as last
 use Rattle.drill_lines.specs.Lines.{last_line}
 use Rattle.rows.specs.Device.{fresh_device, closed_exchange}
 use Rattle.drill_run.specs.Drill.{drill_areas, drill_start, records_of, printed, performed, after_all, lent_of, post_of}
@@ -72,8 +70,8 @@ pub log_whole : {s₀ : State} {a : Areas} {b l : List ℕ} → Running s₀ b a
 log_whole {s₀} {a} {b} {l} k =
     ap (printed s₀) (sym (append-nil b)) ∙ k.on [] ∙ ap (λ (x : List ℕ). l ++ x) (printed_end (view a)) ∙ append-nil l
 
-pub log_cut : {s₀ : State} {a : Areas} {b rest l : List ℕ} → Running s₀ b a rest l → head_of rest ≡ head.More → 0 < length rest
-    → printed s₀ b ≡ l ++ last_line (last.Refused refusal.LogRecord)
+pub log_cut : {s₀ : State} {a : Areas} {b rest l : List ℕ} → Running s₀ b a rest l → head_of rest ≡ Ok None → 0 < length rest
+    → printed s₀ b ≡ l ++ last_line (Err refusal.LogRecord)
 log_cut {s₀} {a} {b} {rest} {l} k e some =
     ap (printed s₀) (sym (append-nil b)) ∙ k.on [] ∙ ap (λ (x : List ℕ). l ++ x) (ap (printed (view a)) (append-nil rest) ∙ printed_cut (view a) rest some e)
 

@@ -1,9 +1,7 @@
 -- What performing a record and the run over a buffer keep to.
 -- Assumes nothing.
-use Rattle.std.specs.Prelude.{◌≡◌, ℕ, ◌+◌, ◌-◌, ◌<◌, ◌≤◌, Bool, true, false, List, ◌++◌, length, take, Option}
-use Rattle.octets.specs.Bytes.{part}
+use Rattle.std.specs.Prelude.{◌≡◌, ℕ, ◌+◌, ◌<◌, ◌≤◌, Bool, true, false, List, ◌++◌, length, take, drop, Option, None, Ok}
 use Rattle.text.specs.Text.{Puts}
-use Rattle.wire.specs.declared.Head.TheVariants as head
 use Rattle.wire.specs.Log.{Record, head_of}
 use Rattle.model.specs.State.{State}
 use Rattle.model.specs.Areas.{Areas, view, store}
@@ -47,11 +45,10 @@ goes_on cause.Ended = false
 goes_on cause.Failed = false
 
 -- more input is wanted only where less than the longest record is left
-pub record Ended (from end used put : ℕ) (why : Why) : Type 0 where
-  pub low : from ≤ used
-  pub high : used ≤ end
+pub record Ended (size used put : ℕ) (why : Why) : Type 0 where
+  pub high : used ≤ size
   pub room : put ≤ 655360
-  pub short : why ≡ cause.More → end < used + 8196
+  pub short : why ≡ cause.More → size < used + 8196
 
 -- From a state on, over the bytes b, up to what areas hold then and what is left of b: the lines so far, and then those of the rest, are
 -- what the whole prints, whatever bytes follow; the calls so far, and then those of the rest, are those that the whole makes; and the areas
@@ -68,13 +65,13 @@ pub record Ran (s : State) (b : List ℕ) (after : Areas) (rest lines : List ℕ
   pub ready : Ready after
   pub on : goes_on why ≡ true → (t : List ℕ) → printed s (b ++ t) ≡ lines ++ printed (view after) (rest ++ t)
   pub stop : why ≡ cause.Refused → (t : List ℕ) → printed s (b ++ t) ≡ lines
-  pub wants : why ≡ cause.More → head_of rest ≡ head.More
+  pub wants : why ≡ cause.More → head_of rest ≡ Ok None
   pub calls : List Record
   pub made : goes_on why ≡ true → (t : List ℕ) → performed s (records_of (b ++ t)) ≡ calls ++ performed (view after) (records_of (rest ++ t))
   pub all : why ≡ cause.Refused → (t : List ℕ) → performed s (records_of (b ++ t)) ≡ calls
   pub held : view after ≡ after_all s calls
 
--- what is said of the run over input[from..end]: where it ends whatever the areas hold, and what it prints from areas that are ready
-pub record Runs (before after : Areas) (input : List ℕ) (from end used : ℕ) (out : List ℕ) (put : ℕ) (why : Why) : Type 0 where
-  pub ended : Ended from end used put why
-  pub ran : Ready before → Ran (view before) (part input from (end - from)) after (part input used (end - used)) (take put out) why
+-- what is said of the run over some bytes: where it ends whatever the areas hold, and what it prints from areas that are ready
+pub record Runs (before after : Areas) (input : List ℕ) (used : ℕ) (out : List ℕ) (put : ℕ) (why : Why) : Type 0 where
+  pub ended : Ended (length input) used put why
+  pub ran : Ready before → Ran (view before) input after (drop used input) (take put out) why

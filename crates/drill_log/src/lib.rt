@@ -1,18 +1,17 @@
 // The drill: a log's records performed, one by one.
 #![tactic(auto)]
 
-ghost use Rattle.std.specs.Prelude.{◌≡◌, ◌+◌, ◌-◌, ◌≤◌, length};
-ghost use Rattle.octets.specs.Bytes.{part};
-ghost use Rattle.wire.specs.Log.{head_of, body_of};
+ghost use Rattle.std.specs.Prelude.{◌≡◌, ◌+◌, ◌≤◌};
+ghost use Rattle.wire.specs.Log.{body_of};
 ghost use Rattle.drill_lines.specs.Lines.{stops_at};
 ghost use Rattle.drill_calls.specs.Asking.{tables_areas};
 ghost use Rattle.drill_log.specs.Run.{goes_on, Performing, Runs};
 
 use courier_core::Refusal;
 use drill_calls::Tables;
-use drill_lines::Last;
+use drill_lines::{HeldRows, Listed, Said};
 use rows::{Device, Exchange};
-use wire::{Head, Mark};
+use wire::Mark;
 
 // After a record: where the next line goes, and whether the log ends here, by number 13. (Both count: a record that ends the log has lines.)
 #[derive(Clone, Copy)]
@@ -21,12 +20,12 @@ pub struct Done {
     pub stop: bool,
 }
 
-fn stops(last: Last) -> bool
+fn stops(last: Result<Said, Refusal>) -> bool
     ensures { result ≡ stops_at last }
 {
     match last {
-        Last::Ok | Last::Malformed => false,
-        Last::Refused(why) => why.number() == 13,
+        Ok(_) => false,
+        Err(why) => why.number() == 13,
     }
 }
 
@@ -50,19 +49,21 @@ fn perform(
         out.old at result.put out.new result.stop }
 {
     let t = drill_calls::ask(mark, body, device, exchange, tables);
-    let put = drill_lines::record_lines(
-        &tables.actions,
-        t.acted,
-        &tables.replies,
-        t.replied,
-        t.last,
-        *device,
-        &tables.carried,
-        &tables.tombstones,
-        &tables.cells,
-        out,
-        at,
-    );
+    let actions = Listed {
+        area: &tables.actions,
+        count: t.acted,
+    };
+    let replies = Listed {
+        area: &tables.replies,
+        count: t.replied,
+    };
+    let held = HeldRows {
+        device: *device,
+        carried: &tables.carried,
+        tombstones: &tables.tombstones,
+        cells: &tables.cells,
+    };
+    let put = drill_lines::record_lines(actions, replies, t.last, held, out, at);
     Done {
         put,
         stop: stops(t.last),
@@ -71,7 +72,7 @@ fn perform(
 
 // ---- the records of a buffer
 
-// Why a run or a turn ended. A run over a buffer gives the first three.
+// Why a run or a turn ended: each is named, and none holds a value. A run over a buffer gives the first three.
 #[derive(Clone, Copy, PartialEq, Eq)]
 pub enum Why {
     More, // more input is wanted
@@ -99,61 +100,53 @@ pub struct Progress {
     pub why: Why,
 }
 
-fn head_at(input: &[u8], at: usize, end: usize) -> Head
-    requires { (at ≤ end) × (end ≤ length input.now) }
-    ensures { result ≡ head_of (part input.now at (end - at)) }
-{
-    wire::read_head(&input[at..end])
-}
-
-// Performs each whole record of input[from..end], as long as the lines of one more have room, and puts their lines at the front of out.
+// Performs each whole record at the front of the input, as long as the lines of one more have room, and puts their lines at the front of out.
+// (A `while`: how many records there are, and how many have room, shows only as they are read and performed.)
 pub fn run_some(
     input: &[u8],
-    from: usize,
-    end: usize,
     device: &mut Device,
     exchange: &mut Exchange,
     tables: &mut Tables,
     out: &mut [u8; 655360],
 ) -> Progress
-    requires { (from ≤ end) × (end ≤ length input.now) }
     ensures { Runs
         (tables_areas device.old exchange.old tables.old)
         (tables_areas device.new exchange.new tables.new)
-        input.now from end result.used out.new result.put result.why }
+        input.now result.used out.new result.put result.why }
 {
-    let mut at = from;
+    let mut rest = input;
     let mut put = 0;
     let mut count = 0;
     while put <= ROOM_FROM {
-        match head_at(input, at, end) {
-            Head::Whole { mark, len } => {
-                let e = at + 4 + len;
-                let done = perform(mark, &input[at + 4..e], device, exchange, tables, out, put);
+        match wire::read_head(rest) {
+            Ok(Some(head)) => {
+                let (record, behind) = rest.split_at(wire::HEAD + head.len);
+                let body = &record[wire::HEAD..];
+                let done = perform(head.mark, body, device, exchange, tables, out, put);
                 if done.stop {
                     return Progress {
-                        used: at,
+                        used: input.len() - rest.len(),
                         put: done.put,
                         count,
                         why: Why::Refused,
                     };
                 }
                 put = done.put;
-                at = e;
+                rest = behind;
                 count += 1;
             }
-            Head::More => {
+            Ok(None) => {
                 return Progress {
-                    used: at,
+                    used: input.len() - rest.len(),
                     put,
                     count,
                     why: Why::More,
                 };
             }
-            Head::Wrong => {
-                let p = drill_lines::last_line(Last::Refused(Refusal::LogRecord), out, put);
+            Err(why) => {
+                let p = drill_lines::last_line(Err(why), out, put);
                 return Progress {
-                    used: at,
+                    used: input.len() - rest.len(),
                     put: p,
                     count,
                     why: Why::Refused,
@@ -162,7 +155,7 @@ pub fn run_some(
         }
     }
     Progress {
-        used: at,
+        used: input.len() - rest.len(),
         put,
         count,
         why: Why::Full,

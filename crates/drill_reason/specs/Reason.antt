@@ -1,12 +1,10 @@
 -- Which of its reasons number 13 has (document 01, "Refused calls"), by the bytes at whose front the refused record stands.
 -- Assumes nothing.
-use Rattle.std.specs.Prelude.{ℕ, Bool, true, false, cond, List, ltb, leb, length, Option, Some, None}
+use Rattle.std.specs.Prelude.{ℕ, Bool, true, false, cond, List, ltb, leb, length, Option, Some, None, Ok, Err}
 use Rattle.octets.specs.Bytes.{part}
 use Rattle.wire.specs.declared.Mark.{Mark}
 use Rattle.wire.specs.declared.Mark.TheVariants as mark
-use Rattle.wire.specs.declared.Head.{Head}
-use Rattle.wire.specs.declared.Head.TheVariants as head
-use Rattle.wire.specs.Log.{Record, mark_at, size_at, head_of, body_of}
+use Rattle.wire.specs.Log.{Record, ReadHead, mark_at, size_at, head_of, body_of}
 use Rattle.drill_reason.specs.declared.Reason.{Reason}
 use Rattle.drill_reason.specs.declared.Reason.TheVariants as reason
 
@@ -46,10 +44,10 @@ unfoldable pub body_reason : Mark → Option Record → Reason
 body_reason m None = field_of m
 body_reason m (Some r) = reason.Contacts
 
-abbrev pub reason_by : Head → List ℕ → Reason
-reason_by (head.Whole m n) s = body_reason m (body_of m (part s 4 n))
-reason_by head.More s = reason.End
-reason_by head.Wrong s = head_reason (mark_at s) (size_at s)
+abbrev pub reason_by : ReadHead → List ℕ → Reason
+reason_by (Ok (Some h)) s = body_reason h.mark (body_of h.mark (part s 4 h.len))
+reason_by (Ok None) s = reason.End
+reason_by (Err why) s = head_reason (mark_at s) (size_at s)
 
 -- the bytes end before a head does, or the head tells
 unfoldable pub reason_of : List ℕ → Reason

@@ -1,14 +1,13 @@
 // Why number 13 came, told from the bytes at whose front the refused record stands, and the message that says it.
 #![tactic(auto)]
 
-ghost use Rattle.std.specs.Prelude.{◌≡◌, ◌+◌, ◌-◌, ◌≤◌, length};
-ghost use Rattle.octets.specs.Bytes.{part};
+ghost use Rattle.std.specs.Prelude.{◌≡◌, ◌≤◌, length};
 ghost use Rattle.text.specs.Text.{Puts};
 ghost use Rattle.wire.specs.Log.{mark_at, size_at, body_of};
 ghost use Rattle.drill_reason.specs.Reason.{field_of, head_reason, body_reason, reason_of};
 ghost use Rattle.drill_reason.specs.Message.{words_of, place_of, message_of, longest_place, longest_message};
 
-use wire::{Head, Mark};
+use wire::Mark;
 
 // The reasons of number 13, in document 01's order.
 #[derive(Clone, Copy, PartialEq, Eq)]
@@ -29,7 +28,7 @@ fn head_reason(s: &[u8]) -> Reason
     requires { 4 ≤ length s.now }
     ensures { result ≡ head_reason (mark_at s.now) (size_at s.now) }
 {
-    if wire::mark_of(octets::get_u16(s, 0)) == Mark::Unknown {
+    if Mark::from(octets::get_u16(s, 0)) == Mark::Unknown {
         return Reason::Mark;
     }
     if octets::get_u16(s, 2) as usize <= wire::BODY_MAX {
@@ -69,19 +68,10 @@ fn reason_of(s: &[u8]) -> Reason
         return Reason::End;
     }
     match wire::read_head(s) {
-        Head::Whole { mark, len } => body_reason(mark, &s[wire::HEAD..wire::HEAD + len]),
-        Head::More => Reason::End,
-        Head::Wrong => head_reason(s),
+        Ok(Some(head)) => body_reason(head.mark, &s[wire::HEAD..wire::HEAD + head.len]),
+        Ok(None) => Reason::End,
+        Err(_) => head_reason(s),
     }
-}
-
-// Of the record at input[from], where the bytes that were read end before `end`.
-#[tactic(auto, unfolding(octets::specs::Bytes::part))]
-fn reason_at(input: &[u8], from: usize, end: usize) -> Reason
-    requires { (from ≤ end) × (end ≤ length input.now) }
-    ensures { result ≡ reason_of (part input.now from (end - from)) }
-{
-    reason_of(&input[from..end])
 }
 
 // ---- the message
@@ -116,20 +106,12 @@ fn put_place(out: &mut [u8], number: u64, byte: u64) -> usize
     text::put_decimal(out, p, byte)
 }
 
-// Of the record at input[from], where the bytes that were read end before `end`: the message stands at the front of `out`.
-pub fn message_at(
-    input: &[u8],
-    from: usize,
-    end: usize,
-    number: u64,
-    byte: u64,
-    out: &mut [u8],
-) -> usize
-    requires from_le_end { (from ≤ end) × (end ≤ length input.now) }
-    requires longest_message_in_bounds { longest_message ≤ length out.old }
-    ensures { Puts longest_message out.old 0 (message_of number byte (reason_of (part input.now from (end - from)))) result out.new }
+// Of the record at the front of some bytes, after which the input may have more: the message stands at the front of `out`.
+pub fn message_at(bytes: &[u8], number: u64, byte: u64, out: &mut [u8]) -> usize
+    requires { longest_message ≤ length out.old }
+    ensures { Puts longest_message out.old 0 (message_of number byte (reason_of bytes.now)) result out.new }
 {
-    let reason = reason_at(input, from, end);
+    let reason = reason_of(bytes);
     let p = put_place(out, number, byte);
     let p = text::put_run(out, p, b": refused 13: ");
     text::put_run(out, p, reason.words())

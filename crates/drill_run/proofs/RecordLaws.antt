@@ -1,5 +1,5 @@
 -- The records of a log of bytes are proper: numbers fit their types, and runs have their length. Assumes nothing.
-use Rattle.std.proofs.Common.{◌≡◌, ℕ, zero, suc, ◌+◌, ◌≤◌, Bool, true, false, cond, List, [], ◌∷◌, map, length, drop, refl, arith, Option, Some, None}
+use Rattle.std.proofs.Common.{◌≡◌, ℕ, zero, suc, ◌+◌, ◌≤◌, Bool, true, false, cond, List, [], ◌∷◌, map, length, drop, refl, arith, Option, Some, None, Ok, Err}
 use Rattle.octets.specs.Bytes.{Bytes, part, num}
 use Rattle.octets.proofs.Parts.{length_part}
 use Rattle.octets.proofs.Numbers.{bytes_part, bytes_drop, num_part_lt}
@@ -10,10 +10,8 @@ use Rattle.table.specs.Lists.{All, none, more}
 use Rattle.rows.specs.Proper.{Run}
 use Rattle.wire.specs.declared.Mark.{Mark}
 use Rattle.wire.specs.declared.Mark.TheVariants as mark
-use Rattle.wire.specs.declared.Head.{Head}
-use Rattle.wire.specs.declared.Head.TheVariants as head
 use Rattle.wire.specs.Log as log
-use Rattle.wire.specs.Log.{Record, fits, head_of, mapped, verification_of, enabled_of, peer_in, values_of, body_of}
+use Rattle.wire.specs.Log.{Record, ReadHead, fits, head_of, mapped, verification_of, enabled_of, peer_in, values_of, body_of}
 use Rattle.wire.proofs.HeadLaws.{least_size, fit_size}
 use Rattle.model.specs.State.{State}
 use Rattle.model.specs.Step.{Lent}
@@ -76,11 +74,11 @@ module _ (b : List ℕ) (bytes : Bytes b) where
 
 -- ---- a log
 
-by_proper : (h : Head) (b : List ℕ) (behind : List ℕ → List (Option Record)) → Bytes b → ((n : ℕ) → All ProperRecord (behind (drop n b))) → All ProperRecord (records_by h b behind)
+by_proper : (h : ReadHead) (b : List ℕ) (behind : List ℕ → List (Option Record)) → Bytes b → ((n : ℕ) → All ProperRecord (behind (drop n b))) → All ProperRecord (records_by h b behind)
 unfolding records_by
-by_proper (head.Whole m n) b behind bytes p = more (body_proper (part b 4 n) (bytes_part b 4 n bytes) m) (p (4 + n))
-by_proper head.More b behind bytes p = more tt none
-by_proper head.Wrong b behind bytes p = more tt none
+by_proper (Ok (Some h)) b behind bytes p = more (body_proper (part b 4 h.len) (bytes_part b 4 h.len bytes) h.mark) (p (4 + h.len))
+by_proper (Ok None) b behind bytes p = more tt none
+by_proper (Err why) b behind bytes p = more tt none
 
 from_proper : (n : ℕ) (b : List ℕ) → Bytes b → All ProperRecord (records_from n b)
 unfolding records_from

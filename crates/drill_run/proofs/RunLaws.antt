@@ -1,5 +1,5 @@
 -- The records of a log, performed one by one, are the model's run of their calls: so demand 3 holds of every log. Assumes nothing.
-use Rattle.std.proofs.Common.{◌≡◌, ℕ, ◌/◌, Bool, true, false, cond, List, [], ◌∷◌, ◌++◌, map, length, sym, refl, ap, ◌∙◌, append_assoc, append-nil, arith, Option, Some, None}
+use Rattle.std.proofs.Common.{◌≡◌, ℕ, ◌/◌, Bool, true, false, cond, List, [], ◌∷◌, ◌++◌, map, length, sym, refl, ap, ◌∙◌, append_assoc, append-nil, arith, Option, Some, None, Err}
 use mathlib.Core.List.{flat_map}
 use Rattle.octets.specs.Bytes.{Bytes}
 use Rattle.courier_core.specs.declared.Refusal.TheVariants as refusal
@@ -14,7 +14,6 @@ use Rattle.model.specs.Step.{Post, Lent, state_for, answer_to, after, run, resul
 use Rattle.model.specs.Calls.{Result}
 use Rattle.model.specs.Areas.{Areas, view, view_session}
 use Rattle.model.specs.Good.{Good}
-use Rattle.drill_lines.specs.declared.Last.TheVariants as last
 use Rattle.drill_lines.specs.Lines.{record_lines, last_line}
 use Rattle.history.specs.History.{Empty, CustodyHistory}
 use Rattle.history.proofs.HistoryLaws.{custody_history}
@@ -65,7 +64,7 @@ results_records s (r ∷ rs) =
 -- ---- what is printed
 
 abbrev wrong_line : List ℕ
-wrong_line = last_line (last.Refused refusal.LogRecord)
+wrong_line = last_line (Err refusal.LogRecord)
 
 -- the lines of a record are those of its call in the model's run
 run_line : (s : State) (r : Record) (ls : List Lent) → run_lines (post_of s) (lent_of r ∷ ls) ≡ lines_of s (Some r) ++ run_lines (post_of (state_after s (Some r))) ls

@@ -1,12 +1,10 @@
 -- The drill (document 01, "Drill program"): the records of a log, the call that each makes, and the lines of a whole log.
 -- Assumes nothing.
-use Rattle.std.specs.Prelude.{ℕ, zero, suc, ◌+◌, Bool, true, false, cond, List, [], ◌∷◌, ◌++◌, length, drop, Option, Some, None}
+use Rattle.std.specs.Prelude.{ℕ, zero, suc, ◌+◌, Bool, true, false, cond, List, [], ◌∷◌, ◌++◌, length, drop, Option, Some, None, Ok, Err}
 use Rattle.octets.specs.Bytes.{part}
 use Rattle.courier_core.specs.declared.Refusal.TheVariants as refusal
-use Rattle.wire.specs.declared.Head.{Head}
-use Rattle.wire.specs.declared.Head.TheVariants as head
 use Rattle.wire.specs.Log as log
-use Rattle.wire.specs.Log.{Record, head_of, body_of}
+use Rattle.wire.specs.Log.{Record, ReadHead, head_of, body_of}
 use Rattle.rows.specs.declared.Device.{Device}
 use Rattle.rows.specs.declared.Exchange.{Exchange}
 use Rattle.state.specs.Config.{config_default}
@@ -16,8 +14,7 @@ use Rattle.model.specs.Calls.{Call, Result, only, refused}
 use Rattle.model.specs.Step.{Post, Lent, empty_state, step, answer_to, after}
 use Rattle.model.specs.Areas.{Areas}
 use Rattle.model.specs.Lent.{device_in, contacts_in, own_in, carried_in, tombstones_in, bad_tags_in, own_cells_in, carried_cells_in, exchange_in}
-use Rattle.drill_lines.specs.declared.Last.{Last}
-use Rattle.drill_lines.specs.Lines.{record_lines, last_of, stops_at}
+use Rattle.drill_lines.specs.Lines.{Last, record_lines, last_of, stops_at}
 
 -- ---- a record
 
@@ -76,10 +73,10 @@ last_record s r = stops_at (last_of (record_step s r).answer)
 -- ---- a log
 
 -- A record at the front of b, by its head, and those behind it. A wrong head, and input that ends inside a record, are the last.
-unfoldable pub records_by : Head → List ℕ → (List ℕ → List (Option Record)) → List (Option Record)
-records_by (head.Whole m len) b behind = body_of m (part b 4 len) ∷ behind (drop (4 + len) b)
-records_by head.More b behind = None ∷ []
-records_by head.Wrong b behind = None ∷ []
+unfoldable pub records_by : ReadHead → List ℕ → (List ℕ → List (Option Record)) → List (Option Record)
+records_by (Ok (Some h)) b behind = body_of h.mark (part b 4 h.len) ∷ behind (drop (4 + h.len) b)
+records_by (Ok None) b behind = None ∷ []
+records_by (Err why) b behind = None ∷ []
 
 -- the records of b, n at most
 unfoldable pub records_from : ℕ → List ℕ → List (Option Record)

@@ -1,11 +1,13 @@
 -- Laws of a log that is read in pieces: what holds between two turns holds at the start, after a read and after a run. Assumes nothing.
-use Rattle.std.proofs.Common.{◌≡◌, ℕ, ◌+◌, ◌-◌, ◌%◌, ◌^◌, ◌<◌, ◌≤◌, Bool, true, false, cond, eqb, List, [], ◌++◌, length, take, sym, refl, ap, ◌∙◌, subst, append-nil, zero-add, arith, length-append, eqb-true}
+use Rattle.std.proofs.Common.{◌≡◌, ℕ, ◌+◌, ◌-◌, ◌%◌, ◌^◌, ◌<◌, ◌≤◌, Bool, true, false, cond, eqb, List, [], ◌++◌, length, take, sym, refl, ap, ◌∙◌, subst, append-nil, zero-add, arith, length-append, length-take, eqb-true, drop, None, Ok, Err}
 use mathlib.Core.Bool.{false≢true}
 use Rattle.octets.specs.Bytes.{part, splice}
+use lib.Seq.{drop-drop, paste}
+use Rattle.std.proofs.lemmas.List.{drop-take}
+use Rattle.std.proofs.lemmas.Grind.{common_steps}
 use Rattle.octets.proofs.Parts.{part_nil, part_add, length_part, read_same, take_written}
 use Rattle.courier_core.specs.declared.Refusal.TheVariants as refusal
 use Rattle.text.specs.Text.{Puts}
-use Rattle.wire.specs.declared.Head.TheVariants as head
 use Rattle.wire.specs.Log.{head_of}
 use Rattle.wire.proofs.HeadLaws.{of_more}
 use Rattle.rows.specs.declared.Device.{Device}
@@ -13,7 +15,6 @@ use Rattle.rows.specs.declared.Exchange.{Exchange}
 use Rattle.rows.specs.Device.{fresh_device, closed_exchange}
 use Rattle.model.specs.State.{State}
 use Rattle.model.specs.Areas.{Areas, view}
-use Rattle.drill_lines.specs.declared.Last.TheVariants as last
 use Rattle.drill_lines.specs.Lines.{last_line}
 use Rattle.drill_run.specs.Drill.{drill_areas, drill_start}
 use Rattle.drill_run.proofs.RunLaws.{start_view}
@@ -27,12 +28,32 @@ use Rattle.drill_turn.specs.Stream.{left, read_of, Inside, Waits, Keeps, Fed, Tu
 
 -- ---- the input
 
+-- a run moved to another place, as `copy_within` says it
+moved_splice : (a : List ℕ) (to from n : ℕ) → from + n ≤ length a → paste a to (drop from a) (from + n - from) ≡ splice a to (part a from n)
+unfolding splice part
+moved_splice a to from n h = grind (arith, common_steps)
+
 -- bytes moved to the front stand there
-pub moved_front : (a b : List ℕ) (from n : ℕ) → from + n ≤ length a → b ≡ splice a 0 (part a from n) → part b 0 n ≡ part a from n
-moved_front a b from n h e =
+pub moved_front : (a b : List ℕ) (from have : ℕ) → from ≤ have → have ≤ length a → b ≡ paste a 0 (drop from a) (have - from)
+    → part b 0 (have - from) ≡ part a from (have - from)
+moved_front a b from have order room e =
+    let n : ℕ = have - from in
+    let k : n ≡ from + n - from = omega arith in
     let v : List ℕ = part a from n in
-    let lv : length v ≡ n = length_part a from n h in
-    ap (λ (x : List ℕ). part x 0 n) e ∙ ap (part (splice a 0 v) 0) (sym lv) ∙ read_same a 0 v (omega arith)
+    let lv : length v ≡ n = length_part a from n (omega arith) in
+    ap (λ (x : List ℕ). part x 0 n) (e ∙ ap (paste a 0 (drop from a)) k ∙ moved_splice a 0 from n (omega arith))
+    ∙ ap (part (splice a 0 v) 0) (sym lv) ∙ read_same a 0 v (omega arith)
+
+-- of the bytes that are not done, those behind the first n
+pub left_most : (a : List ℕ) (at n : ℕ) → length (part a at n) ≤ n
+unfolding part
+left_most a at n = omega (arith, length-take n (drop at a))
+
+left_behind : (a : List ℕ) (from have n : ℕ) → n ≤ have - from → drop n (part a from (have - from)) ≡ part a (from + n) (have - (from + n))
+unfolding part
+left_behind a from have n h =
+    let k : have - from ≡ n + (have - (from + n)) = omega arith in
+    ap (λ (m : ℕ). drop n (take m (drop from a))) k ∙ drop-take n (have - (from + n)) (drop from a) ∙ ap (take (have - (from + n))) (drop-drop n from a)
 
 -- nothing is read
 pub fed_none : (t : Turn) (input : List ℕ) → Inside t.from t.have → Fed t input t input
@@ -106,13 +127,12 @@ streamed_more {s} {d} {d'} {x} {x'} {c} {o} {k} {t} {oc} {rc} {p} {f} {rest} {re
       size = counted_more so_far.log more n n' so_far.size en;
     }
 
-pub streamed_ran : {s : State} {a a' : Areas} {input out lines : List ℕ} {from have used put n : ℕ} {why : Why} → goes_on why ≡ true
-    → Runs a a' input from have used out put why → Streamed s a (part input from (have - from)) n lines
-    → Streamed s a' (part input used (have - used)) n (lines ++ take put out)
-streamed_ran {s} {a} {a'} {input} {out} {lines} {from} {have} {used} {put} {n} {why} h runs so_far = record {
+pub streamed_ran : {s : State} {a a' : Areas} {rest out lines : List ℕ} {used put n : ℕ} {why : Why} → goes_on why ≡ true
+    → Runs a a' rest used out put why → Streamed s a rest n lines → Streamed s a' (drop used rest) n (lines ++ take put out)
+streamed_ran {s} {a} {a'} {rest} {out} {lines} {used} {put} {n} {why} h runs so_far = record {
   log = so_far.log ++ [];
   run = runs_join [] so_far.run
-      (subst (λ (b : List ℕ). Running (view a) b a' (part input used (have - used)) (take put out)) (sym (append-nil (part input from (have - from))))
+      (subst (λ (b : List ℕ). Running (view a) b a' (drop used rest) (take put out)) (sym (append-nil rest))
       (ran_on h (runs.ran so_far.run.ready)));
   size = ap (λ (l : List ℕ). length l % 2 ^ 64) (append-nil so_far.log) ∙ so_far.size;
 }
@@ -129,9 +149,12 @@ module _ {s : State} {c o k t oc rc p f : List ℕ} {u v : Turn} {input input' l
   -- a run that did not end at number 13: its lines stand behind those of the turns before
   pub between_on : {a : Areas} {w : Turn} {out : List ℕ} → Turned here a v input' w out → goes_on w.why ≡ true → Between s a w input' (lines ++ take w.put out)
   between_on {a} {w} {out} turned h =
-      let e : part input' w.from (v.have - w.from) ≡ left w input' = ap (λ (n : ℕ). part input' w.from (n - w.from)) (sym turned.have) in record {
+      let n : turned.used ≤ v.have - v.from = omega (arith, turned.runs.ended.high, left_most input' v.from (v.have - v.from)) in
+      let e : drop turned.used (left v input') ≡ left w input' =
+      left_behind input' v.from v.have turned.used n ∙ (λ i. part input' (sym turned.from i) (sym turned.have i - sym turned.from i)) in
+      record {
         waits = record {
-          inside = record { order = omega (arith, turned.runs.ended.high, turned.have); room = omega (arith, fed.inside.room, turned.have) };
+          inside = turned.inside;
           wants = λ z. ap head_of (sym e) ∙ (turned.runs.ran streamed_on.run.ready).wants z;
         };
         goes_on = h;
@@ -163,7 +186,7 @@ module _ {s : State} {c o k t oc rc p f : List ℕ} {u v : Turn} {input input' l
 left_none : (t : Turn) (input : List ℕ) → t.have ≤ t.from → left t input ≡ []
 left_none t input h = let e : t.have - t.from ≡ 0 = omega arith in ap (part input t.from) e ∙ part_nil input t.from
 
-pub none_wants : head_of [] ≡ head.More
+pub none_wants : head_of [] ≡ Ok None
 unfolding head_of
 none_wants = refl
 
@@ -195,7 +218,7 @@ unfolding Ends
 ends_between t h s a log so_far input room w k =
     log_whole (subst (λ (b : List ℕ). Running s log a b so_far) (left_none t input h) k) ∙ sym (append-nil so_far)
 
-pub ends_inside : (t : Turn) {out out' : List ℕ} {put : ℕ} → t.from < t.have → Puts 96 out 0 (last_line (last.Refused refusal.LogRecord)) put out'
+pub ends_inside : (t : Turn) {out out' : List ℕ} {put : ℕ} → t.from < t.have → Puts 96 out 0 (last_line (Err refusal.LogRecord)) put out'
     → 96 ≤ length out → Ends t (take put out')
 unfolding Ends
 ends_inside t {out} {out'} {put} h p n s a log so_far input room w k =

@@ -1,7 +1,6 @@
 -- The drill's log, read in pieces (document 01, "Drill program"): what one turn hands on to the next. Assumes nothing.
-use Rattle.std.specs.Prelude.{◌≡◌, ℕ, ◌+◌, ◌-◌, ◌%◌, ◌^◌, ◌≤◌, Bool, true, cond, List, [], ◌++◌, length, take, ◌==◌}
+use Rattle.std.specs.Prelude.{◌≡◌, ℕ, ◌+◌, ◌-◌, ◌%◌, ◌^◌, ◌≤◌, Bool, true, cond, List, [], ◌++◌, length, take, ◌==◌, None, Ok}
 use Rattle.octets.specs.Bytes.{part}
-use Rattle.wire.specs.declared.Head.TheVariants as head
 use Rattle.wire.specs.Log.{head_of}
 use Rattle.rows.specs.declared.Device.{Device}
 use Rattle.rows.specs.declared.Exchange.{Exchange}
@@ -65,7 +64,7 @@ read_turn t n failed = with_input t t.from (t.have + n) (after_read n failed) t.
 -- more input is wanted only where no whole record is left
 pub record Waits (t : Turn) (input : List ℕ) : Type 0 where
   pub inside : Inside t.from t.have
-  pub wants : t.why ≡ cause.More → head_of (left t input) ≡ head.More
+  pub wants : t.why ≡ cause.More → head_of (left t input) ≡ Ok None
 
 -- what is not done is moved to the front of the buffer
 pub record Keeps (t : Turn) (input : List ℕ) (t' : Turn) (input' : List ℕ) : Type 0 where
@@ -85,14 +84,17 @@ pub record Fed (t : Turn) (input : List ℕ) (t' : Turn) (input' : List ℕ) : T
 
 -- the records of what is not done are performed; the bytes stay where they are
 pub record Turned (before after : Areas) (t : Turn) (input : List ℕ) (t' : Turn) (out : List ℕ) : Type 0 where
-  pub runs : Runs before after input t.from t.have t'.from out t'.put t'.why
+  pub used : ℕ
+  pub from : t'.from ≡ t.from + used
+  pub inside : Inside t'.from t'.have
+  pub runs : Runs before after (left t input) used out t'.put t'.why
   pub have : t'.have ≡ t.have
   pub bytes : t'.bytes ≡ t.bytes
 
 -- At the end of the input, where more is wanted: these lines, behind those of the turns before, are what the whole log prints.
 unfoldable pub Ends : Turn → List ℕ → Type 0
 Ends t lines =
-    (s : State) (a : Areas) (log so_far input : List ℕ) → t.have ≤ length input → head_of (left t input) ≡ head.More
+    (s : State) (a : Areas) (log so_far input : List ℕ) → t.have ≤ length input → head_of (left t input) ≡ Ok None
     → Running s log a (left t input) so_far → printed s log ≡ so_far ++ lines
 
 -- a line of at most 96 bytes, which is what ends the log's
@@ -103,7 +105,7 @@ pub record AtEnd (t : Turn) (put : ℕ) (out : List ℕ) : Type 0 where
 -- where the input has ended no whole record is left
 pub record Stops (t : Turn) (input : List ℕ) : Type 0 where
   pub inside : Inside t.from t.have
-  pub wants : t.why ≡ cause.Ended → head_of (left t input) ≡ head.More
+  pub wants : t.why ≡ cause.Ended → head_of (left t input) ≡ Ok None
 
 -- ---- from turn to turn
 

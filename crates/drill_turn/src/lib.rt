@@ -2,18 +2,17 @@
 #![tactic(auto)]
 
 ghost use Rattle.std.specs.Prelude.{◌≡◌, ◌+◌, ◌%◌, ◌^◌, ◌≤◌, length};
-ghost use Rattle.octets.specs.Bytes.{part};
 ghost use Rattle.drill_calls.specs.Asking.{tables_areas};
 ghost use Rattle.drill_turn.specs.Stream.{Inside, first_turn, with_input, after_read, read_turn, Keeps, Turned, AtEnd};
 
 use courier_core::Refusal;
 use drill_calls::Tables;
-use drill_lines::Last;
 use drill_log::Why;
 use rows::{Device, Exchange};
 
 // What one turn hands on to the next: input[from..have] is not done, and out[..put] are its lines. So many bytes of the log stand before
 // input[0], and so many records before input[from], both modulo 2^64. The count of records is told on standard error; no contract says that `advance` counts the records performed.
+// (No ghost field says `Inside`: the definitions that make a turn of its fields, as `first_turn` and `with_input`, would each have to hold a proof of it.)
 #[derive(Clone, Copy)]
 pub struct Turn {
     pub device: Device,
@@ -50,16 +49,6 @@ pub fn start() -> Turn
 
 // ---- the input
 
-// Moves n bytes to the front.
-fn to_front(input: &mut [u8], from: usize, n: usize)
-    requires { from + n ≤ length input.old }
-    ensures { part input.new 0 n ≡ part input.old from n }
-{
-    if from > 0 {
-        octets::move_down(input, 0, from, n);
-    }
-}
-
 // The same device and exchange, with other bytes in the buffer.
 fn with_input(turn: Turn, from: usize, have: usize, why: Why, bytes: u64) -> Turn
     ensures { result ≡ with_input turn from have why bytes }
@@ -79,10 +68,9 @@ pub fn keep(turn: Turn, input: &mut [u8; 65536]) -> Turn
     requires { Inside turn.from turn.have }
     ensures { Keeps turn input.old result input.new }
 {
-    let kept = turn.have - turn.from;
-    to_front(input, turn.from, kept);
+    input.copy_within(turn.from..turn.have, 0);
     let bytes = further(turn.bytes, turn.from);
-    with_input(turn, 0, kept, Why::More, bytes)
+    with_input(turn, 0, turn.have - turn.from, Why::More, bytes)
 }
 
 // Why a turn goes on or ends after a read of so many bytes.
@@ -117,9 +105,7 @@ pub fn advance(turn: Turn, input: &[u8; 65536], tables: &mut Tables, out: &mut [
     let mut device = turn.device;
     let mut exchange = turn.exchange;
     let p = drill_log::run_some(
-        input,
-        turn.from,
-        turn.have,
+        &input[turn.from..turn.have],
         &mut device,
         &mut exchange,
         tables,
@@ -128,7 +114,7 @@ pub fn advance(turn: Turn, input: &[u8; 65536], tables: &mut Tables, out: &mut [
     Turn {
         device,
         exchange,
-        from: p.used,
+        from: turn.from + p.used,
         put: p.put,
         why: p.why,
         records: further(turn.records, p.count),
@@ -145,5 +131,5 @@ pub fn at_end(turn: Turn, out: &mut [u8; 655360]) -> usize
     if turn.have <= turn.from {
         return 0;
     }
-    drill_lines::last_line(Last::Refused(Refusal::LogRecord), out, 0)
+    drill_lines::last_line(Err(Refusal::LogRecord), out, 0)
 }

@@ -1,10 +1,9 @@
 // The envelope call: `receive_envelope`, `carry` and `put_held` of couriering.rs.
 #![tactic(auto)]
 
-ghost use Rattle.std.specs.Prelude.{◌≡◌, ◌+◌, ◌*◌, ◌/◌, ◌<◌, ◌≤◌, not, ◌||◌, [], ◌∷◌, ◌++◌, map, length, nat_lt};
+ghost use Rattle.std.specs.Prelude.{◌≡◌, ◌+◌, ◌*◌, ◌/◌, ◌<◌, ◌≤◌, not, ◌||◌, map, length, nat_lt};
 ghost use Rattle.octets.specs.Bytes.{part};
-ghost use Rattle.table.specs.Rows.{held};
-ghost use Rattle.table.specs.Codec.{table_of, TableNow};
+ghost use Rattle.table.specs.Tables.{rows_in};
 ghost use Rattle.rows.specs.Rows.{carried_width, contact_codec, carried_codec, reachable_of};
 ghost use Rattle.model.specs.Calls.{envelope as envelope_call, short_replies};
 ghost use Rattle.model.specs.Contacts.{known as known_of};
@@ -18,8 +17,9 @@ use contacts::{known, lifetime_end, strangers};
 use courier::{Custody, Header};
 use courier_core::{ContactId, Refusal};
 use custody::{Tables, free_carried_cell, lookup, wrong_window};
-use rows::{Carried, Device, Reachable, Row};
+use rows::{CARRIED_WIDTH, CONTACT_WIDTH, Carried, Device, Reachable, Row};
 use state::CELL;
+use table::Table;
 
 // The areas that the call is lent for its answer: so many replies, and so many actions beside one for each tombstone row.
 const REPLY_AREA: usize = 1536 * rows::REPLY_WIDTH;
@@ -27,6 +27,7 @@ const REPLY_AREA: usize = 1536 * rows::REPLY_WIDTH;
 const LISTED_ACTIONS: usize = 512;
 
 // What becomes of an envelope that is not refused: its place in the window, a code that holds no row, or the cell that it gets.
+// (Three ways, none of them a refusal or nothing: neither `Option` nor `Result` has them.)
 #[derive(Drop)]
 pub enum Choice {
     Ours(usize),
@@ -35,6 +36,7 @@ pub enum Choice {
 }
 
 // What the call answers: the contact, generation and index of an envelope in the window; or how many replies and actions are listed.
+// (Two answers, neither of them a refusal or nothing.)
 #[derive(Drop)]
 pub enum Answer {
     Ours(ContactId, u8, u32),
@@ -52,17 +54,17 @@ fn too_short(replies: usize, actions: usize, tombstones: usize) -> bool
 }
 
 // Number 2: the peer, or a contact in the window, isn't known.
-fn unknown(contacts: &[u8], count: usize, peer: ContactId, window: &[u8]) -> bool
-    ensures { result ≡ (not (known_of (table_of contact_codec count contacts.now) peer) || some_stranger (table_of contact_codec count contacts.now) (window_rows window.now)) }
+fn unknown(contacts: Table<CONTACT_WIDTH>, peer: ContactId, window: &[u8]) -> bool
+    ensures { result ≡ (not (known_of (rows_in contact_codec contacts.entry) peer) || some_stranger (rows_in contact_codec contacts.entry) (window_rows window.now)) }
 {
-    !known(contacts, count, peer) || strangers(contacts, count, window)
+    !known(contacts, peer) || strangers(contacts, window)
 }
 
 // The cell of an envelope that is accepted, in a cell area of size bytes; numbers 4 and 6.
-fn place(carried: &[u8], count: usize, size: usize, next_slot: u64) -> Result<Choice, Refusal>
-    ensures { result ≡ placed size (map (λ x. x.cell) (table_of carried_codec count carried.now)) next_slot }
+fn place(carried: Table<CARRIED_WIDTH>, size: usize, next_slot: u64) -> Result<Choice, Refusal>
+    ensures { result ≡ placed size (map (λ x. x.cell) (rows_in carried_codec carried.entry)) next_slot }
 {
-    let cell = free_carried_cell(carried, count, size).ok_or(Refusal::NoCell)?;
+    let cell = free_carried_cell(carried, size).ok_or(Refusal::NoCell)?;
     if next_slot == u64::MAX {
         return Err(Refusal::NoSlot);
     }
@@ -78,10 +80,15 @@ fn custody_choice(
 ) -> Result<Choice, Refusal>
     ensures { (a : Areas) → Lent a tables.entry → result ≡ custody_choice (view a) peer head len }
 {
-    let device = tables.device;
-    let carried = tables.carried;
     match tables.custody(peer, head, len) {
-        Custody::Accepted => place(carried, device.carried, tables.size, device.next_slot),
+        Custody::Accepted => {
+            let area = tables.carried;
+            let carried = Table {
+                area,
+                count: tables.device.carried,
+            };
+            place(carried, tables.size, tables.device.next_slot)
+        }
         code => Ok(Choice::Code(code)),
     }
 }
@@ -98,18 +105,20 @@ fn decide(
 ) -> Result<Choice, Refusal>
     ensures { (a : Areas) → Lent a tables.entry → result ≡ envelope_choice (view a) replies actions window.now peer head len }
 {
-    let device = tables.device;
     if too_short(replies, actions, tables.tombstones.len()) {
         return Err(Refusal::ShortArea);
     }
     if wrong_window(window) {
         return Err(Refusal::WindowRows);
     }
-    if unknown(tables.contacts, device.contacts, peer, window) {
+    let contacts = Table {
+        area: tables.contacts,
+        count: tables.device.contacts,
+    };
+    if unknown(contacts, peer, window) {
         return Err(Refusal::UnknownContact);
     }
-    let tag = head.tag;
-    match lookup(window, tag) {
+    match lookup(window, head.tag) {
         Some(i) => Ok(Choice::Ours(i)),
         None => custody_choice(tables, peer, head, len),
     }
@@ -121,28 +130,27 @@ fn ours_at(window: &[u8], i: usize) -> Answer
     ensures { result ≡ ours_of (reachable_of (part window.now (i * 30) 30)) }
 {
     let row = Reachable::read(window, i * rows::REACHABLE_WIDTH);
-    let contact = row.contact;
-    Answer::Ours(contact, row.generation, row.idx)
+    Answer::Ours(row.contact, row.generation, row.idx)
 }
 
 // ---- `carry`
 
 // The new row: copies and expiry become the lesser of their own and the configured.
+// (An array field goes into a literal through a local: put there straight, the borrow check does not cover it.)
 fn new_row(device: Device, depositor: ContactId, head: Header, len: usize, cell: usize) -> Carried
     requires { (len ≤ 2064) × (cell < 256) }
     ensures { result ≡ new_row device depositor head len cell }
 {
     let tag = head.tag;
     let c = head.c;
-    let config = device.courier;
-    let end = lifetime_end(device.now_s, config);
+    let end = lifetime_end(device.now_s, device.courier);
     Carried {
         slot: device.next_slot,
         depositor,
         tag,
         c,
         expiry_min: head.expiry_min.min(end),
-        copies: head.copies.min(config.copies),
+        copies: head.copies.min(device.courier.copies),
         len: len as u16,
         cell: cell as u16,
     }
@@ -172,6 +180,7 @@ fn carry(
 
 // An envelope that a peer sends. One in the window is ours, and the host opens it. Any other is answered by a custody code; an accepted one
 // is held from then on.
+// (As the C interface lends them, each area is a parameter.)
 pub fn envelope(
     device: &mut Device,
     peer: ContactId,
@@ -208,17 +217,16 @@ pub fn envelope(
         replies.len(),
         actions.len(),
     )?;
-    let tag = head.tag;
     match choice {
         Choice::Ours(i) => Ok(ours_at(window, i)),
         Choice::Code(code) => {
-            answers::put_custody(replies, 0, tag, code);
+            answers::put_custody(replies, 0, head.tag, code);
             Ok(Answer::Done(1, 0))
         }
         Choice::Take(cell) => {
             let slot = device.next_slot;
             carry(device, peer, head, ct, cell, carried, carried_cells);
-            answers::put_custody(replies, 0, tag, Custody::Accepted);
+            answers::put_custody(replies, 0, head.tag, Custody::Accepted);
             answers::put_courier(actions, 0, slot);
             Ok(Answer::Done(1, 1))
         }

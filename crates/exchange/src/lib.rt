@@ -1,5 +1,5 @@
 // The calls of an exchange that is lent: its flag, its peer and its two counts stand behind a `&mut`, its prefixes and its offers lie in areas beside it.
-// Each call is a thin wrapper: it copies the exchange out, calls the form by value, and stores what that leaves. A call that is refused or malformed stores what stood there.
+// Each call is a thin wrapper: it copies the exchange out, calls the form by value, and stores what that leaves. A call that is refused or malformed leaves what stood there.
 // (As the C interface lends them, each area is a parameter.)
 #![tactic(auto)]
 
@@ -19,6 +19,7 @@ use rows::{Device, Exchange};
 // ---- inventory received
 
 // A peer's list of prefixes: more of it are listed, and the empty list, which ends it, is answered with fetches, tombs and offers.
+// (Here and below each area is a parameter, as the C interface lends them.)
 pub fn receive_inventory(
     exchange: &mut Exchange,
     device: Device,

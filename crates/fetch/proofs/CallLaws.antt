@@ -1,15 +1,13 @@
 -- Laws of the call fetch: each way out as the model's step, and what it leaves.
 -- Assumes nothing.
-use Rattle.std.proofs.Common.{◌≡◌, ℕ, ◌+◌, ◌*◌, ◌<◌, ◌≤◌, true, false, not, List, [], length, get_or, sym, refl, ap, ◌∙◌, arith, le-ltb, lt-ltb, Option, Some, None}
+use Rattle.std.proofs.Common.{◌≡◌, ℕ, ◌+◌, ◌*◌, ◌<◌, ◌≤◌, true, false, not, List, [], length, get_or, refl, ap, ◌∙◌, le-ltb, lt-ltb, Option, Some, None}
 use Rattle.octets.specs.Bytes.{part, splice}
 use Rattle.courier_core.specs.declared.ContactId.{ContactId}
 use Rattle.courier_core.specs.declared.Refusal.TheVariants as refusal
 use Rattle.table.specs.Lists.{position}
-use Rattle.table.specs.Rows.{held, join, written}
+use Rattle.table.specs.Rows.{join, written}
 use Rattle.table.specs.Codec.{table_of, with_table}
-use Rattle.table.proofs.RowLaws.{held_inside}
-use Rattle.table.proofs.TableLaws.{length_table, get_d_table, with_one}
-use Rattle.table.proofs.FindLaws.{position_first}
+use Rattle.table.proofs.TableLaws.{get_d_table, with_one}
 use Rattle.rows.specs.declared.Device.{Device}
 use Rattle.rows.specs.declared.Own.{Own}
 use Rattle.rows.specs.declared.Carried.{Carried}
@@ -26,25 +24,16 @@ use Rattle.model.specs.Areas.{Areas, Written, view, store, store_device, store_s
 use Rattle.model.proofs.CallLaws.{refused_here, not_here, no_test, quiet_call, refused_call}
 use Rattle.model.specs.Lent.{replies_lent}
 use Rattle.fetch.specs.Fetch.{for_others, Given, fetched_as, cells_of, fetch_says, fetch_in}
-use Rattle.fetch.proofs.SearchLaws.{own_found, carried_found, none_found}
+use Rattle.fetch.proofs.SearchLaws.{found_inside, found_row, own_found, carried_found, none_found}
 
--- ---- the row that is found is in the table
+-- ---- the row that is found lies in the area
 
 module _ (count : ℕ) (a tag : List ℕ) {i : ℕ} where
-  module _ (peer : ContactId) (e : Some i ≡ position (for_others peer tag) (table_of own_codec count a)) where
-    own_inside : i < held (length a) 54 count
-    own_inside = omega (arith, (position_first (for_others peer tag) (table_of own_codec count a) no_own i (sym e)).inside, length_table own_codec count a)
+  pub own_row : (peer : ContactId) → Some i ≡ position (for_others peer tag) (table_of own_codec count a) → i * 54 + 54 ≤ length a
+  own_row peer = found_row own_codec count a (for_others peer tag) no_own
 
-    pub own_row : i * 54 + 54 ≤ length a
-    own_row = omega (arith, own_inside, held_inside (length a) 54 count)
-
-  module _ (e : Some i ≡ position (carried_of_tag tag) (table_of carried_codec count a)) where
-    carried_inside : i < held (length a) 57 count
-    carried_inside =
-        omega (arith, (position_first (carried_of_tag tag) (table_of carried_codec count a) no_carried i (sym e)).inside, length_table carried_codec count a)
-
-    pub carried_row_lem : i * 57 + 57 ≤ length a
-    carried_row_lem = omega (arith, carried_inside, held_inside (length a) 57 count)
+  pub carried_row_lem : Some i ≡ position (carried_of_tag tag) (table_of carried_codec count a) → i * 57 + 57 ≤ length a
+  carried_row_lem = found_row carried_codec count a (carried_of_tag tag) no_carried
 
 -- ---- the ways out
 
@@ -102,12 +91,12 @@ module _ (d : Device) (peer : ContactId) (tag contacts own carried oc cc lent : 
       pub says_own : (i : ℕ) (r back : List ℕ) → Some i ≡ position (for_others peer tag) To → Given (own_envelope_of (own_of (part own (i * 54) 54))) oc lent r back → Says 0 r back
       unfolding own_envelope_of
       says_own i r back e G =
-          let row : get_or To i no_own ≡ own_of (part own (i * 54) 54) = get_d_table own_codec d.own own i no_own (own_inside d.own own tag peer e) in
+          let row : get_or To i no_own ≡ own_of (part own (i * 54) 54) = get_d_table own_codec d.own own i no_own (found_inside own_codec d.own own (for_others peer tag) no_own e) in
           given _ r back (stepped (own_found To Tc peer tag i e ∙ ap (λ (o : Own). Some (own_envelope_of o)) row)) G
 
       pub says_carried : (i : ℕ) (r back : List ℕ) → None ≡ position (for_others peer tag) To → Some i ≡ position (carried_of_tag tag) Tc
           → Given (carried_envelope_of (carried_of (part carried (i * 57) 57))) cc lent r back → Says 0 r back
       unfolding carried_envelope_of
       says_carried i r back n e G =
-          let row : get_or Tc i no_carried ≡ carried_of (part carried (i * 57) 57) = get_d_table carried_codec d.carried carried i no_carried (carried_inside d.carried carried tag e) in
+          let row : get_or Tc i no_carried ≡ carried_of (part carried (i * 57) 57) = get_d_table carried_codec d.carried carried i no_carried (found_inside carried_codec d.carried carried (carried_of_tag tag) no_carried e) in
           given _ r back (stepped (carried_found To Tc peer tag n i e ∙ ap (λ (o : Carried). Some (carried_envelope_of o)) row)) G

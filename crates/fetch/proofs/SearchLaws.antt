@@ -1,8 +1,14 @@
--- The model's search through the envelopes is the search through own rows, then through carried rows.
+-- Laws of a search: a row that is found is one of its table, and its bytes lie in the area. The model's search through the envelopes is the
+-- search through own rows, then through carried rows.
 -- Assumes nothing.
-use Rattle.std.proofs.Common.{◌≡◌, ℕ, true, List, [], ◌++◌, map, get_or, sym, ap, ◌∙◌, append-nil, Some, None}
+use Rattle.std.proofs.Common.{◌≡◌, ℕ, ◌+◌, ◌*◌, ◌<◌, ◌≤◌, Bool, true, List, [], ◌++◌, map, length, get_or, sym, ap, ◌∙◌, append-nil, arith, Some, None}
 use Rattle.courier_core.specs.declared.ContactId.{ContactId}
 use Rattle.table.specs.Lists.{position, filter}
+use Rattle.table.specs.Rows.{held}
+use Rattle.table.specs.Codec.{Codec, table_of}
+use Rattle.table.proofs.RowLaws.{row_in, held_inside}
+use Rattle.table.proofs.TableLaws.{length_table}
+use Rattle.table.proofs.FindLaws.{position_first}
 use Rattle.rows.specs.declared.Own.{Own}
 use Rattle.rows.specs.declared.Carried.{Carried}
 use Rattle.model.specs.Basics.{find}
@@ -10,6 +16,20 @@ use Rattle.model.specs.Custody.{carried_of_tag}
 use Rattle.model.specs.Exchange.{Envelope, own_envelope_of, carried_envelope_of, not_for, envelopes, envelope_of_tag, no_own, no_carried}
 use Rattle.model.proofs.SearchLaws.{find_at, find_past, filter_all}
 use Rattle.fetch.specs.Fetch.{for_others}
+
+-- ---- the row that is found
+
+pub row_within : (len w count i : ℕ) → i < held len w count → i * w + w ≤ len
+row_within len w count i h = omega (arith, row_in i (held len w count) w h, held_inside len w count)
+
+module _ {A : Type 0} (c : Codec A) (count : ℕ) (a : List ℕ) (q : A → Bool) (d : A) {i : ℕ} (e : Some i ≡ position q (table_of c count a)) where
+  pub found_inside : i < held (length a) c.width count
+  found_inside = omega (arith, (position_first q (table_of c count a) d i (sym e)).inside, length_table c count a)
+
+  pub found_row : i * c.width + c.width ≤ length a
+  found_row = row_within (length a) c.width count i found_inside
+
+-- ---- the envelope that is found
 
 module _ (own : List Own) (carried : List Carried) (peer : ContactId) (tag : List ℕ) where
   abbrev tail : List Envelope

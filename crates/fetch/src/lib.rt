@@ -4,7 +4,7 @@
 ghost use Rattle.std.specs.Prelude.{◌≡◌, ◌+◌, ◌≤◌, not, ◌&&◌, length, ◌==◌};
 ghost use Rattle.octets.specs.Bytes.{part, num, same_bytes};
 ghost use Rattle.table.specs.Lists.{position};
-ghost use Rattle.table.specs.Codec.{table_of};
+ghost use Rattle.table.specs.Tables.{rows_in};
 ghost use Rattle.rows.specs.Rows.{own_codec, carried_codec, own_of, carried_of};
 ghost use Rattle.model.specs.Calls.{fetch as fetch_call};
 ghost use Rattle.model.specs.Cells.{ciphertext};
@@ -14,31 +14,31 @@ ghost use Rattle.model.specs.Lent.{Does, replies_lent};
 ghost use Rattle.fetch.specs.Fetch.{for_others, Given, fetched_said, fetch_says, fetch_in};
 
 use courier_core::{ContactId, Refusal};
-use rows::Device;
+use rows::{CARRIED_WIDTH, Carried, Device, OWN_WIDTH, Own, REPLY_WIDTH, Row};
+use table::Table;
+
+// The bytes that a reply area has at least.
+const REPLY_AREA: usize = 1536 * REPLY_WIDTH;
+
+// Where the tag stands in an own row, and in a carried row.
+const OWN_TAG: usize = 12;
+
+const CARRIED_TAG: usize = 16;
 
 // ---- the envelope
 
-// (A table is fixed memory of the host's, and its count is the device's and may be anything: the two stay beside each other.)
-
 // The first own row with the tag that is not for the peer.
-pub fn own_for_others(own: &[u8], count: usize, peer: ContactId, tag: [u8; 16]) -> Option<usize>
-    ensures { result ≡ position (for_others peer tag) (table_of own_codec count own.now) }
+pub fn own_for_others(own: Table<OWN_WIDTH>, peer: ContactId, tag: [u8; 16]) -> Option<usize>
+    ensures { result ≡ position (for_others peer tag) (rows_in own_codec own.entry) }
 {
-    let n = table::fit(own.len(), rows::OWN_WIDTH, count);
-    table::position(
-        own,
-        rows::OWN_WIDTH,
-        n,
-        |row| octets::get_u64(row, 0) != peer.0 && octets::same(row, 12, &tag, 0, 16),
-    )
+    own.position(|row| octets::get_u64(row, 0) != peer.0 && octets::same(row, OWN_TAG, &tag, 0, 16))
 }
 
 // The first carried row with the tag.
-pub fn carried_of_tag(carried: &[u8], count: usize, tag: [u8; 16]) -> Option<usize>
-    ensures { result ≡ position (carried_of_tag tag) (table_of carried_codec count carried.now) }
+pub fn carried_of_tag(carried: Table<CARRIED_WIDTH>, tag: [u8; 16]) -> Option<usize>
+    ensures { result ≡ position (carried_of_tag tag) (rows_in carried_codec carried.entry) }
 {
-    let n = table::fit(carried.len(), rows::CARRIED_WIDTH, count);
-    table::find(carried, rows::CARRIED_WIDTH, n, 16, &tag)
+    carried.find(CARRIED_TAG, &tag)
 }
 
 // ---- its ciphertext
@@ -59,7 +59,7 @@ fn give_own<'c>(own: &[u8], at: usize, cells: &'c [u8], replies: &mut [u8]) -> &
     requires { (at + 54 ≤ length own.now) × (40 ≤ length replies.old) }
     ensures { Given (own_envelope_of (own_of (part own.now at 54))) cells.now replies.old result.now replies.new }
 {
-    let row = rows::own_at(own, at);
+    let row = Own::read(own, at);
     answers::put_envelope(
         replies,
         0,
@@ -69,12 +69,12 @@ fn give_own<'c>(own: &[u8], at: usize, cells: &'c [u8], replies: &mut [u8]) -> &
     cell_part(cells, row.cell, row.len)
 }
 
-// The same, of a carried envelope. (Two functions: each is two calls, and a trait over the rows for them would be longer than both.)
+// The same, of a carried envelope. (Two functions: the rows are of two types, and an own row has a secret where a carried row has a commitment.)
 fn give_carried<'c>(carried: &[u8], at: usize, cells: &'c [u8], replies: &mut [u8]) -> &'c [u8]
     requires { (at + 57 ≤ length carried.now) × (40 ≤ length replies.old) }
     ensures { Given (carried_envelope_of (carried_of (part carried.now at 57))) cells.now replies.old result.now replies.new }
 {
-    let row = rows::carried_at(carried, at);
+    let row = Carried::read(carried, at);
     answers::put_envelope(
         replies,
         0,
@@ -88,6 +88,7 @@ fn give_carried<'c>(carried: &[u8], at: usize, cells: &'c [u8], replies: &mut [u
 
 // Answers the part of a cell area that is the ciphertext of the first envelope with the tag: own rows that are not for the peer, then
 // carried rows; or that there is none. Its header goes to the reply area.
+// (As the C interface lends them, each area is a parameter.)
 pub fn fetch<'c>(
     device: Device,
     peer: ContactId,
@@ -105,17 +106,29 @@ pub fn fetch<'c>(
         (fetch_in device contacts.now own.now carried.now own_cells.now carried_cells.now)
         (replies_lent replies.old) (replies_lent replies.new) }
 {
-    if replies.len() < 61440 {
+    if replies.len() < REPLY_AREA {
         return Err(Refusal::ShortArea);
     }
-    if !contacts::known(contacts, device.contacts, peer) {
+    let contacts = Table {
+        area: contacts,
+        count: device.contacts,
+    };
+    if !contacts::known(contacts, peer) {
         return Err(Refusal::UnknownContact);
     }
-    match own_for_others(own, device.own, peer, tag) {
-        Some(i) => Ok(Some(give_own(own, i * rows::OWN_WIDTH, own_cells, replies))),
-        None => match carried_of_tag(carried, device.carried, tag) {
+    let own_rows = Table {
+        area: own,
+        count: device.own,
+    };
+    let carried_rows = Table {
+        area: carried,
+        count: device.carried,
+    };
+    match own_for_others(own_rows, peer, tag) {
+        Some(i) => Ok(Some(give_own(own, i * OWN_WIDTH, own_cells, replies))),
+        None => match carried_of_tag(carried_rows, tag) {
             Some(i) => {
-                let at = i * rows::CARRIED_WIDTH;
+                let at = i * CARRIED_WIDTH;
                 Ok(Some(give_carried(carried, at, carried_cells, replies)))
             }
             None => Ok(None),

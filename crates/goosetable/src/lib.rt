@@ -1,5 +1,7 @@
 // The calls as a host of another language links them: numbers, and areas by pointer and length. The device and an exchange lie in
 // small areas of their own (crate boundary); a table of fixed size is a pointer alone. No two areas may overlap, but for ones that are only read.
+// C lends each area and each value by a parameter of its own, and that stays as it is: so envelope, fetch, own envelope, inventory, custody
+// code, tomb and opened have eight parameters and more, one a line.
 #![tactic(auto)]
 
 ghost use Rattle.std.specs.Prelude.{◌≡◌, [], ◌∷◌, length};
@@ -39,6 +41,9 @@ use host_answers::{
     Answer, DONE, Row, acted_answer, answer_of, blob_answer, done_answer, envelope_answer,
     fetch_answer, inventory_answer, own_answer, own_row, row_of, tomb_answer, wrote_answer,
 };
+
+// A call reads the device, works on it and puts it back. One function for that, with the call as a closure, gets no proof: its caller is
+// told nothing of what a closure left in the areas that it borrowed.
 
 // 0.2.3 as a number: major * 10,000 + minor * 100 + patch.
 const VERSION: u32 = 203;
@@ -602,7 +607,7 @@ pub extern "C" fn goosetable_delivered(message_key: &[u8; 32], s: &mut [u8; 16])
     *s = courier::delivered(*message_key);
 }
 
-// The commitment that a secret opens.
+// The commitment that a secret opens. (As the function above, of 16 bytes in place of 32: C has a name for each.)
 #[unsafe(no_mangle)]
 pub extern "C" fn goosetable_commitment(s: &[u8; 16], c: &mut [u8; 16])
     ensures { c.new ≡ commitment_of s.now }

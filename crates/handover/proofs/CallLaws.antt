@@ -11,6 +11,7 @@ use Rattle.table.specs.Lists.{position, remove_at}
 use Rattle.table.specs.Rows.{held}
 use Rattle.table.specs.Codec.{table_of, with_table, TableNow}
 use Rattle.table.proofs.TableLaws.{get_d_table}
+use Rattle.contacts.proofs.FindLaws.{same_peer}
 use Rattle.courier.specs.contracts.Custody.{the_type}
 use Rattle.courier.specs.declared.Custody.{Custody}
 use Rattle.courier.specs.declared.Custody.TheVariants as custody
@@ -52,13 +53,9 @@ pub other_code : (code : Custody) {r c : Bool} → r ≡ not (sameb the_type cod
 other_code code e h = sym (same_code code) ∙ not_back _ (sym e ∙ h)
 
 -- was the exchange opened for another than the peer
-module _ (eq : ContactId → ContactId → Bool) (peer : ContactId) (same : (p : ContactId) → eq p peer ≡ eqb p.0 peer.0) where
-  same_peer : (to : Option ContactId) → option_eq eq to (Some peer) ≡ is_for peer to
-  same_peer (Some p) = same p
-  same_peer None = refl
-
-  pub other_peer : (to : Option ContactId) {r c : Bool} → r ≡ not (option_eq eq to (Some peer)) → r ≡ c → is_for peer to ≡ not c
-  other_peer to e h = sym (same_peer to) ∙ not_back _ (sym e ∙ h)
+pub other_peer : (eq : ContactId → ContactId → Bool) (peer : ContactId) → ((p : ContactId) → eq p peer ≡ eqb p.0 peer.0)
+    → (to : Option ContactId) {r c : Bool} → r ≡ not (option_eq eq to (Some peer)) → r ≡ c → is_for peer to ≡ not c
+other_peer eq peer same to e h = sym (same_peer eq peer same to) ∙ not_back _ (sym e ∙ h)
 
 -- ---- an offer that is settled
 

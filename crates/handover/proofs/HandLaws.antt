@@ -1,6 +1,6 @@
 -- Laws of copies that are handed over: the row that they are taken off, and its action.
 -- Assumes nothing.
-use Rattle.std.proofs.Common.{◌≡◌, ℕ, ◌*◌, ◌<◌, min, List, [], ◌∷◌, length, get_or, sym, refl, ap, ◌∙◌, subst, arith, Option, Some, None}
+use Rattle.std.proofs.Common.{◌≡◌, ℕ, ◌*◌, ◌<◌, List, [], ◌∷◌, length, get_or, sym, refl, ap, ◌∙◌, subst, Option, Some, None}
 use Rattle.octets.specs.Bytes.{part, splice}
 use Rattle.table.specs.Lists.{position, replace_at}
 use Rattle.table.specs.Rows.{held, join, written}
@@ -17,10 +17,6 @@ use Rattle.model.specs.Custody.{own_of_tag, carried_of_tag}
 use Rattle.model.specs.Exchange.{no_carried, no_own, lowered, own_lowered, handed_over, handed_actions}
 use Rattle.model.specs.Areas.{store_device, bytes_after}
 use Rattle.handover.specs.Handing.{TakenOff, put_of, put_of_own, TakenOffCarried, TakenOffOwn, device_with, HandedAs}
-
--- counts of an exchange above 512 are 512
-pub offers_held : (len count : ℕ) {n : ℕ} → n ≡ held len 17 (min count 512) → n ≡ held len 17 (min 512 count)
-offers_held len count e = let m : min count 512 ≡ min 512 count = omega arith in e ∙ ap (held len 17) m
 
 -- the row that is read is the one at i, and so is the one that is written in its place
 pub takes_off : {A : Type 0} (c : Codec A) (none : A) (low : A → A) (act : A → Action) (count i : ℕ) (a ac : List ℕ) (m : ℕ) (x y : List ℕ)

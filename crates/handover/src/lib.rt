@@ -4,7 +4,7 @@
 ghost use Rattle.std.specs.Prelude.{◌≡◌, ◌+◌, ◌-◌, ◌*◌, ◌/◌, ◌<◌, ◌≤◌, min, ◌||◌, length, nat_lt};
 ghost use Rattle.table.specs.Lists.{position};
 ghost use Rattle.table.specs.Rows.{held};
-ghost use Rattle.table.specs.Codec.{table_of};
+ghost use Rattle.table.specs.Tables.{rows_in};
 ghost use Rattle.rows.specs.Rows.{own_width, carried_width, offer_width, offer_codec};
 ghost use Rattle.model.specs.Calls.{custody_answer};
 ghost use Rattle.model.specs.Exchange.{offer_of_tag};
@@ -15,6 +15,7 @@ use contacts::known;
 use courier::Custody;
 use courier_core::{ContactId, Refusal};
 use rows::{CARRIED_WIDTH, Carried, Device, Exchange, OFFER_WIDTH, OWN_WIDTH, Offer, Own, Row};
+use table::Table;
 
 // The exchange after the call, and what the call answers: a refusal, or how many actions are listed.
 #[derive(Drop)]
@@ -26,17 +27,17 @@ pub struct Outcome {
 // Offers of an exchange, at most: a count above that is that.
 const MAX_OFFERS: usize = 512;
 
-// Where the offer of a tag stands. (No heap: offers and rows lie in lent areas, with their number in the exchange and the device.)
-fn offer_of_tag(offers: &[u8], count: usize, tag: [u8; 16]) -> Option<usize>
-    ensures { result ≡ position (offer_of_tag tag) (table_of offer_codec (min 512 count) offers.now) }
+// Where the offer of a tag stands.
+fn offer_of_tag(offers: Table<OFFER_WIDTH>, tag: [u8; 16]) -> Option<usize>
+    ensures { result ≡ position (offer_of_tag tag) (rows_in offer_codec offers.entry) }
 {
-    let n = table::fit_to(offers.len(), OFFER_WIDTH, count, MAX_OFFERS);
-    table::find(offers, OFFER_WIDTH, n, 0, &tag)
+    offers.find(0, &tag)
 }
 
 // ---- copies taken off a row, stopping at 0
 
 // Takes n copies off the carried row at i, and lists its put; answers how many rows there are.
+// (A table that changes is lent by `&mut`, and its count goes back to the device: two values, as the trait's functions have them.)
 // (One function for own rows too would take a trait over `Row`, with a row of fewer copies and its action, and an `impl` for each: no plainer.)
 fn take_off(carried: &mut [u8], count: usize, i: usize, n: u8, actions: &mut [u8]) -> usize
     requires { (i < held (length carried.old) carried_width count) × (13 ≤ length actions.old) }
@@ -77,11 +78,19 @@ fn hand_over(
     requires { 13 ≤ length actions.old }
     ensures { HandedAs device.old tag n own.old carried.old actions.old device.new result own.new carried.new actions.new }
 {
-    if let Some(i) = fetch::carried_of_tag(carried, device.carried, tag) {
+    let carried_rows = Table {
+        area: carried,
+        count: device.carried,
+    };
+    if let Some(i) = fetch::carried_of_tag(carried_rows, tag) {
         device.carried = take_off(carried, device.carried, i, n, actions);
         return 1;
     }
-    if let Some(i) = tombs::own_of_tag(own, device.own, tag) {
+    let own_rows = Table {
+        area: own,
+        count: device.own,
+    };
+    if let Some(i) = tombs::own_of_tag(own_rows, tag) {
         device.own = take_off_own(own, device.own, i, n, actions);
         return 1;
     }
@@ -153,7 +162,11 @@ pub fn handed_over(
         let said = Err(Refusal::ShortArea);
         return Outcome { exchange, said };
     }
-    if !known(contacts, device.contacts, peer) {
+    let known_contacts = Table {
+        area: contacts,
+        count: device.contacts,
+    };
+    if !known(known_contacts, peer) {
         let said = Err(Refusal::UnknownContact);
         return Outcome { exchange, said };
     }
@@ -161,7 +174,11 @@ pub fn handed_over(
         let said = Err(Refusal::WrongExchange);
         return Outcome { exchange, said };
     }
-    match offer_of_tag(offers, exchange.offered, tag) {
+    let handed = Table {
+        area: offers,
+        count: MAX_OFFERS.min(exchange.offered),
+    };
+    match offer_of_tag(handed, tag) {
         Some(i) => settle(
             device, exchange, i, tag, code, own, carried, offers, actions,
         ),

@@ -1,15 +1,16 @@
 -- A hasher takes more bytes. Assumes nothing.
 use mathlib.Core.Path.{◌≡◌, refl, sym, ap, ap₂, ◌∙◌}
 use mathlib.Core.List.{List, [], ◌++◌, append_assoc}
+use Rattle.std.proofs.lemmas.Grind.{common_steps}
 use Prim.Native.Nat.{ℕ, ◌+◌, ◌-◌, ◌*◌, ◌/◌, ◌%◌, ◌≤◌, ◌<◌}
 use native.Mathlib.Omega.{arith}
-use lib.ListN.{length, take, drop, length-append, length-drop, take-append-drop, drop_of_length-le}
+use lib.ListN.{length, take, drop, length-append, length-drop, take-append-drop}
 use lib.Seq.{drop-drop, drop-append-le, length-take-le, take_all}
 use Rattle.octets.specs.Bytes.{splice}
 use Rattle.octets.proofs.Parts.{length_splice, take_written}
 use Rattle.sha_block.specs.Loop.{turns}
 use Rattle.sha384.specs.Padding.{padding, padded}
-use Rattle.sha384.specs.Sha384.{H0, next, hashed, digest, sha384}
+use Rattle.sha384.specs.Sha384.{H0, hashed, digest, sha384}
 use Rattle.sha384.proofs.Whole.{hashed_append}
 use Rattle.hasher.specs.Taken.{behind, Taken}
 use Rattle.hasher.specs.declared.Hasher.{Hasher}
@@ -18,29 +19,26 @@ use Rattle.hasher.specs.declared.Hasher.{Hasher}
 
 hashed_short : (h p : List ℕ) → length p < 128 → hashed h p ≡ h
 unfolding hashed turns
-hashed_short h p l = let e : length p / 128 ≡ 0 = omega arith in ap (λ (n : ℕ). turns (next p) n 0 h) e
+hashed_short h p l = let e : length p / 128 ≡ 0 = omega arith in rw e
 
 behind_short : (p : List ℕ) → length p < 128 → behind p ≡ p
 unfolding behind
-behind_short p l = let e : 128 * (length p / 128) ≡ 0 = omega arith in ap (λ (n : ℕ). drop n p) e
+behind_short p l = grind (arith, common_steps)
 
 behind_whole : (p : List ℕ) → length p % 128 ≡ 0 → behind p ≡ []
 unfolding behind
-behind_whole p l = drop_of_length-le p {i = 128 * (length p / 128)} (omega arith)
+behind_whole p l = grind (arith, common_steps)
 
 length_behind : (x : List ℕ) → length (behind x) ≡ length x % 128
 unfolding behind
-length_behind x = omega (arith, length-drop (128 * (length x / 128)) x)
+length_behind x = grind (arith, common_steps)
 
 behind_append : (x y : List ℕ) → behind (x ++ y) ≡ behind (behind x ++ y)
 unfolding behind
 behind_append x y =
     let n : ℕ = 128 * (length x / 128) in
     let z : List ℕ = drop n x ++ y in
-    let e : 128 * (length (x ++ y) / 128) ≡ n + 128 * (length z / 128) =
-    omega (arith, length-append x y, length-append (drop n x) y, length-drop n x) in
-    ap (λ (k : ℕ). drop k (x ++ y)) e ∙ sym (drop-drop (128 * (length z / 128)) n (x ++ y))
-    ∙ ap (drop (128 * (length z / 128))) (drop-append-le n x y (omega arith))
+    grind (arith, length-append x y, length-append (drop n x) y, length-drop n x, drop-drop (128 * (length z / 128)) n (x ++ y), drop-append-le n x y)
 
 -- ---- a hasher that has taken nothing
 
@@ -127,10 +125,7 @@ finished s h d v room ev eh ed x t =
 
 -- cut in two places
 pub cut_twice : (x m : List ℕ) (i j : ℕ) {f r w e : List ℕ} → f ≡ take i m → r ≡ drop i m → w ≡ take j r → e ≡ drop j r → ((x ++ f) ++ w) ++ e ≡ x ++ m
-cut_twice x m i j {f} {r} {w} {e} ef er ew ee =
-    let back : w ++ e ≡ r = ap₂ ◌++◌ ew ee ∙ take-append-drop j r in
-    let all : f ++ r ≡ m = ap₂ ◌++◌ ef er ∙ take-append-drop i m in
-    append_assoc (x ++ f) w e ∙ ap (λ (l : List ℕ). (x ++ f) ++ l) back ∙ append_assoc x f r ∙ ap (λ (l : List ℕ). x ++ l) all
+cut_twice x m i j {f} {r} {w} {e} ef er ew ee = grind (arith, take-append-drop j r, take-append-drop i m, append_assoc)
 
 -- three parts, one behind the other
 pub regroup : (p a b c : List ℕ) → p ++ a ++ b ++ c ≡ p ++ (a ++ b ++ c)

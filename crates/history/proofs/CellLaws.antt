@@ -17,7 +17,7 @@ use Rattle.model.proofs.Laws.{ciphertext_inside}
 
 free_at : (n i : ℕ) (named : List ℕ) (c : ℕ) → free_from n i named ≡ Some c → (c < i + n) × (any (λ (m : ℕ). eqb m c) named ≡ false)
 unfolding free_from
-free_at zero i named c e = let z : ◌≡◌ {A = ℕ} 0 1 = cc in absurd (omega arith)
+free_at zero i named c e = cc
 free_at (suc n) i named c e = go (any (λ (m : ℕ). eqb m i) named) refl e (free_at n (suc i) named c)
   where
     go : (b : Bool) → any (λ (m : ℕ). eqb m i) named ≡ b → cond b (free_from n (suc i) named) (Some i) ≡ Some c
@@ -85,7 +85,7 @@ free_none (suc n) i named e j h k = go (any (λ (m : ℕ). eqb m i) named) refl 
   where
     go : (b : Bool) → any (λ (m : ℕ). eqb m i) named ≡ b → cond b (free_from n (suc i) named) (Some i) ≡ None
         → (free_from n (suc i) named ≡ None → suc i ≤ j → any (λ (m : ℕ). eqb m j) named ≡ true) → any (λ (m : ℕ). eqb m j) named ≡ true
-    go false q e f = let z : ◌≡◌ {A = ℕ} 0 1 = cc in absurd (omega arith)
+    go false q e f = cc
     go true q e f = by (ltb i j) refl
       where
         by : (b : Bool) → ltb i j ≡ b → any (λ (m : ℕ). eqb m j) named ≡ true

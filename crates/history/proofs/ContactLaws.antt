@@ -1,7 +1,7 @@
 -- Laws of contacts: what a contact call does to who is known, when it was added, and whether it is verified.
 -- Assumes nothing.
 use Rattle.std.proofs.Common.{◌≡◌, ℕ, suc, ◌+◌, ◌≤◌, Bool, true, false, cond, not, ◌&&◌, ◌||◌, eqb, leb, List, [], ◌∷◌, ◌++◌, length, get_or, take, drop, sym, refl, ap, ◌∙◌, subst, arith, eqb-true, le-leb, Option, Some, None}
-use mathlib.Core.Bool.{false≢true}
+use mathlib.Core.Bool.{or-true, or_self_left, false≢true}
 use borrow.Author.Tests.{eqb-false}
 use Rattle.courier_core.specs.Core.{verification_byte}
 use Rattle.courier_core.specs.declared.ContactId.{ContactId}
@@ -34,6 +34,22 @@ position_shift p i (x ∷ xs) = go (p x) (position_shift p (suc i) xs)
     go true h = refl
     go false h = h
 
+-- what is made of the place, where the first is the one or a later one may be
+pub found_next : {B : Type 0} (b : Bool) (f : Option ℕ) (make : ℕ → B) (n : B)
+    → match_found (cond b (Some 0) (shift f)) make n ≡ cond b (make 0) (match_found f (λ i. make (suc i)) n)
+found_next true f make n = refl
+found_next false (Some i) make n = refl
+found_next false None make n = refl
+
+-- a row put in its place, or behind the last
+pub replaced_next : {A : Type 0} (p q : A) (qs : List A) (b : Bool) (f : Option ℕ)
+    → match_found (cond b (Some 0) (shift f)) (λ i. replace_at i p (q ∷ qs)) ((q ∷ qs) ++ (p ∷ []))
+    ≡ cond b (p ∷ qs) (q ∷ match_found f (λ i. replace_at i p qs) (qs ++ (p ∷ [])))
+unfolding replace_at
+replaced_next p q qs true f = refl
+replaced_next p q qs false (Some i) = let e : suc i + 1 ≡ suc (i + 1) = omega arith in ap (λ (n : ℕ). q ∷ (take i qs ++ (p ∷ drop n (q ∷ qs)))) e
+replaced_next p q qs false None = refl
+
 module _ (id : ContactId) (q : Contact) (qs : List Contact) where
   place_next : contact_place (q ∷ qs) id ≡ cond (is_contact id q) (Some 0) (shift (contact_place qs id))
   unfolding contact_place position_from
@@ -41,13 +57,8 @@ module _ (id : ContactId) (q : Contact) (qs : List Contact) where
 
   verified_next : is_verified (q ∷ qs) id ≡ cond (is_contact id q) (eqb q.verification 1) (is_verified qs id)
   unfolding is_verified
-  verified_next = rw place_next (go (is_contact id q) (contact_place qs id))
-    where
-      go : (b : Bool) (f : Option ℕ) → match_found (cond b (Some 0) (shift f)) (λ i. eqb (get_or (q ∷ qs) i no_contact).verification 1) false
-          ≡ cond b (eqb q.verification 1) (match_found f (λ i. eqb (get_or qs i no_contact).verification 1) false)
-      go true f = refl
-      go false (Some i) = refl
-      go false None = refl
+  verified_next =
+      rw place_next (found_next (is_contact id q) (contact_place qs id) (λ (i : ℕ). eqb (get_or (q ∷ qs) i no_contact).verification 1) false)
 
   added_next : added_before (q ∷ qs) id ≡ cond (is_contact id q) 0 (suc (added_before qs id))
   unfolding added_before
@@ -59,17 +70,8 @@ module _ (id : ContactId) (q : Contact) (qs : List Contact) where
       go false None = refl
 
   put_next : (v : Verification) → put_contact (q ∷ qs) id v ≡ cond (is_contact id q) (contact_of id v ∷ qs) (q ∷ put_contact qs id v)
-  unfolding put_contact replace_at
-  put_next v = rw place_next (go (is_contact id q) (contact_place qs id))
-    where
-      p : Contact
-      p = contact_of id v
-
-      go : (b : Bool) (f : Option ℕ) → match_found (cond b (Some 0) (shift f)) (λ i. replace_at i p (q ∷ qs)) ((q ∷ qs) ++ (p ∷ []))
-          ≡ cond b (p ∷ qs) (q ∷ match_found f (λ i. replace_at i p qs) (qs ++ (p ∷ [])))
-      go true f = refl
-      go false (Some i) = let e : suc i + 1 ≡ suc (i + 1) = omega arith in ap (λ (n : ℕ). q ∷ (take i qs ++ (p ∷ drop n (q ∷ qs)))) e
-      go false None = refl
+  unfolding put_contact
+  put_next v = rw place_next (replaced_next (contact_of id v) q qs (is_contact id q) (contact_place qs id))
 
 -- ---- after a contact call
 
@@ -89,23 +91,15 @@ module _ (id : ContactId) (v : Verification) (p : ContactId) where
       by true false c = refl
       by false b c = refl
 
-      twice : (a c : Bool) → (a || c) ≡ (a || (a || c))
-      twice true c = refl
-      twice false c = refl
-
       go : (b : Bool) → eqb q.id.0 id.0 ≡ b → any (is_contact p) (put_contact qs id v) ≡ (eqb id.0 p.0 || any (is_contact p) qs)
           → any (is_contact p) (cond b (contact_of id v ∷ qs) (q ∷ put_contact qs id v)) ≡ (eqb id.0 p.0 || (eqb q.id.0 p.0 || any (is_contact p) qs))
       go true e f =
           let z : q.id.0 ≡ id.0 = eqb-true q.id.0 id.0 e in
-          twice (eqb id.0 p.0) (any (is_contact p) qs) ∙ ap (λ (n : ℕ). eqb id.0 p.0 || (eqb n p.0 || any (is_contact p) qs)) (sym z)
+          sym (or_self_left (eqb id.0 p.0) (any (is_contact p) qs)) ∙ ap (λ (n : ℕ). eqb id.0 p.0 || (eqb n p.0 || any (is_contact p) qs)) (sym z)
       go false e f = ap (λ (b : Bool). eqb q.id.0 p.0 || b) f ∙ by (eqb q.id.0 p.0) (eqb id.0 p.0) (any (is_contact p) qs)
 
   pub known_put : (ps : List Contact) → known ps p ≡ true → known (put_contact ps id v) p ≡ true
-  known_put ps h = known_put_is ps ∙ ap (λ (b : Bool). eqb id.0 p.0 || b) h ∙ go (eqb id.0 p.0)
-    where
-      go : (b : Bool) → (b || true) ≡ true
-      go true = refl
-      go false = refl
+  known_put ps h = known_put_is ps ∙ ap (λ (b : Bool). eqb id.0 p.0 || b) h ∙ or-true (eqb id.0 p.0)
 
   pub added_put : (ps : List Contact) → known ps p ≡ true → added_before (put_contact ps id v) p ≡ added_before ps p
   unfolding known any

@@ -1,5 +1,6 @@
 -- Each call does one of the things that `Effects` lists.
 -- Assumes nothing.
+pub use Rattle.std.proofs.lemmas.Bool.{and_parts as and_true}
 use Rattle.std.proofs.Common.{◌≡◌, ℕ, ◌+◌, ◌-◌, ◌<◌, min, Bool, true, false, cond, not, ◌&&◌, eqb, ltb, leb, List, [], ◌∷◌, ◌++◌, length, get_or, sym, refl, ap, ◌∙◌, subst, arith, ltb-false, leb-false, leb-true, Option, Some, None}
 use mathlib.Core.Bool.{false≢true}
 use borrow.Author.Tests.{not-true, not-false}
@@ -43,15 +44,11 @@ use Rattle.model.specs.Saved.{Slotted, held_rows, writes, row_blob_of, save_held
 use Rattle.model.specs.Screen.{show_page}
 use Rattle.model.specs.Step.{tests, perform, step}
 use Rattle.model.proofs.KeepLaws.{Passed}
-use Rattle.model.proofs.KeepRows.{and_false, or_false, valid_length}
+use Rattle.model.proofs.KeepRows.{and_false, or_false, passed_all, valid_length}
 use Rattle.history.specs.Life.{Role, code_for, contact_says, opens_exchange, lists_prefixes, other, role, offered_copies, handed_by}
 use Rattle.history.proofs.Effects
 
 -- ---- small facts
-
-pub and_true : (a b : Bool) → (a && b) ≡ true → (a ≡ true) × (b ≡ true)
-and_true true b h = (refl, h)
-and_true false b h = absurd (false≢true h)
 
 found_at : (f : Option ℕ) → not (is_at f) ≡ false → f ≡ Some (unwrap_or 0 f)
 found_at (Some i) e = refl
@@ -60,16 +57,6 @@ found_at None e = absurd (false≢true (sym e))
 either_way : (b : Bool) → ◌≡◌ {A = ℕ} (cond b 0 0) 0
 either_way true = refl
 either_way false = refl
-
--- a code is Accepted where on, valid, no duplicate, and not full
-passed_all : (on valid dup much : Bool)
-    → cond (not on) custody.Off (cond (not valid) custody.Invalid (cond dup custody.Duplicate (cond much custody.Full custody.Accepted))) ≡ custody.Accepted
-    → (valid ≡ true) × (dup ≡ false) × (much ≡ false)
-passed_all true true false false e = (refl, refl, refl)
-passed_all false valid dup much e = let z : ◌≡◌ {A = ℕ} 0 1 = cc in absurd (omega arith)
-passed_all true false dup much e = let z : ◌≡◌ {A = ℕ} 0 1 = cc in absurd (omega arith)
-passed_all true true true much e = let z : ◌≡◌ {A = ℕ} 0 1 = cc in absurd (omega arith)
-passed_all true true false true e = let z : ◌≡◌ {A = ℕ} 0 1 = cc in absurd (omega arith)
 
 -- a change of none of the tables
 pub record Untouched (d : Change) : Type 0 where

@@ -1,12 +1,9 @@
 -- Demand 3, proved: of every list of calls from empty holdings, and of every list of calls on fresh areas.
 -- Assumes nothing.
-use Rattle.std.proofs.Common.{◌≡◌, ℕ, zero, suc, ◌^◌, ◌<◌, ◌≤◌, Bool, true, false, List, [], ◌∷◌, ◌++◌, map, length, get_or, sym, refl, ap, ◌∙◌, subst, arith}
-use lib.ListN.{get_or-map}
+use Rattle.std.proofs.Common.{◌≡◌, ℕ, zero, suc, ◌^◌, ◌<◌, ◌≤◌, Bool, true, false, List, [], ◌∷◌, ◌++◌, length, get_or, sym, refl, ap, ◌∙◌, subst, arith}
 use borrow.Author.Tests.{not-false}
 use Rattle.courier_core.specs.declared.ContactId.{ContactId}
 use Rattle.table.specs.Lists.{All, none, more, count_by, position_from}
-use Rattle.table.specs.Rows.{rows, held}
-use Rattle.table.specs.Codec.{table_of}
 use Rattle.table.proofs.ListLaws.{all_each, all_imp, all_map}
 use Rattle.courier.specs.declared.Header.{Header}
 use Rattle.rows.specs.declared.Contact.{Contact}
@@ -19,11 +16,11 @@ use Rattle.model.specs.Calls
 use Rattle.model.specs.Contacts.{known, contact_place, is_verified}
 use Rattle.model.specs.Cells.{cell_count}
 use Rattle.model.specs.Custody.{deposited, carried_total}
-use Rattle.model.specs.State.{State, OpenExchange, Session, nobody, no_session, with_session}
+use Rattle.model.specs.State.{State, OpenExchange, Session, nobody, no_session}
 use Rattle.model.specs.Step.{Post, Lent, step, state_for, answer_to, run}
-use Rattle.model.specs.Areas.{PostAreas, no_session_areas, view, view_session, view_post, areas_for, run_areas, Fresh}
+use Rattle.model.specs.Areas.{PostAreas, view_post, run_areas, Fresh}
 use Rattle.model.specs.Good.{Sized, GoodSession, ProperCall}
-use Rattle.model.proofs.RunLaws.{closed_session, fresh_post, run_fresh}
+use Rattle.model.proofs.RunLaws.{no_session_good, lent_view, closed_session, fresh_post, run_fresh}
 use Rattle.model.proofs.Laws.{carried_total_lem, length_ciphertext}
 use Rattle.model.proofs.KeepRows.{or_false}
 use Rattle.history.specs.Order.{empty, HeldOrder, OwnOrder}
@@ -35,7 +32,7 @@ use Rattle.history.proofs.LimitLaws.{Limits}
 use Rattle.history.proofs.KeptLaws.{Kept, kept_for, kept_run, verified_run, never_verified}
 use Rattle.history.proofs.LifeLaws.{size_run, life_of, origin_of, lives_later, swept_at}
 use Rattle.history.proofs.OfferLaws.{OffersDiffer}
-use Rattle.history.proofs.OfferSteps.{Sound, none_good, offered_at, offers_run}
+use Rattle.history.proofs.OfferSteps.{Sound, offered_at, offers_run}
 use Rattle.history.proofs.ShareLaws.{owed_at}
 
 -- ---- at the start
@@ -99,7 +96,7 @@ sound_empty p e c = record {
     bad_tags_fit = omega (arith, ap (λ (xs : List BadTag). length xs) e.bad_tags);
     next_slot = omega (arith, e.next_slot);
     copies = c;
-    session = none_good;
+    session = no_session_good;
   };
   sessions = all_imp session_empty p.sessions e.sessions;
 }
@@ -185,17 +182,6 @@ custody_history p start copies ls proper =
 
 -- ---- demand 3 on areas
 
-no_session_lem : view_session no_session_areas ≡ no_session
-unfolding view_session table_of held rows
-no_session_lem = refl
-
--- the state that a call gets is what it is lent, seen as rows
-lent_seen : (p : PostAreas) (l : Lent) → view (areas_for p l) ≡ state_for (view_post p) l
-unfolding areas_for state_for view_post view
-lent_seen p l =
-    ap (with_session (view p.areas))
-    (sym (get_or-map view_session p.sessions l.session no_session_areas) ∙ ap (get_or (map view_session p.sessions) l.session) no_session_lem)
-
 pub fresh_empty : (p : PostAreas) → Empty (fresh_post p)
 fresh_empty p = record {
   contacts = refl;
@@ -218,7 +204,7 @@ module _ (p : PostAreas) (fresh : Fresh p) (sized : Sized p.areas) (copies : p.a
   custody_history_areas ls h = record {
     seen = seen;
     answered = λ before l rest e.
-        ap (λ (s : State). step s l.call) (lent_seen (run_areas p before) l ∙ ap (λ (q : Post). state_for q l) (seen before (l ∷ rest) e));
+        ap (λ (s : State). step s l.call) (lent_view (run_areas p before) l ∙ ap (λ (q : Post). state_for q l) (seen before (l ∷ rest) e));
     history = custody_history (view_post p) (subst Empty (sym fresh_seen) (fresh_empty p)) (subst (λ (q : Post). q.state.courier.copies < 2 ^ 8) (sym fresh_seen) copies) ls h;
   }
     where

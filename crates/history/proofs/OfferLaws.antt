@@ -1,6 +1,6 @@
 -- Laws of offers: what a list of them says of a tag after each change that an exchange knows.
 -- Assumes nothing.
-use Rattle.std.proofs.Common.{◌≡◌, ℕ, suc, ◌+◌, Bool, true, false, cond, ◌&&◌, ◌||◌, eqb, List, [], ◌∷◌, ◌++◌, map, get_or, take, drop, sym, refl, ap, ◌∙◌, ap₂, arith, take-append-drop, length-take, Option, Some, None}
+use Rattle.std.proofs.Common.{◌≡◌, ℕ, ◌+◌, Bool, true, false, cond, ◌&&◌, ◌||◌, eqb, List, [], ◌∷◌, ◌++◌, map, get_or, take, drop, sym, refl, ap, ◌∙◌, ap₂, arith, take-append-drop, length-take, Option, Some, None}
 use mathlib.Core.Bool.{false≢true}
 use mathlib.Core.List.{flat_map}
 use Rattle.octets.specs.Bytes.{same_bytes}
@@ -27,20 +27,18 @@ use Rattle.model.specs.Window.{no_reachable, lookup}
 use Rattle.model.specs.Exchange.{Envelope, own_envelope_of, carried_envelope_of, not_for, envelopes, reply_for, is_offered, halved, offers, offer_of_tag, no_offer, insert_offer, insert_offers, not_fetched, fetch_for, has_prefix, tomb_for}
 use Rattle.model.specs.Good.{Good}
 use Rattle.model.proofs.HashLaws.{sha384_run}
+use Rattle.model.proofs.CornerLaws.{offer_for}
 use Rattle.history.specs.Order.{Sorted}
 use Rattle.history.specs.Life.{offered_copies}
 use Rattle.history.specs.Offers.{last_sent}
 use Rattle.history.proofs.SortedLaws.{became_replaced, became_cut, became_sorted, sorted_push, sorted_after}
-use Rattle.history.proofs.ContactLaws.{shift, position_shift}
+use Rattle.history.proofs.ContactLaws.{position_shift, found_next, replaced_next}
 use Rattle.history.proofs.RowLaws.{differs}
 use Rattle.history.proofs.LimitLaws.{unlike}
 
 -- an exchange has one offer a tag
 abbrev pub OffersDiffer : List Offer → Type 0
 OffersDiffer os = Sorted (λ (a b : Offer). a.tag ≡ b.tag → ⊥) os
-
-abbrev offer_for : Envelope → Offer
-offer_for e = record { tag = e.head.tag; copies = e.head.copies }
 
 module _ (tag : List ℕ) where
   -- ---- one offer at a time
@@ -49,13 +47,7 @@ module _ (tag : List ℕ) where
   unfolding position_from
   offered_next o os =
       ap (λ (f : Option ℕ). match_found (cond (offer_of_tag tag o) (Some 0) f) (λ i. (get_or (o ∷ os) i no_offer).copies) 0) (position_shift (offer_of_tag tag) 0 os)
-      ∙ go (offer_of_tag tag o) (position (offer_of_tag tag) os)
-    where
-      go : (b : Bool) (f : Option ℕ) → match_found (cond b (Some 0) (shift f)) (λ i. (get_or (o ∷ os) i no_offer).copies) 0
-          ≡ cond b o.copies (match_found f (λ i. (get_or os i no_offer).copies) 0)
-      go true f = refl
-      go false (Some i) = refl
-      go false None = refl
+      ∙ found_next (offer_of_tag tag o) (position (offer_of_tag tag) os) (λ (i : ℕ). (get_or (o ∷ os) i no_offer).copies) 0
 
   pub offered_none : (os : List Offer) → any (offer_of_tag tag) os ≡ false → offered_copies os tag ≡ 0
   offered_none os e = go (position (offer_of_tag tag) os) refl
@@ -118,16 +110,11 @@ module _ (tag : List ℕ) where
 
   insert_next : (e : Envelope) (o : Offer) (os : List Offer)
       → insert_offer e (o ∷ os) ≡ cond (offer_of_tag e.head.tag o) (offer_for e ∷ os) (o ∷ insert_offer e os)
-  unfolding insert_offer position_from replace_at
+  unfolding insert_offer position_from
   insert_next e o os =
       ap (λ (f : Option ℕ). match_found (cond (offer_of_tag e.head.tag o) (Some 0) f) (λ i. replace_at i (offer_for e) (o ∷ os)) ((o ∷ os) ++ (offer_for e ∷ [])))
-      (position_shift (offer_of_tag e.head.tag) 0 os) ∙ go (offer_of_tag e.head.tag o) (position (offer_of_tag e.head.tag) os)
-    where
-      go : (b : Bool) (f : Option ℕ) → match_found (cond b (Some 0) (shift f)) (λ i. replace_at i (offer_for e) (o ∷ os)) ((o ∷ os) ++ (offer_for e ∷ []))
-          ≡ cond b (offer_for e ∷ os) (o ∷ match_found f (λ i. replace_at i (offer_for e) os) (os ++ (offer_for e ∷ [])))
-      go true f = refl
-      go false (Some i) = let q : suc i + 1 ≡ suc (i + 1) = omega arith in ap (λ (n : ℕ). o ∷ (take i os ++ (offer_for e ∷ drop n (o ∷ os)))) q
-      go false None = refl
+      (position_shift (offer_of_tag e.head.tag) 0 os)
+      ∙ replaced_next (offer_for e) o os (offer_of_tag e.head.tag o) (position (offer_of_tag e.head.tag) os)
 
   insert_first : (e : Envelope) → insert_offer e [] ≡ offer_for e ∷ []
   unfolding insert_offer position_from

@@ -8,7 +8,7 @@ use Rattle.octets.proofs.Compare.{same_eq}
 use Rattle.courier_core.specs.Core.{first_of}
 use Rattle.courier_core.specs.declared.ContactId.{ContactId}
 use Rattle.courier_core.specs.declared.Refusal.{Refusal}
-use Rattle.table.specs.Lists.{All, none, more, any, position, position_from, is_at}
+use Rattle.table.specs.Lists.{All, more, any, position, position_from, is_at}
 use Rattle.table.specs.Rows.{ragged, held}
 use Rattle.table.specs.Codec.{table_of}
 use Rattle.table.proofs.TableLaws.{length_table}
@@ -36,6 +36,7 @@ use Rattle.model.specs.Good.{Good, GoodSession, ProperCall}
 use Rattle.model.proofs.KeepLaws.{Passed}
 use Rattle.model.proofs.KeepRows.{or_false}
 use Rattle.model.proofs.KeepCalls.{keeps}
+use Rattle.model.proofs.RunLaws.{no_session_good, good_with, all_get_d, all_set}
 use Rattle.history.specs.Order.{empty}
 use Rattle.history.specs.Life.{Role, code_for, contact_says, opens_exchange, lists_prefixes, other, role, offered_copies}
 use Rattle.history.specs.Offers.{last_sent, offered_by, offered_after}
@@ -211,41 +212,10 @@ pub record Sound (p : Post) : Type 0 where
   pub good : Good (with_session p.state no_session)
   pub sessions : All (λ (e : Session). GoodSession e × OffersDiffer e.exchange.offered) p.sessions
 
-good_with : (s : State) (d e : Session) → Good (with_session s d) → GoodSession e → Good (with_session s e)
-good_with s d e g h = record {
-  contacts = g.contacts;
-  own = g.own;
-  carried = g.carried;
-  tombstones = g.tombstones;
-  bad_tags = g.bad_tags;
-  contacts_few = g.contacts_few;
-  own_few = g.own_few;
-  carried_few = g.carried_few;
-  tombstones_fit = g.tombstones_fit;
-  bad_tags_fit = g.bad_tags_fit;
-  next_slot = g.next_slot;
-  copies = g.copies;
-  session = h;
-}
-
-pub none_good : GoodSession no_session
-none_good = record { listed = none; offered = none; listed_few = omega arith; offered_few = omega arith; listed_fit = omega arith; offered_fit = omega arith }
-
-module _ {A : Type 0} where
-  all_get_d : {P : A → Type 0} (xs : List A) (i : ℕ) (d : A) → All P xs → P d → P (get_or xs i d)
-  all_get_d [] i d a q = q
-  all_get_d (x ∷ xs) zero d (more h a) q = h
-  all_get_d (x ∷ xs) (suc i) d (more h a) q = all_get_d xs i d a q
-
-  all_set : {P : A → Type 0} (xs : List A) (i : ℕ) (x : A) → All P xs → P x → All P (set xs i x)
-  all_set [] i x a q = none
-  all_set (y ∷ ys) zero x (more h a) q = more q a
-  all_set (y ∷ ys) (suc i) x (more h a) q = more h (all_set ys i x a q)
-
-  set_past : (xs : List A) (i : ℕ) (x : A) → length xs ≤ i → set xs i x ≡ xs
-  set_past [] i x h = refl
-  set_past (y ∷ ys) zero x h = absurd (omega arith)
-  set_past (y ∷ ys) (suc i) x h = ap (λ (l : List A). y ∷ l) (set_past ys i x (omega arith))
+set_past : {A : Type 0} (xs : List A) (i : ℕ) (x : A) → length xs ≤ i → set xs i x ≡ xs
+set_past [] i x h = refl
+set_past (y ∷ ys) zero x h = absurd (omega arith)
+set_past (y ∷ ys) (suc i) x h = ap (λ (l : List _). y ∷ l) (set_past ys i x (omega arith))
 
 -- what the exchange of a session has offered
 abbrev pub offered_at : Post → ℕ → List Offer
@@ -260,11 +230,11 @@ none_offered e g z = go e.exchange.offered (omega (arith, g.offered_fit, z))
 
 module _ (p : Post) (l : Lent) (k : Sound p) (h : ProperCall l.call) where
   lent_sound : GoodSession (get_or p.sessions l.session no_session) × OffersDiffer (get_or p.sessions l.session no_session).exchange.offered
-  lent_sound = all_get_d p.sessions l.session no_session k.sessions (none_good, empty)
+  lent_sound = all_get_d p.sessions l.session no_session k.sessions (no_session_good, empty)
 
   lent_good : Good (state_for p l)
   unfolding state_for
-  lent_good = good_with p.state no_session (get_or p.sessions l.session no_session) k.good lent_sound.0
+  lent_good = good_with (with_session p.state no_session) (get_or p.sessions l.session no_session) k.good lent_sound.0
 
   lent_differ : OffersDiffer (state_for p l).session.exchange.offered
   unfolding state_for
@@ -281,7 +251,7 @@ module _ (p : Post) (l : Lent) (k : Sound p) (h : ProperCall l.call) where
   pub sound_after : Sound (after p l)
   unfolding after apply
   sound_after = record {
-    good = good_with (after p l).state (after p l).state.session no_session (good_with (after p l).state (after p l).state.session (after p l).state.session after_good after_good.session) none_good;
+    good = good_with (after p l).state no_session after_good no_session_good;
     sessions = all_set p.sessions l.session (after p l).state.session k.sessions (after_good.session, after_follows.differ);
   }
 

@@ -1,7 +1,8 @@
 -- What a call makes of the carried rows: some leave, the others lose the copies that are handed over, and at most one is given.
 -- Assumes nothing.
-use Rattle.std.proofs.Common.{◌≡◌, ℕ, ◌+◌, ◌-◌, ◌*◌, ◌≤◌, Bool, true, false, not, List, [], ◌∷◌, ◌++◌, length, get_or, take, drop, sym, refl, ap, ◌∙◌, append-nil, arith, leb-true, Some}
+use Rattle.std.proofs.Common.{◌≡◌, ℕ, ◌+◌, ◌-◌, ◌*◌, ◌≤◌, true, false, not, List, [], ◌∷◌, ◌++◌, length, get_or, take, drop, sym, refl, ap, ◌∙◌, append-nil, arith, leb-true, Some}
 use borrow.Author.Tests.{not-false}
+use Rattle.std.proofs.lemmas.Bool.{false_from_ne_true}
 use Rattle.octets.specs.Bytes.{splice, same_bytes}
 use Rattle.octets.proofs.Compare.{same_eq}
 use Rattle.courier_core.specs.declared.ContactId.{ContactId}
@@ -62,11 +63,7 @@ later_trans x y z a b = record {
 }
 
 pub differs : (a b : List ℕ) → (a ≡ b → ⊥) → same_bytes a b ≡ false
-differs a b h = go (same_bytes a b) refl
-  where
-    go : (t : Bool) → same_bytes a b ≡ t → same_bytes a b ≡ false
-    go true e = absurd (h (same_eq a b e))
-    go false e = e
+differs a b h = false_from_ne_true (same_bytes a b) (λ e. h (same_eq a b e))
 
 abbrev pub TagsDiffer : List Carried → Type 0
 TagsDiffer rs = Sorted (λ (a b : Carried). a.tag ≡ b.tag → ⊥) rs

@@ -37,39 +37,15 @@ use Rattle.model.specs.Areas.{PostAreas, SessionAreas, no_session_areas, view, v
 use Rattle.model.specs.Good.{Sized, ProperCall}
 use Rattle.model.specs.Step.{Post, Lent, tests, perform, step, state_for, answer_to, after, run}
 use Rattle.model.proofs.RunLaws.{fresh_post, run_fresh}
+use Rattle.model.proofs.Examples.{session_areas, areas_of, id, of_byte, lend, terminator, code, opens}
 use Rattle.history.specs.History.{CustodyOnAreas}
 use Rattle.history.proofs.OfferLaws.{commitment_run}
 use Rattle.history.proofs.HistoryLaws.{custody_history_areas}
 
-session_areas : SessionAreas
-session_areas = record { exchange = closed_exchange; prefixes = replicate 4096 7; offers = replicate 8704 7 }
-
--- fresh areas with n carried cells and R = 4, any bytes in them
+-- fresh areas with n carried cells
 areas : ℕ → PostAreas
-unfolding session_areas
-areas cells = record {
-  areas = record {
-    device = fresh_device;
-    contacts = replicate 2304 7;
-    own = replicate 13824 7;
-    carried = replicate 14592 7;
-    tombstones = replicate 176 7;
-    bad_tags = replicate 96 7;
-    own_cells = [];
-    carried_cells = replicate (cells * 2064) 7;
-    session = no_session_areas;
-  };
-  sessions = session_areas ∷ session_areas ∷ session_areas ∷ [];
-}
-
-id : ℕ → ContactId
-id n = record { 0 = n }
-
-unfoldable pub of_byte : ℕ → List ℕ
-of_byte b = replicate 16 b
-
-lend : ℕ → Call → Lent
-lend i c = record { session = i; call = c }
+unfolding session_areas areas_of
+areas cells = areas_of 0 (cells * 2064) (session_areas ∷ session_areas ∷ session_areas ∷ [])
 
 -- an envelope with the commitment c
 committing : List ℕ → ℕ → ℕ → Lent
@@ -92,18 +68,9 @@ open_for : ℕ → ℕ → List Lent
 unfolding lend id contact
 open_for i peer = contact peer verification.Unverified ∷ lend i (Calls.open_exchange (id peer)) ∷ []
 
--- the empty inventory
-terminator : ℕ → ℕ → Lent
-unfolding lend id
-terminator i peer = lend i (Calls.inventory_received 61440 [] (id peer) [])
-
-code : ℕ → ℕ → Custody → Lent
-unfolding lend id of_byte
-code i peer said = lend i (Calls.custody_answer 6708 (id peer) (of_byte 17) said)
-
 -- the areas after a list of calls; who unfolds it unfolds all that a run computes with
 unfoldable pub ran : ℕ → List Lent → PostAreas
-unfolding areas session_areas id of_byte lend committing send sends contact open_for terminator code run_areas after_areas areas_for view view_session store store_device store_session apply step step_of tests perform Contacts.contact_tests Contacts.set_contact Contacts.known Contacts.contact_place Contacts.is_verified Contacts.put_contact Contacts.setting_tests Contacts.set_config Contacts.open_exchange_tests Contacts.open_exchanged Contacts.opened_for Contacts.now_min Contacts.lifetime_end in_range lists.any lists.position_from lists.count_by lists.filter lists.replace_at lists.remove_at lists.insert_at table.ragged table.rows table.held table.join table.written codec.table_of codec.with_table num encoded.carried_of encoded.carried_bytes encoded.contact_of encoded.contact_bytes encoded.offer_of encoded.offer_bytes Window.window_rows Window.prefix_rows Window.wrong_window Window.keys_rise Window.strangers Window.lookup Window.is_bad same_bytes splice part courier.header_bytes courier.header_of courier.envelope_valid courier.carried_length be model.custody_of model.duplicate model.full model.deposited model.carried_total model.new_carried model.carry model.accepts model.envelope_tests model.answer_custody model.receive_envelope Cells.cell_length Cells.cell_count Cells.free_from Cells.free_cell Cells.cells_used Cells.new_cell Exchange.envelopes Exchange.own_envelope_of Exchange.carried_envelope_of Exchange.receive_inventory_tests Exchange.receive_inventory Exchange.too_many Exchange.answer_inventory Exchange.offers Exchange.is_offered Exchange.in_question Exchange.halved Exchange.insert_offer Exchange.insert_offers Exchange.custody_tests Exchange.receive_custody Exchange.settle Exchange.handed_actions Exchange.handed_over Exchange.lowered
+unfolding areas areas_of session_areas id of_byte lend committing send sends contact open_for terminator code run_areas after_areas areas_for view view_session store store_device store_session apply step step_of tests perform Contacts.contact_tests Contacts.set_contact Contacts.known Contacts.contact_place Contacts.is_verified Contacts.put_contact Contacts.setting_tests Contacts.set_config Contacts.open_exchange_tests Contacts.open_exchanged Contacts.opened_for Contacts.now_min Contacts.lifetime_end in_range lists.any lists.position_from lists.count_by lists.filter lists.replace_at lists.remove_at lists.insert_at table.ragged table.rows table.held table.join table.written codec.table_of codec.with_table num encoded.carried_of encoded.carried_bytes encoded.contact_of encoded.contact_bytes encoded.offer_of encoded.offer_bytes Window.window_rows Window.prefix_rows Window.wrong_window Window.keys_rise Window.strangers Window.lookup Window.is_bad same_bytes splice part courier.header_bytes courier.header_of courier.envelope_valid courier.carried_length be model.custody_of model.duplicate model.full model.deposited model.carried_total model.new_carried model.carry model.accepts model.envelope_tests model.answer_custody model.receive_envelope Cells.cell_length Cells.cell_count Cells.free_from Cells.free_cell Cells.cells_used Cells.new_cell Exchange.envelopes Exchange.own_envelope_of Exchange.carried_envelope_of Exchange.receive_inventory_tests Exchange.receive_inventory Exchange.too_many Exchange.answer_inventory Exchange.offers Exchange.is_offered Exchange.in_question Exchange.halved Exchange.insert_offer Exchange.insert_offers Exchange.custody_tests Exchange.receive_custody Exchange.settle Exchange.handed_actions Exchange.handed_over Exchange.lowered
 ran cells ls = run_areas (areas cells) ls
 
 -- what a call answers there
@@ -159,7 +126,7 @@ handed_on_lem = (refl, refl, refl, refl, refl)
 -- ---- demand 3 holds of that run on areas, with any number of cells
 
 fresh : (n : ℕ) → Fresh (areas n)
-unfolding areas session_areas
+unfolding areas areas_of session_areas
 fresh n = record {
   contacts = refl;
   own = refl;
@@ -217,10 +184,6 @@ unfolding areas
 offering_history n c r = custody_history_areas (areas n) (fresh n) (sized n) (omega arith) (offering c) (proper c r)
 
 -- ---- the same row, handed on by all three, is turned by a tomb whose secret hashes to its commitment
-
-opens : (secret : List ℕ) → tombstone_matches (commitment_of secret) secret ≡ true
-unfolding tombstone_matches
-opens secret = same_refl (commitment_of secret)
 
 tomb : List ℕ → Lent
 unfolding lend

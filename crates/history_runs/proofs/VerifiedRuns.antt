@@ -8,7 +8,8 @@ use Rattle.rows.specs.declared.Action.{Action}
 use Rattle.model.specs.Calls.{Result, put_courier, custody_reply}
 use Rattle.model.specs.Step.{Lent, step}
 use Rattle.model.specs.Areas.{PostAreas, view, areas_for, after_areas}
-use Rattle.history_runs.proofs.Runs.{of_byte, send, sends, contact, ran}
+use Rattle.model.proofs.Examples.{of_byte}
+use Rattle.history_runs.proofs.Runs.{send, sends, contact, ran}
 
 -- what calls answer, one after the other
 answers : PostAreas → List Lent → List (List Reply × List Action)

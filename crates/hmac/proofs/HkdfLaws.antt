@@ -4,27 +4,16 @@ use mathlib.Core.List.{List, [], ◌∷◌, ◌++◌}
 use Prim.Native.Nat.{ℕ, suc, ◌+◌, ◌-◌, ◌*◌, ◌/◌, ◌≤◌, ◌<◌, min}
 use native.Mathlib.Numerals.{add-one}
 use native.Mathlib.Omega.{arith}
-use lib.ListN.{length, take, replicate, length-append, length-take}
+use lib.ListN.{length, take, length-append, length-take}
 use mathlib.Core.Logic.{◌⊎◌, inl, inr, ⊎_elim}
 use lib.Seq.{take_all, take-nil, take-append-add}
-use lib.Dec.{eqb, leb}
+use lib.Dec.{leb}
 use mathlib.Core.Bool.{Bool, true, false}
-use borrow.Author.Tests.{leb-true, leb-false, le-leb, lt-leb}
+use borrow.Author.Tests.{leb-true, leb-false}
 use Rattle.octets.specs.Bytes.{splice}
 use Rattle.octets.proofs.Parts.{length_splice, take_written}
 use Rattle.hmac.specs.Hmac.{K0, keyed, hmac}
-use Rattle.hmac.specs.Hkdf.{extract, T, up_to, expand, hkdf, longest, derived, filled}
-use Rattle.std.specs.Prelude.{Ok, Err}
-
--- ---- 2.2
-
-pub no_salt : (salt ikm : List ℕ) → eqb (length salt) 0 ≡ true → hmac (replicate 48 0) ikm ≡ extract salt ikm
-unfolding extract
-no_salt salt ikm e = rw e
-
-pub some_salt : (salt ikm : List ℕ) → eqb (length salt) 0 ≡ false → hmac salt ikm ≡ extract salt ikm
-unfolding extract
-some_salt salt ikm e = rw e
+use Rattle.hmac.specs.Hkdf.{T, up_to, expand}
 
 -- ---- 2.3
 
@@ -89,23 +78,9 @@ module _ (prk info out t : List ℕ) (L have i : ℕ) (s : Expanding prk info ou
       sym (take_all (48 * i) out (omega (arith, s.size))) ∙ s.done ∙ ap (λ (k : ℕ). take L (up_to prk info k)) (sym n)
 
 -- the part of a block that there is room for
-pub take_least : (r : List ℕ) (x n : ℕ) → length r ≡ 48 → n ≡ min 48 x → take n r ≡ take x r
+pub take_least : (r : List ℕ) (x n : ℕ) → length r ≡ 48 → n ≡ min x 48 → take n r ≡ take x r
 take_least r x n l e = ap (λ (k : ℕ). take k r) e ∙ go (leb 48 x) refl
   where
-    go : (b : Bool) → leb 48 x ≡ b → take (min 48 x) r ≡ take x r
-    go true h = let g = leb-true 48 x h in take_all (min 48 x) r (omega arith) ∙ sym (take_all x r (omega arith))
-    go false h = let g = leb-false 48 x h in let m : min 48 x ≡ x = omega arith in ap (λ (k : ℕ). take k r) m
-
--- ---- the answer
-
-module _ (ikm salt info out : List ℕ) where
-  pub too_long : longest < length out → (Err (record {}) ≡ derived (length out)) × (out ≡ filled ikm salt info out)
-  unfolding derived filled
-  too_long h = let e = lt-leb (length out) longest h in (rw e, rw e)
-
-  pub fits : (prk out' : List ℕ) → length out ≤ longest → prk ≡ extract salt ikm → out' ≡ expand prk info (length out)
-      → (Ok tt ≡ derived (length out)) × (out' ≡ filled ikm salt info out)
-  unfolding derived filled hkdf
-  fits prk out' h ep eo =
-      let e = le-leb (length out) longest h in
-      (rw e, rw e (eo ∙ ap (λ (p : List ℕ). expand p info (length out)) ep))
+    go : (b : Bool) → leb 48 x ≡ b → take (min x 48) r ≡ take x r
+    go true h = let g = leb-true 48 x h in take_all (min x 48) r (omega arith) ∙ sym (take_all x r (omega arith))
+    go false h = let g = leb-false 48 x h in let m : min x 48 ≡ x = omega arith in rw m

@@ -1,8 +1,7 @@
 // HMAC (FIPS 198-1) and HKDF (RFC 5869) with SHA-384.
 #![tactic(auto)]
 
-ghost use Rattle.std.specs.Prelude.{◌≡◌, List, [], ◌∷◌, ◌++◌, ℕ, ◌+◌, ◌-◌, ◌*◌, ◌≤◌, ◌<◌, length, take};
-ghost use Rattle.octets.specs.Bytes.{splice};
+ghost use Rattle.std.specs.Prelude.{◌≡◌, List, [], ◌∷◌, ◌++◌, ℕ, ◌+◌, ◌*◌, ◌≤◌, ◌<◌, length};
 ghost use Rattle.hasher.specs.Taken.{Taken};
 ghost use Rattle.hasher.specs.Parts.{joined};
 ghost use Rattle.hmac.specs.Hmac.{K0, padded, ipad, keyed, hmac as hmac_of};
@@ -26,6 +25,7 @@ fn block_key(key: &[u8]) -> [u8; 128]
 }
 
 // Steps 4 and 7: the block xor a pad.
+#[tactic(auto, using(crate::proofs::HmacLaws::map_all), unfolding(crate::specs::Hmac::padded))]
 fn pad(k0: [u8; 128], byte: u8) -> [u8; 128]
     ensures { result ≡ padded k0 byte }
 {
@@ -46,6 +46,7 @@ fn begin(k0: [u8; 128]) -> Hasher
 }
 
 // Steps 6 to 9, with the hasher that has taken the text.
+#[tactic(auto, unfolding(crate::specs::Hmac::keyed))]
 fn end(k0: [u8; 128], s: Hasher) -> [u8; 48]
     ensures { (text : List ℕ) → Taken s (padded k0 ipad ++ text) → result ≡ keyed k0 text }
 {
@@ -75,6 +76,7 @@ pub fn hmac(key: &[u8], text: &[u8]) -> [u8; 48]
 }
 
 // RFC 5869, 2.2.
+#[tactic(auto, unfolding(crate::specs::Hkdf::extract))]
 pub fn extract(salt: &[u8], ikm: &[u8]) -> [u8; 48]
     ensures { result ≡ extract_of salt.now ikm.now }
 {
@@ -93,25 +95,8 @@ fn next_block(k0: [u8; 128], previous: &[u8], info: Parts<'_>, i: u8) -> [u8; 48
     end(k0, s)
 }
 
-// T(i + 1), from T(i); it is written at 48 i of out, as far as there is room.
-fn expand_more(
-    k0: [u8; 128],
-    previous: &[u8],
-    info: Parts<'_>,
-    out: &mut [u8],
-    i: usize,
-) -> [u8; 48]
-    requires i_bound { (length previous.now ≤ 48) × (i < 255) × (48 * i < length out.old) }
-    ensures value { result ≡ keyed k0 (previous.now ++ joined info.entry ++ ((i + 1) ∷ [])) }
-    ensures out_after { out.new ≡ splice out.old (48 * i) (take (length out.old - 48 * i) result) }
-{
-    let next = next_block(k0, previous, info, (i + 1) as u8);
-    let n = (out.len() - 48 * i).min(48);
-    octets::copy_in(out, 48 * i, &next[..n]);
-    next
-}
-
-// 2.3. T(i) is the first `have` bytes of t: T(0) has none.
+// 2.3: T(1) to T(N), one behind the other, as far as there is room. T(i) is the first `have` bytes of t: T(0) has none.
+// Not `chunks_mut`: after it, a proof knows only the length of `out`.
 pub fn expand(prk: [u8; 48], info: Parts<'_>, out: &mut [u8])
     requires { length out.old ≤ longest }
     ensures { out.new ≡ expand_of prk (joined info.entry) (length out.old) }
@@ -120,7 +105,9 @@ pub fn expand(prk: [u8; 48], info: Parts<'_>, out: &mut [u8])
     let mut t = [0; 48];
     let mut have = 0;
     for i in 0..out.len().div_ceil(48) {
-        let next = expand_more(k0, &t[..have], info, out, i);
+        let next = next_block(k0, &t[..have], info, (i + 1) as u8);
+        let room = (out.len() - 48 * i).min(48);
+        octets::copy_in(out, 48 * i, &next[..room]);
         t = next;
         have = 48;
     }
@@ -134,6 +121,7 @@ pub const LONGEST: usize = 255 * 48;
 pub struct TooLong;
 
 // HKDF: fills out, or leaves it as it is where it is longer than the standard allows.
+#[tactic(auto, unfolding(crate::specs::Hkdf::derived, crate::specs::Hkdf::filled, crate::specs::Hkdf::hkdf))]
 pub fn hkdf(ikm: &[u8], salt: &[u8], info: &[u8], out: &mut [u8]) -> Result<(), TooLong>
     ensures value { result ≡ derived (length out.old) }
     ensures out_after { out.new ≡ filled ikm.now salt.now info.now out.old }

@@ -6,7 +6,7 @@ ghost use Rattle.fetch.specs.Fetch.{fetched_said};
 ghost use Rattle.host_answers.specs.HostAnswers.{answered, refusing, done_answer, acted_answer, wrote_answer, envelope_answer, fetched_answer, own_answer, own_row_area, inventory_answer, tomb_answer, blob_answer, carried_row, tombstone_row, no_row, row_of};
 
 use courier_core::Refusal;
-use rows::Own;
+use rows::{Own, Row as _};
 use state::{Carried, Held, Tombstone};
 
 // What a call says: a refusal's number from 1 to 13, or one of these.
@@ -22,7 +22,7 @@ pub const NO_ENVELOPE: u8 = 131;
 
 // The answer of every call: what it says, how many rows lie in front of the reply and action areas, and how many rows or bytes in front
 // of another answer area, how long a fetched ciphertext is, or for how many rows an inventory's end searched the tombstones. Contact,
-// generation and index are those of an envelope that is ours.
+// generation and index are those of an envelope that is ours. `said` is a number, since C reads the struct.
 #[repr(C)]
 #[derive(Drop)]
 pub struct Answer {
@@ -35,8 +35,8 @@ pub struct Answer {
     pub said: u8,
 }
 
-// A held row that was read: kind 0 none, 1 carried, 2 a tombstone. The second run of 16 bytes is a commitment or a secret. A carried
-// row's ciphertext is the blob from byte 46 on.
+// A held row that was read: kind 0 none, 1 carried, 2 a tombstone, as a number, since C reads the struct. The second run of 16 bytes is
+// a commitment or a secret. A carried row's ciphertext is the blob from byte 46 on.
 #[repr(C)]
 #[derive(Drop)]
 pub struct Row {
@@ -50,6 +50,7 @@ pub struct Row {
 
 // ---- answers
 
+// `said` is one of the numbers above, or a refusal's: what C reads.
 pub fn answer_of(said: u8, replies: usize, actions: usize, length: usize) -> Answer
     ensures { result ≡ answered said replies actions length }
 {
@@ -106,12 +107,9 @@ pub fn envelope_answer(said: Result<envelope::Answer, Refusal>) -> Answer
     match said {
         Ok(envelope::Answer::Ours(contact, generation, idx)) => Answer {
             contact: contact.0,
-            replies: 0,
-            actions: 0,
-            length: 0,
             idx,
             generation,
-            said: OURS,
+            ..answer_of(OURS, 0, 0, 0)
         },
         Ok(envelope::Answer::Done(replies, actions)) => answer_of(DONE, replies, actions, 0),
         Err(why) => refused(why),
@@ -175,42 +173,45 @@ pub fn own_row(made: Result<Option<Own>, Refusal>, before: [u8; 54]) -> [u8; 54]
     ensures { result ≡ own_row_area before made }
 {
     match made {
-        Ok(Some(row)) => rows::own_bytes(row),
+        Ok(Some(row)) => row.bytes(),
         Ok(None) | Err(_) => before,
     }
 }
 
-// ---- a held row
+// ---- a held row; an array goes into the struct through a local, where the check gives it a proof
 
-pub fn carried_row(row: Carried) -> Row
-    ensures { result ≡ carried_row row }
-{
-    let header = row.header;
-    let depositor = row.depositor;
-    let tag = header.tag;
-    let second = header.c;
-    Row {
-        depositor: depositor.0,
-        expiry_min: header.expiry_min,
-        tag,
-        second,
-        copies: header.copies,
-        kind: 1,
+impl From<Carried> for Row {
+    ghost from_gives = { λ row r. r ≡ carried_row row };
+
+    fn from(row: Carried) -> Row {
+        let header = row.header;
+        let tag = header.tag;
+        let second = header.c;
+        Row {
+            depositor: row.depositor.0,
+            expiry_min: header.expiry_min,
+            tag,
+            second,
+            copies: header.copies,
+            kind: 1,
+        }
     }
 }
 
-pub fn tombstone_row(row: Tombstone) -> Row
-    ensures { result ≡ tombstone_row row }
-{
-    let tag = row.tag;
-    let second = row.s;
-    Row {
-        depositor: 0,
-        expiry_min: row.expiry_min,
-        tag,
-        second,
-        copies: 0,
-        kind: 2,
+impl From<Tombstone> for Row {
+    ghost from_gives = { λ row r. r ≡ tombstone_row row };
+
+    fn from(row: Tombstone) -> Row {
+        let tag = row.tag;
+        let second = row.s;
+        Row {
+            depositor: 0,
+            expiry_min: row.expiry_min,
+            tag,
+            second,
+            copies: 0,
+            kind: 2,
+        }
     }
 }
 
@@ -232,8 +233,8 @@ pub fn row_of(read: Option<Held>) -> Row
     ensures { result ≡ row_of read }
 {
     match read {
-        Some(Held::Carried(row)) => carried_row(row),
-        Some(Held::Tombstone(row)) => tombstone_row(row),
+        Some(Held::Carried(row)) => row.into(),
+        Some(Held::Tombstone(row)) => row.into(),
         None => no_row(),
     }
 }

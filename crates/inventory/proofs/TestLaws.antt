@@ -1,7 +1,6 @@
 -- The refusals of inventory received, in document 01's order.
 -- Assumes nothing.
-use Rattle.std.proofs.Common.{◌≡◌, ℕ, ◌%◌, ◌≤◌, min, Bool, true, false, cond, not, ◌||◌, eqb, ltb, List, [], ◌∷◌, length, sym, refl, ap, ◌∙◌, arith, ltb-false, Option, Some, None, Result, Ok, Err}
-use Rattle.std.specs.Option.{option_eq}
+use Rattle.std.proofs.Common.{◌≡◌, ℕ, ◌%◌, ◌≤◌, min, Bool, true, false, cond, not, ◌||◌, ltb, List, [], ◌∷◌, length, sym, refl, ap, ◌∙◌, arith, ltb-false, Option, Result, Ok, Err}
 use Rattle.courier_core.specs.Core.{first_of}
 use Rattle.courier_core.specs.declared.ContactId.{ContactId}
 use Rattle.courier_core.specs.declared.Refusal.{Refusal}
@@ -21,12 +20,6 @@ use Rattle.inventory.specs.Inventory.{Reads}
 -- one test after another
 pub or_no : {x y z : Bool} → x ≡ false → z ≡ y → z ≡ (x || y)
 or_no e f = rw e f
-
--- was the exchange opened for this peer, as the code asks it
-pub same_peer : (eq : ContactId → ContactId → Bool) (peer : ContactId) (to : Option ContactId) → ((p : ContactId) → eq p peer ≡ eqb p.0 peer.0)
-    → not (is_for peer to) ≡ not (option_eq eq to (Some peer))
-same_peer eq peer (Some p) h = ap not (sym (h p))
-same_peer eq peer None h = refl
 
 -- 512 at most
 pub capped : (len count : ℕ) {k r : ℕ} → k ≡ min count 512 → Fits len 8 k r → Fits len 8 (min 512 count) r × (r ≤ 512)

@@ -7,6 +7,7 @@ ghost use Rattle.courier_core.specs.Core.{first_of};
 ghost use Rattle.octets.specs.Bytes.{part, splice};
 ghost use Rattle.table.specs.Rows.{ragged};
 ghost use Rattle.table.specs.Codec.{table_of};
+ghost use Rattle.table.specs.Tables.{rows_in};
 ghost use Rattle.rows.specs.Rows.{tombstone_codec, tombstone_of, contact_codec, reply_bytes};
 ghost use Rattle.model.specs.State.{State};
 ghost use Rattle.model.specs.Calls.{inventory_of_ours, inventory_received};
@@ -22,11 +23,12 @@ ghost use Rattle.inventory.specs.Inventory.{prefix_for, prefix_of, inventory_say
 use courier_core::{ContactId, Refusal};
 use offers::{Held, Row, Rows};
 use rows::{
-    BAD_TAG_WIDTH, Device, Exchange, REACHABLE_WIDTH, REPLY_WIDTH, Row as _, TOMBSTONE_WIDTH,
-    Tombstone,
+    BAD_TAG_WIDTH, CONTACT_WIDTH, Device, Exchange, REACHABLE_WIDTH, REPLY_WIDTH, Row as _,
+    TOMBSTONE_WIDTH, Tombstone,
 };
+use table::Table;
 
-// Rows that may be offered, at most: 256 own and 256 carried ones.
+// Rows that are held, at most: 256 own and 256 carried ones.
 const MAX_ROWS: usize = 512;
 
 const PREFIX_WIDTH: usize = 8;
@@ -75,12 +77,22 @@ pub fn inventory(
     if prefixes.len() < 4096 {
         return Err(Refusal::ShortArea);
     }
-    if !contacts::known(contacts, device.contacts, peer) {
+    let contacts = Table {
+        area: contacts,
+        count: device.contacts,
+    };
+    if !contacts::known(contacts, peer) {
         return Err(Refusal::UnknownContact);
     }
     let held = Held {
-        own: Rows::fit(own, device.own),
-        carried: Rows::fit(carried, device.carried),
+        own: Rows::fit(Table {
+            area: own,
+            count: device.own,
+        }),
+        carried: Rows::fit(Table {
+            area: carried,
+            count: device.carried,
+        }),
     };
     Ok(list_prefixes(&held, peer, prefixes))
 }
@@ -101,12 +113,20 @@ impl<'a> Lookup<'a> {
     fn tag_to_fetch(&self, prefix: [u8; 8]) -> Option<[u8; 16]>
         ensures { fetch_of result ≡ fetches self.now prefix }
     {
-        let i = custody::lookup(self.window, prefix)?;
+        let i = custody::lookup_prefix(self.window, prefix)?;
         let tag = octets::get_array(self.window, i * REACHABLE_WIDTH + 14);
-        if custody::is_bad(self.bad_tags.area, self.bad_tags.n, self.peer, tag) {
+        let bad_tags = Table {
+            area: self.bad_tags.area,
+            count: self.bad_tags.n,
+        };
+        let tombstones = Table {
+            area: self.tombstones.area,
+            count: self.tombstones.n,
+        };
+        if custody::is_bad(bad_tags, self.peer, tag) {
             return None;
         }
-        if tombstones::tombstoned(self.tombstones.area, self.tombstones.n, tag) {
+        if tombstones::tombstoned(tombstones, tag) {
             return None;
         }
         Some(tag)
@@ -179,6 +199,7 @@ fn push_tombs(
 // ---- inventory received
 
 // What the call says: malformed, or how many replies there are and for how many rows the tombstones were searched.
+// (No Option: its None would not say malformed, which is an answer and no refusal.)
 #[derive(Clone, Copy)]
 pub enum Said {
     Malformed,
@@ -258,11 +279,11 @@ fn wrong_rows(window: &[u8], listed: &[u8]) -> bool
     custody::wrong_window(window) || 0 < listed.len() % PREFIX_WIDTH
 }
 
-fn unknown(contacts: &[u8], count: usize, peer: ContactId, window: &[u8]) -> bool
-    ensures { result ≡ (not (known (table_of contact_codec count contacts.now) peer)
-        || strangers (table_of contact_codec count contacts.now) (window_rows window.now)) }
+fn unknown(contacts: Table<CONTACT_WIDTH>, peer: ContactId, window: &[u8]) -> bool
+    ensures { result ≡ (not (known (rows_in contact_codec contacts.entry) peer)
+        || strangers (rows_in contact_codec contacts.entry) (window_rows window.now)) }
 {
-    !contacts::known(contacts, count, peer) || contacts::strangers(contacts, count, window)
+    !contacts::known(contacts, peer) || contacts::strangers(contacts, window)
 }
 
 // The first test that refuses the call, of areas of prefixes, of offers and of replies with so much room.
@@ -284,7 +305,11 @@ fn tested(
     if wrong_rows(window, listed) {
         return Err(Refusal::WindowRows);
     }
-    if unknown(contacts, device.contacts, peer, window) {
+    let contacts = Table {
+        area: contacts,
+        count: device.contacts,
+    };
+    if unknown(contacts, peer, window) {
         return Err(Refusal::UnknownContact);
     }
     if to != Some(peer) {
@@ -330,14 +355,26 @@ pub fn receive_inventory(
         return list_more(exchange, prefixes, l, listed);
     }
     let held = Held {
-        own: Rows::fit(own, device.own),
-        carried: Rows::fit(carried, device.carried),
+        own: Rows::fit(Table {
+            area: own,
+            count: device.own,
+        }),
+        carried: Rows::fit(Table {
+            area: carried,
+            count: device.carried,
+        }),
     };
     let lookup = Lookup {
         peer,
         window,
-        bad_tags: Rows::fit(bad_tags, device.bad_tags),
-        tombstones: Rows::fit(tombstones, device.tombstones),
+        bad_tags: Rows::fit(Table {
+            area: bad_tags,
+            count: device.bad_tags,
+        }),
+        tombstones: Rows::fit(Table {
+            area: tombstones,
+            count: device.tombstones,
+        }),
     };
     let all = Rows {
         area: prefixes,

@@ -13,8 +13,9 @@ ghost use Rattle.load.specs.Laying.{higher, Rise, Inserted, Carries, Room, Loads
 
 use courier::Header;
 use courier_core::Refusal;
-use rows::{Carried, Device, Tombstone};
+use rows::{CARRIED_WIDTH, Carried, Device, Row as _, TOMBSTONE_WIDTH, Tombstone};
 use state::Held;
+use table::Table;
 
 // How many rows are loaded so far.
 #[derive(Drop)]
@@ -100,10 +101,11 @@ fn load_carried(
     let slot = octets::get_u64(record, 2);
     let new = carried_of(row, slot, (record.len() - 58) as u16, p as u16);
     octets::copy_in(cells, p * state::CELL, &record[58..]);
-    insert_row(carried, rows::CARRIED_WIDTH, p, &rows::carried_bytes(new))
+    insert_row(carried, CARRIED_WIDTH, p, &new.bytes())
 }
 
 // Loads a record.
+#[tactic(auto, using(load_tests::proofs::BlobLaws::kind_long))]
 fn load_record(
     record: &[u8],
     have: &mut Have,
@@ -121,12 +123,8 @@ fn load_record(
         }
         Some(Held::Tombstone(row)) => {
             let new = tombstone_of(row, octets::get_u64(record, 2));
-            have.tombstones = insert_row(
-                tombstones,
-                rows::TOMBSTONE_WIDTH,
-                have.tombstones,
-                &rows::tombstone_bytes(new),
-            );
+            let n = have.tombstones;
+            have.tombstones = insert_row(tombstones, TOMBSTONE_WIDTH, n, &new.bytes());
         }
     }
 }
@@ -161,8 +159,12 @@ pub fn load(
         (load_lent device.old contacts.now carried.old tombstones.old carried_cells.old)
         (load_lent device.new contacts.now carried.new tombstones.new carried_cells.new) }
 {
-    let room = tombstones.len() / rows::TOMBSTONE_WIDTH;
-    load_tests::test_file(file, contacts, device.contacts, carried_cells.len(), room)?;
+    let room = tombstones.len() / TOMBSTONE_WIDTH;
+    let contacts = Table {
+        area: contacts,
+        count: device.contacts,
+    };
+    load_tests::test_file(file, contacts, carried_cells.len(), room)?;
     let next = octets::get_u64(file, 2);
     let have = load_records(file, carried, tombstones, carried_cells);
     device.carried = have.carried;

@@ -22,9 +22,6 @@ pub record Rising (all rs : List (List ℕ)) (low : ℕ) : Type 0 where
   pub once : (slot : List ℕ) → length slot ≡ 8 → of_slot slot all ≤ suc (of_slot slot rs)
   pub none : (slot : List ℕ) → length slot ≡ 8 → low ≤ num slot → of_slot slot all ≡ of_slot slot rs
 
-pub rising_start : {all rs : List (List ℕ)} → rs ≡ all → Rising all rs 0
-rising_start e = rw e (record { once = λ slot l. omega arith; none = λ slot l k. refl })
-
 module _ {all : List (List ℕ)} {low : ℕ} {left rs : List (List ℕ)} {b : List ℕ} (R : Rising all left low) (e : left ≡ b ∷ rs) where
   module _ {s : ℕ} (q : s ≡ num (part b 2 8)) (k : low ≤ s) where
     step : (slot : List ℕ) → length slot ≡ 8 → (x : Bool) → counted false 2 slot b ≡ x
@@ -49,7 +46,3 @@ rising_end R e slot l = omega (arith, R.once slot l, ap (of_slot slot) e)
 -- no slot is counted twice then
 pub not_twice : (rs : List (List ℕ)) (slot : List ℕ) → length slot ≡ 8 → SlotsOnce rs → false ≡ ltb 1 (of_slot slot rs)
 not_twice rs slot l o = sym (le-ltb 1 (of_slot slot rs) (o slot l))
-
--- an answer that says nothing
-pub no_answer : (rs : List (List ℕ)) → false ≡ true → SlotsOnce rs
-no_answer rs e = let z : ◌≡◌ {A = ℕ} 0 1 = cc in absurd (omega arith)

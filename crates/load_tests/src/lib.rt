@@ -1,17 +1,27 @@
-// What a load tests before it writes: a walk through the records of the file, each against all of them.
+// What a load tests before it writes: walks through the records of the file.
 #![tactic(auto)]
 
 ghost use Rattle.std.specs.Prelude.{◌≡◌, ◌+◌, ◌*◌, ◌<◌, ◌≤◌, true, false, [], ◌∷◌, length, nat_lt};
 ghost use Rattle.std.specs.Iterator.{YieldsFirstRef, item_count};
 ghost use Rattle.table.specs.Lists.{any, count_by};
 ghost use Rattle.table.specs.Rows.{rows, has_key};
-ghost use Rattle.table.specs.Codec.{table_of};
+ghost use Rattle.table.specs.Tables.{rows_in};
 ghost use Rattle.rows.specs.Rows.{contact_codec};
 ghost use Rattle.load_tests.specs.Records.{left, records, counted, SlotsOnce, Gathered};
 ghost use Rattle.load_tests.specs.Tests.{fails, kind_tests, row_tests, record_tests, carried_fails, cut_short, carried_count, holds, wrongs, load_tests, tested_as};
 
 use courier_core::{ContactId, Refusal};
+use rows::CONTACT_WIDTH;
 use state::Held;
+use table::Table;
+
+// What the record of a carried row starts with, and that of a tombstone.
+const CARRIED_MARK: &[u8; 2] = b"HC";
+
+const TOMBSTONE_MARK: &[u8; 2] = b"HT";
+
+// A depositor and a tag.
+const KEY_WIDTH: usize = 24;
 
 // ---- records
 
@@ -76,13 +86,6 @@ fn has_key(record: &[u8], offset: usize, key: &[u8]) -> bool
     octets::same(record, offset, key, 0, key.len())
 }
 
-// Is its mark `H` and the letter?
-fn has_mark(record: &[u8], letter: u8) -> bool
-    ensures { result ≡ has_key 0 (72 ∷ letter ∷ []) «record».now }
-{
-    has_key(record, 0, &[b'H', letter])
-}
-
 // How many records have the key at the offset?
 fn count(file: &[u8], offset: usize, key: &[u8]) -> usize
     requires { 0 < length key.now }
@@ -91,13 +94,6 @@ fn count(file: &[u8], offset: usize, key: &[u8]) -> usize
     records(file)
         .filter(|record| has_key(record, offset, key))
         .count()
-}
-
-// How many records are of a mark?
-fn marked(file: &[u8], letter: u8) -> usize
-    ensures { result ≡ count_by (has_key 0 (72 ∷ letter ∷ [])) (records file.now) }
-{
-    count(file, 0, &[b'H', letter])
 }
 
 // Do the slots rise along the file? Then no slot is there twice.
@@ -124,21 +120,21 @@ fn gather(file: &[u8], keys: &mut [u8]) -> usize
 {
     let mut k = 0;
     for record in records(file) {
-        if has_mark(record, b'C') {
-            k = table::push(keys, 24, k, &record[13..37]);
+        if has_key(record, 0, CARRIED_MARK) {
+            k = table::push(keys, KEY_WIDTH, k, &record[13..37]);
         }
     }
     k
 }
 
-// How many of k rows have the key at the offset?
-fn count_keys(keys: &[u8], k: usize, offset: usize, key: &[u8]) -> usize
-    requires { (k * 24 ≤ length keys.now) × (offset + length key.now ≤ 24) }
-    ensures { result ≡ count_by (has_key offset key.now) (rows 24 k keys.now) }
+// How many rows of keys have the key at the offset?
+fn count_keys(keys: Table<KEY_WIDTH>, offset: usize, key: &[u8]) -> usize
+    requires { (keys.count * 24 ≤ length keys.area.now) × (offset + length key.now ≤ 24) }
+    ensures { result ≡ count_by (has_key offset key.now) (rows 24 keys.entry.count keys.entry.area.now) }
 {
     let mut found = 0;
-    for i in 0..k {
-        if octets::same(keys, i * 24 + offset, key, 0, key.len()) {
+    for i in 0..keys.count {
+        if octets::same(keys.area, i * KEY_WIDTH + offset, key, 0, key.len()) {
             found += 1;
         }
     }
@@ -154,8 +150,8 @@ fn wrong_kind(record: &[u8]) -> bool
 {
     match state::decode(&record[12..]) {
         None => true,
-        Some(Held::Carried(_)) => !has_mark(record, b'C'),
-        Some(Held::Tombstone(_)) => !has_mark(record, b'T'),
+        Some(Held::Carried(_)) => !has_key(record, 0, CARRIED_MARK),
+        Some(Held::Tombstone(_)) => !has_key(record, 0, TOMBSTONE_MARK),
     }
 }
 
@@ -171,35 +167,33 @@ fn wrong_kinds(file: &[u8]) -> bool
     false
 }
 
-// What the row of a record is tested against: all records of its file, the keys of the carried ones in n rows of 24, and the contacts. Where rise
-// is true no slot is there twice.
+// What the row of a record is tested against: all records of its file, the keys of the carried ones, and the contacts. Where rise is true no slot
+// is there twice.
 #[derive(Drop)]
-struct Against<'a> {
+struct Against<'a, 'k> {
     file: &'a [u8],
     next: u64,
     rise: bool,
-    keys: &'a [u8],
-    n: usize,
-    contacts: &'a [u8],
-    known: usize,
+    keys: Table<'k, KEY_WIDTH>,
+    contacts: Table<'a, CONTACT_WIDTH>,
     ghost once: { rise ≡ true → SlotsOnce (records file.now) },
-    ghost gathered: { Gathered file.now keys.now n },
+    ghost gathered: { Gathered file.now keys.area.now keys.count },
 }
 
-impl<'a> Against<'a> {
+impl Against<'_, '_> {
     // A carried record: is its depositor unknown, its tag there twice, or are over 32 of its depositor?
     fn wrong_carried(&self, record: &[u8]) -> bool
         requires { 37 ≤ length «record».now }
-        ensures { result ≡ carried_fails (table_of contact_codec self.now.known self.now.contacts.now) (records self.now.file.now) «record».now }
+        ensures { result ≡ carried_fails (rows_in contact_codec self.now.contacts) (records self.now.file.now) «record».now }
     {
         let id = octets::get_u64(record, 13);
-        if !contacts::known(self.contacts, self.known, ContactId(id)) {
+        if !contacts::known(self.contacts, ContactId(id)) {
             return true;
         }
-        if 1 < count_keys(self.keys, self.n, 8, &record[21..37]) {
+        if 1 < count_keys(self.keys, 8, &record[21..37]) {
             return true;
         }
-        32 < count_keys(self.keys, self.n, 0, &record[13..21])
+        32 < count_keys(self.keys, 0, &record[13..21])
     }
 
     // Is a slot that of two records? Where slots rise it is not, and the file is not walked.
@@ -214,9 +208,10 @@ impl<'a> Against<'a> {
     }
 
     // Is its slot not below the next, or there twice; or is it a wrong carried one?
+    #[tactic(auto, using(crate::proofs::BlobLaws::kind_long))]
     fn wrong_row(&self, record: &[u8]) -> bool
         requires { fails kind_tests «record».now ≡ false }
-        ensures { result ≡ fails (row_tests self.now.next (table_of contact_codec self.now.known self.now.contacts.now) (records self.now.file.now)) «record».now }
+        ensures { result ≡ fails (row_tests self.now.next (rows_in contact_codec self.now.contacts) (records self.now.file.now)) «record».now }
     {
         if self.next <= octets::get_u64(record, 2) {
             return true;
@@ -224,7 +219,7 @@ impl<'a> Against<'a> {
         if self.slot_twice(&record[2..10]) {
             return true;
         }
-        if has_mark(record, b'C') {
+        if has_key(record, 0, CARRIED_MARK) {
             return self.wrong_carried(record);
         }
         false
@@ -233,7 +228,7 @@ impl<'a> Against<'a> {
     // Is the row of a record of the file wrong?
     fn wrong_rows(&self) -> bool
         requires { any (fails kind_tests) (records self.now.file.now) ≡ false }
-        ensures { result ≡ any (fails (row_tests self.now.next (table_of contact_codec self.now.known self.now.contacts.now) (records self.now.file.now))) (records self.now.file.now) }
+        ensures { result ≡ any (fails (row_tests self.now.next (rows_in contact_codec self.now.contacts) (records self.now.file.now))) (records self.now.file.now) }
     {
         for record in records(self.file) {
             if self.wrong_row(record) {
@@ -245,32 +240,31 @@ impl<'a> Against<'a> {
 }
 
 // Is a record wrong? At most 256 are carried, so their keys fit 256 rows of 24.
-fn wrong_records(file: &[u8], next: u64, contacts: &[u8], known: usize) -> bool
+fn wrong_records<'a>(file: &'a [u8], next: u64, contacts: Table<'a, CONTACT_WIDTH>) -> bool
     requires { carried_count file.now ≤ 256 }
-    ensures { result ≡ any (fails (record_tests next (table_of contact_codec known contacts.now) (records file.now))) (records file.now) }
+    ensures { result ≡ any (fails (record_tests next (rows_in contact_codec contacts.entry) (records file.now))) (records file.now) }
 {
     if wrong_kinds(file) {
         return true;
     }
-    let mut keys = [0u8; 6144];
-    let n = gather(file, &mut keys);
+    let mut area = [0u8; 256 * KEY_WIDTH];
+    let count = gather(file, &mut area);
+    let keys = Table { area: &area, count };
     let against = Against {
         file,
         next,
         rise: slots_rise(file),
-        keys: &keys,
-        n,
+        keys,
         contacts,
-        known,
     };
     against.wrong_rows()
 }
 
 // ---- a file
 
-// Number 8.
-fn wrong_file(file: &[u8], contacts: &[u8], known: usize) -> bool
-    ensures { result ≡ holds (wrongs (table_of contact_codec known contacts.now) file.now) }
+// Is it no saved file, or has it records that are wrong?
+fn wrong_file(file: &[u8], contacts: Table<CONTACT_WIDTH>) -> bool
+    ensures { result ≡ holds (wrongs (rows_in contact_codec contacts.entry) file.now) }
 {
     if file.len() < 10 {
         return true;
@@ -281,30 +275,29 @@ fn wrong_file(file: &[u8], contacts: &[u8], known: usize) -> bool
     if cut_short(file) {
         return true;
     }
-    if 256 < marked(file, b'C') {
+    if 256 < count(file, 0, CARRIED_MARK) {
         return true;
     }
     let next = octets::get_u64(file, 2);
-    wrong_records(file, next, contacts, known)
+    wrong_records(file, next, contacts)
 }
 
-// All that a load tests: 8, then 4 by the bytes of the cells, then 5.
+// All that a load tests: the file, then the room of the cells, then that of the tombstones.
 pub fn test_file(
     file: &[u8],
-    contacts: &[u8],
-    known: usize,
+    contacts: Table<CONTACT_WIDTH>,
     cells: usize,
     room: usize,
 ) -> Result<(), Refusal>
-    ensures { result ≡ tested_as (load_tests (table_of contact_codec known contacts.now) cells room file.now) }
+    ensures { result ≡ tested_as (load_tests (rows_in contact_codec contacts.entry) cells room file.now) }
 {
-    if wrong_file(file, contacts, known) {
+    if wrong_file(file, contacts) {
         return Err(Refusal::SavedFile);
     }
-    if (cells / state::CELL).min(256) < marked(file, b'C') {
+    if (cells / state::CELL).min(256) < count(file, 0, CARRIED_MARK) {
         return Err(Refusal::NoCell);
     }
-    if room < marked(file, b'T') {
+    if room < count(file, 0, TOMBSTONE_MARK) {
         return Err(Refusal::NoTombstoneRow);
     }
     Ok(())

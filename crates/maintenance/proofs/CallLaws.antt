@@ -6,7 +6,12 @@ use Rattle.octets.specs.Bytes.{splice}
 use Rattle.courier_core.specs.declared.Refusal.TheVariants as refusal
 use Rattle.table.specs.Lists.{filter}
 use Rattle.table.specs.Rows.{held, join, written}
+use Rattle.table.specs.declared.Table.{Table}
 use Rattle.table.specs.Codec.{table_of, with_table, TableNow}
+use Rattle.table.specs.Tables.{rows_in}
+use Rattle.by_slot.specs.declared.held.Held.{Held}
+use Rattle.by_slot.specs.BySlot.{Fitted}
+use Rattle.by_slot.proofs.SlotLaws.{carried_fitted, tombstones_fitted}
 use Rattle.table.proofs.ListLaws.{length_filter}
 use Rattle.table.proofs.RowLaws.{held_le}
 use Rattle.table.proofs.TableLaws.{length_table}
@@ -25,8 +30,14 @@ use Rattle.model.specs.Areas.{Areas, Written, view, store, store_device, store_s
 use Rattle.model.proofs.CallLaws.{refused_here, not_here, no_test, refused_call, answering_call}
 use Rattle.model.specs.Lent.{actions_lent}
 use Rattle.maintenance.specs.Expiry.{Listed, own_put, Rewritten, maintained_of, lent_tables}
-use Rattle.maintenance.proofs.ListedLaws.{listed_then, listed_front}
+use Rattle.maintenance.proofs.ListedLaws.{listed_front}
 use Rattle.maintenance.proofs.MergeLaws.{length_expired}
+
+-- deletions of the held rows that fit are those of the tables by the counts that were given
+pub listed_held : {T : Table 57} {U : Table 44} {h : Held} → Fitted T U h → (minute : ℕ) {ac x : List ℕ} {k m : ℕ}
+    → Listed ac k (map delete_courier (expired_slots minute (rows_in carried_codec h.carried) (rows_in tombstone_codec h.tombstones))) m x
+    → Listed ac k (map delete_courier (expired_slots minute (rows_in carried_codec T) (rows_in tombstone_codec U))) m x
+listed_held F minute L = rw (carried_fitted F, tombstones_fitted F) at L
 
 -- ---- room for the actions: 256 own rows, 256 carried rows, R tombstones
 
@@ -52,7 +63,7 @@ module _ (own ta : List ℕ) (co len : ℕ) (lo : length own ≡ 13824) (long : 
     pub held_room : (k + (held (length ca) 57 cc + held (length ta) 44 ct)) * 13 ≤ len
     held_room = omega (arith, lc, puts_few own co minute k lo L, (held_le (length ca) 57 cc).1, (held_le (length ta) 44 ct).1)
 
-    listed_room : {y : List ℕ} {m : ℕ} → Listed x k (map delete_courier (expired_slots minute (table_of carried_codec cc ca) (table_of tombstone_codec ct ta))) m y → m * 13 ≤ len
+    pub listed_room : {y : List ℕ} {m : ℕ} → Listed x k (map delete_courier (expired_slots minute (table_of carried_codec cc ca) (table_of tombstone_codec ct ta))) m y → m * 13 ≤ len
     listed_room M =
         let S : List ℕ = expired_slots minute (table_of carried_codec cc ca) (table_of tombstone_codec ct ta) in
         omega (
@@ -113,15 +124,12 @@ module _ (d : Device) (own carried tombstones ac : List ℕ) (a : Areas) where
     unfolding step tests perform maintenance_tests maintain_couriers view
     stepped = not_here _ _ _ (le-ltb (length ac) (13 * (512 + R)) long) (no_test _) ∙ ap₂ performed (sym em) (sym ee)
 
-    pub says_done : length own ≡ 13824 → length carried ≡ 14592 → {k listed n m o : ℕ} {x y u v w : List ℕ} → Listed ac 0 (own_puts minute To) k x
-        → Listed x k (map delete_courier (expired_slots minute Tc Tt)) listed y
+    pub says_done : {listed n m o : ℕ} {y u v w : List ℕ} → Listed ac 0 (acts minute end) listed y
         → Rewritten own_codec own (own' minute end) n u → TableNow carried_codec carried (carried' minute end) m v
         → TableNow tombstone_codec tombstones (tombstones' minute end) o w
         → Written maintained_of (step (view B) C) (Ok listed) B (lent_tables (record d { own = n; carried = m; tombstones = o }) u v w a) (actions_lent ac) (actions_lent y)
     unfolding store store_device store_session answer_areas with_table written join splice
-    says_done lo lc {listed = listed} {y = y} {u = u} {v = v} {w = w} L M O N Q =
-        let A : Listed ac 0 (acts minute end) listed y = listed_then (own_puts minute To) (map delete_courier (expired_slots minute Tc Tt)) L M
-        (listed_room own tombstones d.own (length ac) lo long carried d.carried d.tombstones minute lc L M) in
+    says_done {y = y} {u = u} {v = v} {w = w} A O N Q =
         answering_call (performed minute end) stepped (ap Ok (omega (arith, A.count)))
         (λ j. lent_tables (record d { own = O.count j; carried = N.count j; tombstones = Q.count j }) (O.area j) (N.area j) (Q.area j) a)
         (ap actions_lent (listed_front (acts minute end) A))

@@ -2,15 +2,16 @@
 -- Assumes nothing.
 use Rattle.std.proofs.Common.{◌≡◌, ℕ, ◌+◌, ◌*◌, ◌<◌, ◌≤◌, Bool, true, false, ◌&&◌, ltb, leb, List, ◌∷◌, map, length, drop, sym, ap, ◌∙◌, arith}
 use Rattle.octets.specs.Bytes.{splice, part, num}
-use Rattle.table.specs.Rows.{held}
 use Rattle.table.specs.Codec.{Codec, table_of}
+use Rattle.table.specs.Tables.{rows_in}
 use Rattle.table.proofs.RowLaws.{held_all}
-use Rattle.table.proofs.TableLaws.{length_table, table_next, table_held}
+use Rattle.table.proofs.TableLaws.{length_table, table_next}
 use Rattle.rows.specs.declared.Carried.{Carried}
 use Rattle.rows.specs.declared.Tombstone.{Tombstone}
 use Rattle.rows.specs.Rows.{carried_codec, carried_of, tombstone_codec, tombstone_of, action_bytes}
 use Rattle.model.specs.Calls.{delete_courier}
 use Rattle.model.specs.Maintenance.{carried_expired, tombstone_expired, expired_slots}
+use Rattle.by_slot.specs.declared.held.Held.{Held}
 use Rattle.by_slot.specs.BySlot.{TombstoneFirst}
 use Rattle.by_slot.proofs.SlotLaws.{slot_of}
 use Rattle.maintenance.specs.declared.Turn.{Turn}
@@ -26,13 +27,24 @@ module _ {A : Type 0} (c : Codec A) (n : ℕ) (a : List ℕ) (wide : 0 < c.width
   row_next : (i : ℕ) → i < length (table_of c n a) → drop i (table_of c n a) ≡ c.decode (part a (i * c.width) c.width) ∷ drop (i + 1) (table_of c n a)
   row_next i h = table_next c n a i (omega (arith, length_table c n a))
 
-module _ (minute n m : ℕ) (ca ta : List ℕ) (t : Turn) (len : ℕ)
-    (M : Moving n m t.carried t.tombstones t.listed (length ca) (length ta) len) where
+module _ (minute : ℕ) (h : Held) (t : Turn) (len : ℕ) (M : Moving h t len) where
+  abbrev n : ℕ
+  n = h.carried.count
+
+  abbrev m : ℕ
+  m = h.tombstones.count
+
+  abbrev ca : List ℕ
+  ca = h.carried.area.now
+
+  abbrev ta : List ℕ
+  ta = h.tombstones.area.now
+
   abbrev p : ℕ
-  p = t.carried
+  p = t.next.carried
 
   abbrev q : ℕ
-  q = t.tombstones
+  q = t.next.tombstones
 
   abbrev Cs : List Carried
   Cs = table_of carried_codec n ca
@@ -47,19 +59,19 @@ module _ (minute n m : ℕ) (ca ta : List ℕ) (t : Turn) (len : ℕ)
   stone = tombstone_of (part ta (q * 44) 44)
 
   abbrev turn : ℕ → ℕ → ℕ → Turn
-  turn i j k = record { carried = i; tombstones = j; listed = k }
+  turn i j k = record { next = record { carried = i; tombstones = j }; listed = k }
 
   lc : length Cs ≡ n
-  lc = length_whole carried_codec n ca (omega arith) M.reached.rows
+  lc = length_whole carried_codec n ca (omega arith) h.carried_fit
 
   lt : length Ts ≡ m
-  lt = length_whole tombstone_codec m ta (omega arith) M.reached.tombs
+  lt = length_whole tombstone_codec m ta (omega arith) h.tombstones_fit
 
   ec : p < length Cs → drop p Cs ≡ row ∷ drop (p + 1) Cs
-  ec = row_next carried_codec n ca (omega arith) M.reached.rows p
+  ec = row_next carried_codec n ca (omega arith) h.carried_fit p
 
   et : q < length Ts → drop q Ts ≡ stone ∷ drop (q + 1) Ts
-  et = row_next tombstone_codec m ta (omega arith) M.reached.tombs q
+  et = row_next tombstone_codec m ta (omega arith) h.tombstones_fit q
 
   carried_is : {b : Bool} → leb (num (part (part ca (p * 57) 57) 48 4)) minute ≡ b → carried_expired minute row ≡ b
   unfolding carried_of
@@ -79,7 +91,7 @@ module _ (minute n m : ℕ) (ca ta : List ℕ) (t : Turn) (len : ℕ)
 
   -- whether the rows live
   module _ {b : Bool} (lives : b ≡ (ltb p n && live_row 48 minute (part ca (p * 57) 57))) where
-    pub step_carried : (x : List ℕ) → b ≡ true → Moved minute n m ca ta x x t (turn (p + 1) q t.listed)
+    pub step_carried : (x : List ℕ) → b ≡ true → Moved minute h x x t (turn (p + 1) q t.listed)
     step_carried x e =
         let y = lives_yes p n _ minute lives e in
         record {
@@ -89,7 +101,7 @@ module _ (minute n m : ℕ) (ca ta : List ℕ) (t : Turn) (len : ℕ)
         }
 
     module _ (dead : b ≡ false) {d : Bool} (stands : d ≡ (ltb q m && live_row 40 minute (part ta (q * 44) 44))) where
-      pub step_tombstone : (x : List ℕ) → d ≡ true → Moved minute n m ca ta x x t (turn p (q + 1) t.listed)
+      pub step_tombstone : (x : List ℕ) → d ≡ true → Moved minute h x x t (turn p (q + 1) t.listed)
       step_tombstone x e =
           let y = lives_yes q m _ minute stands e in
           record {
@@ -99,7 +111,7 @@ module _ (minute n m : ℕ) (ca ta : List ℕ) (t : Turn) (len : ℕ)
           }
 
       -- neither lives: the first by slot is listed
-      module _ (gone : d ≡ false) {f : Bool} (F : TombstoneFirst n m p q (num (part ca (p * 57) 8)) (num (part ta (q * 44) 8)) f)
+      module _ (gone : d ≡ false) {f : Bool} (F : TombstoneFirst h t.next (num (part ca (p * 57) 8)) (num (part ta (q * 44) 8)) f)
           (x y : List ℕ) (s : ℕ) (lx : length x ≡ len) (ey : y ≡ splice x (t.listed * 13) (action_bytes (delete_courier s))) where
         xc : p < length Cs → carried_expired minute row ≡ true
         xc h = carried_is (lives_no p n _ minute lives dead (omega (arith, lc)))
@@ -110,7 +122,7 @@ module _ (minute n m : ℕ) (ca ta : List ℕ) (t : Turn) (len : ℕ)
         room : (ac : List ℕ) → length ac ≡ length x → (t.listed + 1) * 13 ≤ length ac
         room ac l = omega (arith, l, lx, M.space, M.reached.more)
 
-        pub list_tombstone : f ≡ true → s ≡ num (part ta (q * 44) 8) → Moved minute n m ca ta x y t (turn p (q + 1) (t.listed + 1))
+        pub list_tombstone : f ≡ true → s ≡ num (part ta (q * 44) 8) → Moved minute h x y t (turn p (q + 1) (t.listed + 1))
         list_tombstone e es =
             let w = F.tombstone e in
             record {
@@ -121,7 +133,7 @@ module _ (minute n m : ℕ) (ca ta : List ℕ) (t : Turn) (len : ℕ)
               further = omega arith;
             }
 
-        pub list_carried : f ≡ false → s ≡ num (part ca (p * 57) 8) → Moved minute n m ca ta x y t (turn (p + 1) q (t.listed + 1))
+        pub list_carried : f ≡ false → s ≡ num (part ca (p * 57) 8) → Moved minute h x y t (turn (p + 1) q (t.listed + 1))
         list_carried e es =
             let w = F.carried e in
             record {
@@ -132,21 +144,18 @@ module _ (minute n m : ℕ) (ca ta : List ℕ) (t : Turn) (len : ℕ)
               further = omega arith;
             }
 
--- how far the list is, and its end, where the counts fit
-module _ (minute n m : ℕ) (ca ta ac x : List ℕ) (k p q r : ℕ) (fc : n * 57 ≤ length ca) (ft : m * 44 ≤ length ta)
-    (I : Merging minute (table_of carried_codec n ca) (table_of tombstone_codec m ta) ac k x p q r) where
-  all_carried : length (table_of carried_codec n ca) ≡ n
-  all_carried = length_whole carried_codec n ca (omega arith) fc
+-- how far the list is, and its end
+module _ (minute : ℕ) (h : Held) (ac x : List ℕ) (k p q r : ℕ)
+    (I : Merging minute (rows_in carried_codec h.carried) (rows_in tombstone_codec h.tombstones) ac k x p q r) where
+  all_carried : length (rows_in carried_codec h.carried) ≡ h.carried.count
+  all_carried = length_whole carried_codec h.carried.count h.carried.area.now (omega arith) h.carried_fit
 
-  all_tombstones : length (table_of tombstone_codec m ta) ≡ m
-  all_tombstones = length_whole tombstone_codec m ta (omega arith) ft
+  all_tombstones : length (rows_in tombstone_codec h.tombstones) ≡ h.tombstones.count
+  all_tombstones = length_whole tombstone_codec h.tombstones.count h.tombstones.area.now (omega arith) h.tombstones_fit
 
-  pub within : (p ≤ n) × (q ≤ m)
+  pub within : (p ≤ h.carried.count) × (q ≤ h.tombstones.count)
   within = (omega (arith, I.left, all_carried), omega (arith, I.right, all_tombstones))
 
-  -- the tables by counts that may be anything
-  pub listed_all : (cc ct : ℕ) → n ≡ held (length ca) 57 cc → m ≡ held (length ta) 44 ct → n + m ≤ p + q
-      → Listed ac k (map delete_courier (expired_slots minute (table_of carried_codec cc ca) (table_of tombstone_codec ct ta))) r x
-  listed_all cc ct en em h =
-      let L = merging_end minute (table_of carried_codec n ca) (table_of tombstone_codec m ta) ac k x p q r I (omega (arith, all_carried, all_tombstones)) in
-      rw (table_held carried_codec cc n ca (omega arith) en, table_held tombstone_codec ct m ta (omega arith) em) at L
+  pub listed_all : h.carried.count + h.tombstones.count ≤ p + q
+      → Listed ac k (map delete_courier (expired_slots minute (rows_in carried_codec h.carried) (rows_in tombstone_codec h.tombstones))) r x
+  listed_all l = merging_end minute _ _ ac k x p q r I (omega (arith, all_carried, all_tombstones))

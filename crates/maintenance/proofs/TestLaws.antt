@@ -1,9 +1,9 @@
 -- Laws of the tests: a row that lives, one that stays, one that is renewed.
 -- Assumes nothing.
-use Rattle.std.proofs.Common.{◌≡◌, ℕ, ◌+◌, ◌*◌, ◌^◌, ◌<◌, ◌≤◌, Bool, true, false, cond, not, ◌&&◌, ltb, leb, List, length, sym, refl, ap, ◌∙◌, arith, ltb-false, ltb-true, lt-ltb, le-leb}
+use Rattle.std.proofs.Common.{◌≡◌, ℕ, ◌+◌, ◌-◌, ◌*◌, ◌^◌, ◌<◌, ◌≤◌, Bool, true, false, cond, not, ◌&&◌, ltb, leb, List, length, sym, refl, ap, ◌∙◌, arith, ltb-false, ltb-true, lt-ltb, le-ltb, le-leb}
 use borrow.Author.Tests.{lt-leb, not-false}
 use Rattle.octets.specs.Bytes.{part, num}
-use Rattle.octets.proofs.Parts.{part_part}
+use Rattle.octets.proofs.Parts.{length_part}
 use Rattle.table.specs.Lists.{filter}
 use Rattle.table.specs.Rows.{held, rows, RowsNow}
 use Rattle.table.specs.Codec.{table_of, TableNow}
@@ -24,9 +24,26 @@ after_is minute e = go (ltb minute e) refl
     go true t = t ∙ sym (ap not (lt-leb e minute (ltb-true minute e t)))
     go false t = t ∙ sym (ap not (le-leb e minute (ltb-false minute e t)))
 
--- the expiry of row i, in the area and in the row
-pub live_row_lem : (x : List ℕ) (i w o minute : ℕ) {e : ℕ} → o + 4 ≤ w → e ≡ num (part x (i * w + o) 4) → ltb minute e ≡ live_row o minute (part x (i * w) w)
-live_row_lem x i w o minute {e} h q = after_is minute e ∙ ap (λ (z : ℕ). not (leb z minute)) (q ∙ sym (ap num (part_part x (i * w) w o 4 h)))
+-- the test of a row reads its expiry
+pub live_row_lem : (row : List ℕ) (o minute : ℕ) {e : ℕ} → e ≡ num (part row o 4) → ltb minute e ≡ live_row o minute row
+live_row_lem row o minute {e} q = after_is minute e ∙ ap (λ (z : ℕ). not (leb z minute)) q
+
+-- a row as the code takes it out of its area, and its length
+pub row_slice : (a : List ℕ) (at w : ℕ) → part a at (at + w - at) ≡ part a at w
+row_slice a at w = let e : at + w - at ≡ w = omega arith in ap (part a at) e
+
+pub length_slice : (a : List ℕ) (at w : ℕ) → at + w ≤ length a → length (part a at (at + w - at)) ≡ w
+length_slice a at w h = ap length (row_slice a at w) ∙ length_part a at w h
+
+pub tested : (a : List ℕ) (i w o minute : ℕ) {r : Bool} → r ≡ live_row o minute (part a (i * w) (i * w + w - i * w)) → r ≡ live_row o minute (part a (i * w) w)
+tested a i w o minute e = e ∙ ap (live_row o minute) (row_slice a (i * w) w)
+
+-- a test of a row that is there, and of one that is not
+pub there : (i n : ℕ) {b r : Bool} → i < n → r ≡ b → r ≡ (ltb i n && b)
+there i n {b} h e = e ∙ sym (ap (λ (x : Bool). x && b) (lt-ltb i n h))
+
+pub not_there : (i n : ℕ) (b : Bool) → n ≤ i → false ≡ (ltb i n && b)
+not_there i n b h = sym (ap (λ (x : Bool). x && b) (le-ltb i n h))
 
 -- what it says of the row at i
 pub lives_yes : (i n e minute : ℕ) {r : Bool} → r ≡ (ltb i n && not (leb e minute)) → r ≡ true → (i < n) × (leb e minute ≡ false)

@@ -1,11 +1,12 @@
 -- What maintenance leaves in each area, how far its lists are, and what the call answers and is lent.
 -- Assumes nothing.
-use Rattle.std.specs.Prelude.{◌≡◌, ℕ, ◌+◌, ◌*◌, ◌<◌, ◌≤◌, Bool, not, ◌&&◌, List, ◌++◌, map, length, take, drop, nat_le, Result, Ok, Err}
+use Rattle.std.specs.Prelude.{◌≡◌, ℕ, ◌+◌, ◌*◌, ◌≤◌, Bool, not, ◌&&◌, List, ◌++◌, map, length, take, drop, nat_le, Result, Ok, Err}
 use Rattle.octets.specs.Bytes.{splice, part, num}
 use Rattle.courier_core.specs.declared.Refusal.{Refusal}
 use Rattle.table.specs.Lists.{filter}
 use Rattle.table.specs.Rows.{join}
-use Rattle.table.specs.Codec.{Codec, table_of, with_table}
+use Rattle.table.specs.Codec.{Codec, with_table}
+use Rattle.table.specs.Tables.{rows_in}
 use Rattle.rows.specs.declared.Device.{Device}
 use Rattle.rows.specs.declared.Own.{Own}
 use Rattle.rows.specs.declared.Carried.{Carried}
@@ -15,6 +16,7 @@ use Rattle.rows.specs.Rows.{carried_codec, tombstone_codec, action_bytes}
 use Rattle.model.specs.Calls.{Result as Outcome, delete_courier, put_queued}
 use Rattle.model.specs.Maintenance.{own_expired, is_renewed, expired_slots}
 use Rattle.model.specs.Areas.{Areas}
+use Rattle.by_slot.specs.declared.held.Held.{Held}
 use Rattle.by_slot.specs.BySlot.{Reached}
 use Rattle.model.specs.Lent.{refused_or, device_in, own_in, carried_in, tombstones_in}
 use Rattle.maintenance.specs.declared.Turn.{Turn}
@@ -35,9 +37,9 @@ pub record Listed (ac : List ℕ) (k : ℕ) (acts : List Action) (m : ℕ) (x : 
   pub area : x ≡ splice ac (k * 13) (join (map action_bytes acts))
 
 -- what a step of the deletions relies on: a row is left, and there is room for an action of each
-pub record Moving (n m p q k carried tombstones actions : ℕ) : Type 0 where
-  pub reached : Reached carried tombstones n m p q
-  pub space : (k + (n + m)) * 13 ≤ actions + (p + q) * 13
+pub record Moving (h : Held) (t : Turn) (actions : ℕ) : Type 0 where
+  pub reached : Reached h t.next
+  pub space : (t.listed + (h.carried.count + h.tombstones.count)) * 13 ≤ actions + (t.next.carried + t.next.tombstones) * 13
 
 -- deletions of the rows before p and q are listed behind k rows of ac, and those of the rows from p and q on are left
 pub record Merging (minute : ℕ) (cs : List Carried) (ts : List Tombstone) (ac : List ℕ) (k : ℕ) (x : List ℕ) (p q m : ℕ) : Type 0 where
@@ -49,11 +51,11 @@ pub record Merging (minute : ℕ) (cs : List Carried) (ts : List Tombstone) (ac 
   pub below : m ≤ k + (p + q)
 
 -- one step of the deletions, from t to r; the action area was x and is now y
-pub record Moved (minute n m : ℕ) (ca ta x y : List ℕ) (t r : Turn) : Type 0 where
+pub record Moved (minute : ℕ) (h : Held) (x y : List ℕ) (t r : Turn) : Type 0 where
   pub merging : (ac : List ℕ) (k : ℕ) → length ac ≡ length x
-      → Merging minute (table_of carried_codec n ca) (table_of tombstone_codec m ta) ac k x t.carried t.tombstones t.listed
-      → Merging minute (table_of carried_codec n ca) (table_of tombstone_codec m ta) ac k y r.carried r.tombstones r.listed
-  pub further : t.carried + t.tombstones < r.carried + r.tombstones
+      → Merging minute (rows_in carried_codec h.carried) (rows_in tombstone_codec h.tombstones) ac k x t.next.carried t.next.tombstones t.listed
+      → Merging minute (rows_in carried_codec h.carried) (rows_in tombstone_codec h.tombstones) ac k y r.next.carried r.next.tombstones r.listed
+  pub further : r.next.carried + r.next.tombstones ≡ t.next.carried + t.next.tombstones + 1
 
 -- the own put of a row
 abbrev pub own_put : Own → Action

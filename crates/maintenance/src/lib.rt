@@ -1,34 +1,36 @@
 // Maintenance: `maintain_couriers`. Own rows expired once are renewed, the second time dropped; then held rows with expiry ≤ minute go.
 #![tactic(auto)]
 
-ghost use Rattle.std.specs.Prelude.{◌≡◌, ◌+◌, ◌*◌, ◌<◌, ◌≤◌, not, ◌&&◌, map, length, nat_lt};
+ghost use Rattle.std.specs.Prelude.{◌≡◌, ◌+◌, ◌*◌, ◌/◌, ◌<◌, ◌≤◌, ◌++◌, not, ◌&&◌, map, length, nat_lt};
 ghost use Rattle.octets.specs.Bytes.{part};
 ghost use Rattle.table.specs.Lists.{filter};
 ghost use Rattle.table.specs.Rows.{held, rows, RowsNow};
-ghost use Rattle.table.specs.Codec.{table_of, TableNow};
+ghost use Rattle.table.specs.Codec.{table_of};
+ghost use Rattle.table.specs.Tables.{rows_in};
 ghost use Rattle.rows.specs.Rows.{own_width, own_codec, carried_width, carried_codec, tombstone_width, tombstone_codec};
 ghost use Rattle.model.specs.Calls.{maintenance, delete_courier};
 ghost use Rattle.model.specs.Maintenance.{own_expired, carried_expired, tombstone_expired, is_renewed, renew_expired, maintain_own, own_puts, expired_slots};
 ghost use Rattle.model.specs.Lent.{Does, actions_lent};
 ghost use Rattle.maintenance.specs.Expiry.{live_row, Listed, Moving, Moved, Rewritten, maintained_of, lent_tables};
 
+use by_slot::{Cursor, Held};
 use courier_core::Refusal;
-use rows::{CARRIED_WIDTH, Device, OWN_WIDTH, Own, TOMBSTONE_WIDTH};
+use rows::{CARRIED_WIDTH, Device, OWN_WIDTH, Own, Row as _, TOMBSTONE_WIDTH};
+use table::Table;
 
-// How far the list of deletions is: the next carried row, the next tombstone, and how many actions are listed.
+// How far the list of deletions is: the next row of each table, and how many actions are listed.
 #[derive(Drop)]
 struct Turn {
-    carried: usize,
-    tombstones: usize,
+    next: Cursor,
     listed: usize,
 }
 
-// Has row i, whose expiry is at an offset, not expired?
-fn is_live(area: &[u8], width: usize, i: usize, offset: usize, minute: u32) -> bool
-    requires { (i * width + width ≤ length area.now) × (offset + 4 ≤ width) }
-    ensures { result ≡ live_row offset minute (part area.now (i * width) width) }
+// Has a row, whose expiry is at an offset, not expired?
+fn is_live(row: &[u8], offset: usize, minute: u32) -> bool
+    requires { offset + 4 ≤ length row.now }
+    ensures { result ≡ live_row offset minute row.now }
 {
-    minute < octets::get_u32(area, i * width + offset)
+    minute < octets::get_u32(row, offset)
 }
 
 // ---- held rows
@@ -46,7 +48,8 @@ fn keep_live(area: &mut [u8], width: usize, count: usize, offset: usize, minute:
     let n = table::fit(area.len(), width, count);
     let mut k = 0;
     for i in 0..n {
-        if is_live(area, width, i, offset, minute) {
+        let at = i * width;
+        if is_live(&area[at..at + width], offset, minute) {
             table::keep_row(area, width, k, i);
             k += 1;
         }
@@ -57,76 +60,54 @@ fn keep_live(area: &mut [u8], width: usize, count: usize, offset: usize, minute:
 // ---- deletions: carried rows and tombstones together, by slot
 
 // Is there a row i, and has it not expired?
-fn lives(area: &[u8], width: usize, n: usize, offset: usize, i: usize, minute: u32) -> bool
-    requires { (n * width ≤ length area.now) × (offset + 4 ≤ width) }
-    ensures { result ≡ (nat_lt i n && live_row offset minute (part area.now (i * width) width)) }
+fn lives<const W: usize>(table: Table<W>, offset: usize, i: usize, minute: u32) -> bool
+    requires { (table.count * W ≤ length table.area.now) × (offset + 4 ≤ W) }
+    ensures { result ≡ (nat_lt i table.entry.count && live_row offset minute (part table.entry.area.now (i * W) W)) }
 {
-    i < n && is_live(area, width, i, offset, minute)
+    if table.count <= i {
+        return false;
+    }
+    let at = i * W;
+    is_live(&table.area[at..at + W], offset, minute)
 }
 
 // One row further: a row that lives is passed; else the lower slot is listed.
-fn list_one(
-    carried: &[u8],
-    n: usize,
-    tombstones: &[u8],
-    m: usize,
-    minute: u32,
-    t: &mut Turn,
-    actions: &mut [u8],
-)
-    requires { Moving n m t.old.carried t.old.tombstones t.old.listed (length carried.now) (length tombstones.now) (length actions.old) }
-    ensures { Moved minute n m carried.now tombstones.now actions.old actions.new t.old t.new }
+fn list_one(held: Held, minute: u32, t: &mut Turn, actions: &mut [u8])
+    requires { Moving held t.old (length actions.old) }
+    ensures { Moved minute held.entry actions.old actions.new t.old t.new }
 {
-    if lives(carried, CARRIED_WIDTH, n, CARRIED_EXPIRY, t.carried, minute) {
-        t.carried += 1;
+    if lives::<CARRIED_WIDTH>(held.carried, CARRIED_EXPIRY, t.next.carried, minute) {
+        t.next.carried += 1;
         return;
     }
-    if lives(
-        tombstones,
-        TOMBSTONE_WIDTH,
-        m,
-        TOMBSTONE_EXPIRY,
-        t.tombstones,
-        minute,
-    ) {
-        t.tombstones += 1;
+    if lives::<TOMBSTONE_WIDTH>(held.tombstones, TOMBSTONE_EXPIRY, t.next.tombstones, minute) {
+        t.next.tombstones += 1;
         return;
     }
-    if by_slot::tombstone_first(carried, n, t.carried, tombstones, m, t.tombstones) {
-        let slot = octets::get_u64(tombstones, t.tombstones * TOMBSTONE_WIDTH);
+    if held.tombstone_first(t.next) {
+        let slot = octets::get_u64(held.tombstones.area, t.next.tombstones * TOMBSTONE_WIDTH);
         answers::delete_courier(actions, t.listed * 13, slot);
-        t.tombstones += 1;
+        t.next.tombstones += 1;
     } else {
-        let slot = octets::get_u64(carried, t.carried * CARRIED_WIDTH);
+        let slot = octets::get_u64(held.carried.area, t.next.carried * CARRIED_WIDTH);
         answers::delete_courier(actions, t.listed * 13, slot);
-        t.carried += 1;
+        t.next.carried += 1;
     }
     t.listed += 1;
 }
 
 // Lists the deletions behind k actions; answers how many are listed.
-fn list_held(
-    carried: &[u8],
-    carried_count: usize,
-    tombstones: &[u8],
-    tombstone_count: usize,
-    minute: u32,
-    k: usize,
-    actions: &mut [u8],
-) -> usize
-    requires { (k + (held (length carried.now) carried_width carried_count + held (length tombstones.now) tombstone_width tombstone_count)) * 13 ≤ length actions.old }
-    ensures { Listed actions.old k (map delete_courier (expired_slots minute (table_of carried_codec carried_count carried.now) (table_of tombstone_codec tombstone_count tombstones.now))) result actions.new }
+fn list_held(held: Held, minute: u32, k: usize, actions: &mut [u8]) -> usize
+    requires { (k + (held.carried.count + held.tombstones.count)) * 13 ≤ length actions.old }
+    ensures { Listed actions.old k (map delete_courier (expired_slots minute (rows_in carried_codec held.entry.carried) (rows_in tombstone_codec held.entry.tombstones))) result actions.new }
 {
-    let n = table::fit(carried.len(), CARRIED_WIDTH, carried_count);
-    let m = table::fit(tombstones.len(), TOMBSTONE_WIDTH, tombstone_count);
-    let mut t = Turn {
+    let next = Cursor {
         carried: 0,
         tombstones: 0,
-        listed: k,
     };
-    // A `while`: each turn goes on in one of two tables, by slot, so that no one index or iterator counts the turns.
-    while t.carried + t.tombstones < n + m {
-        list_one(carried, n, tombstones, m, minute, &mut t, actions);
+    let mut t = Turn { next, listed: k };
+    for _row in 0..held.len() {
+        list_one(held, minute, &mut t, actions);
     }
     t.listed
 }
@@ -134,14 +115,14 @@ fn list_held(
 // ---- own rows
 
 // Lists an own put for each own row that has expired; answers how many are listed.
-fn list_own(own: &[u8], count: usize, minute: u32, actions: &mut [u8]) -> usize
-    requires { held (length own.now) own_width count * 13 ≤ length actions.old }
-    ensures { Listed actions.old 0 (own_puts minute (table_of own_codec count own.now)) result actions.new }
+fn list_own(own: Table<OWN_WIDTH>, minute: u32, actions: &mut [u8]) -> usize
+    requires { held (length own.area.now) own_width own.count * 13 ≤ length actions.old }
+    ensures { Listed actions.old 0 (own_puts minute (rows_in own_codec own.entry)) result actions.new }
 {
-    let n = table::fit(own.len(), OWN_WIDTH, count);
+    let n = own.len();
     let mut k = 0;
     for i in 0..n {
-        let row = rows::own_at(own, i * OWN_WIDTH);
+        let row = Own::read(own.area, i * OWN_WIDTH);
         if row.expiry_min <= minute {
             answers::put_queued(actions, k * 13, row.contact, row.msgno);
             k += 1;
@@ -154,7 +135,7 @@ fn list_own(own: &[u8], count: usize, minute: u32, actions: &mut [u8]) -> usize
 fn stays(row: Own, minute: u32) -> bool
     ensures { result ≡ not (own_expired minute row && is_renewed row) }
 {
-    minute < row.expiry_min || row.renewed == 0
+    row.renewed == 0 || minute < row.expiry_min
 }
 
 // The row renewed if it has expired.
@@ -173,16 +154,16 @@ fn renew_expired(row: Own, minute: u32, copies: u8, end: u32) -> Own
 }
 
 // Takes out the rows expired the second time and renews the other expired ones; answers how many are left.
+// (The area is the host's and the count is the device's; a Table is read only, and here the rows change.)
 fn maintain_own(own: &mut [u8], count: usize, minute: u32, copies: u8, end: u32) -> usize
     ensures { Rewritten own_codec own.old (maintain_own minute copies end (table_of own_codec count own.old)) result own.new }
 {
     let n = table::fit(own.len(), OWN_WIDTH, count);
     let mut k = 0;
     for i in 0..n {
-        let row = rows::own_at(own, i * OWN_WIDTH);
+        let row = Own::read(own, i * OWN_WIDTH);
         if stays(row, minute) {
-            let b = rows::own_bytes(renew_expired(row, minute, copies, end));
-            octets::copy_in(own, k * OWN_WIDTH, &b);
+            renew_expired(row, minute, copies, end).put(own, k * OWN_WIDTH);
             k += 1;
         }
     }
@@ -190,6 +171,38 @@ fn maintain_own(own: &mut [u8], count: usize, minute: u32, copies: u8, end: u32)
 }
 
 // ---- the call
+
+// Lists what maintenance does: the own puts, then the deletions. Answers how many are listed.
+fn list_actions(
+    device: Device,
+    own: &[u8; 13824],
+    carried: &[u8; 14592],
+    tombstones: &[u8],
+    minute: u32,
+    actions: &mut [u8],
+) -> usize
+    requires { 13 * (512 + length tombstones.now / 44) ≤ length actions.old }
+    ensures { Listed actions.old 0
+        (own_puts minute (table_of own_codec device.own own.now)
+        ++ map delete_courier (expired_slots minute (table_of carried_codec device.carried carried.now) (table_of tombstone_codec device.tombstones tombstones.now)))
+        result actions.new }
+{
+    let own_rows = Table {
+        area: own,
+        count: device.own,
+    };
+    let carried_rows = Table {
+        area: carried,
+        count: device.carried,
+    };
+    let tombstone_rows = Table {
+        area: tombstones,
+        count: device.tombstones,
+    };
+    let k = list_own(own_rows, minute, actions);
+    let held = Held::fit(carried_rows, tombstone_rows);
+    list_held(held, minute, k, actions)
+}
 
 // Renews and drops own rows, then deletes the held rows that have expired. Answers how many actions are listed.
 pub fn maintain_couriers(
@@ -209,17 +222,8 @@ pub fn maintain_couriers(
         return Err(Refusal::ShortArea);
     }
     let minute = contacts::now_min(device.now_s);
+    let listed = list_actions(*device, own, carried, tombstones, minute, actions);
     let end = contacts::lifetime_end(device.now_s, device.courier);
-    let k = list_own(own, device.own, minute, actions);
-    let listed = list_held(
-        carried,
-        device.carried,
-        tombstones,
-        device.tombstones,
-        minute,
-        k,
-        actions,
-    );
     device.own = maintain_own(own, device.own, minute, device.courier.copies, end);
     device.carried = keep_live(
         carried,

@@ -70,11 +70,10 @@ module _ (answer : State → List Reachable → ContactId → Result) where
       where
         go : Tested (tests s C) → (many : Bool) → too_many s.session.exchange 0 ≡ many
             → (step s C ≡ answer_inventory s (window_rows window) peer) × (step_before answer s C ≡ answer s (window_rows window) peer)
-        go (refuses why h) many m = let e = sym d ∙ ap (λ (o : Result). o.answer) (h _) in let z : ◌≡◌ {A = ℕ} 0 1 = cc in absurd (omega arith)
+        go (refuses why h) many m = let e = sym d ∙ ap (λ (o : Result). o.answer) (h _) in cc
         go (passes h) true m =
             let e : done ≡ malformed = sym d ∙ ap (λ (o : Result). o.answer) (h _) ∙ rw (n, m) in
-            let z : ◌≡◌ {A = ℕ} 0 1 = cc in
-            absurd (omega arith)
+            cc
         go (passes h) false m = (h _ ∙ rw (n, m), h _ ∙ rw (n, m))
 
   -- every call's answer is the same, or the call is a terminator

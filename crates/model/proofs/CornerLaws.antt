@@ -1,7 +1,9 @@
 -- Laws on which the corners stand: what a list has, its first row with a tag, Duplicate, Full, offers, tombstones by slot.
 -- Assumes nothing.
-use Rattle.std.proofs.Common.{◌≡◌, ℕ, suc, ◌+◌, ◌/◌, ◌^◌, ◌<◌, ◌≤◌, Bool, true, false, cond, ◌&&◌, ◌||◌, ltb, leb, ◌⊎◌, ◌↔◌, List, [], ◌∷◌, ◌++◌, map, length, get_or, take, drop, sym, refl, ap, ◌∙◌, subst, ap₂, inl, inr, ⊎_elim, append-nil, arith, take-append-drop, ltb-false, ltb-true, le-ltb, lt-ltb, leb-false, Option, Some, None}
-use mathlib.Core.Bool.{or-true, false≢true}
+use Rattle.std.proofs.Common.{◌≡◌, ℕ, suc, ◌+◌, ◌/◌, ◌^◌, ◌<◌, ◌≤◌, Bool, true, false, cond, ◌||◌, ltb, leb, ◌⊎◌, ◌↔◌, List, [], ◌∷◌, ◌++◌, map, length, get_or, take, drop, sym, refl, ap, ◌∙◌, subst, ap₂, inl, inr, ⊎_elim, append-nil, arith, take-append-drop, ltb-false, ltb-true, le-ltb, lt-ltb, leb-false, Option, Some, None}
+use mathlib.Core.Bool.{and-false, false≢true}
+pub use Rattle.std.proofs.lemmas.Bool.{or_right}
+use Rattle.std.proofs.lemmas.Bool.{or_left, or_cases, false_from_ne_true}
 use mathlib.Core.List.{map-append, flat_map, Perm, perm_middle}
 use lib.Seq.{take-append_seam, drop-append-add, get_or-append_seam}
 use Rattle.octets.specs.Bytes.{be, same_bytes}
@@ -26,16 +28,6 @@ use Rattle.model.specs.Exchange.{Envelope, envelopes, reply_for, in_question, is
 use Rattle.model.specs.Tombs.{no_tombstone, least_expiry, insert_by_slot}
 use Rattle.model.proofs.Laws.{carried_total_lem, expiry_at, Least, least_expiry_lem}
 use Rattle.model.proofs.KeepRows.{or_false}
-
-or_either : (a b : Bool) → (a || b) ≡ true → (a ≡ true) ⊎ (b ≡ true)
-or_either true b h = inl refl
-or_either false b h = inr h
-
-or_left : (a b : Bool) → a ≡ true → (a || b) ≡ true
-or_left a b h = ap (λ (t : Bool). t || b) h
-
-pub or_right : (a b : Bool) → b ≡ true → (a || b) ≡ true
-or_right a b h = ap (λ (t : Bool). a || t) h ∙ or-true a
 
 -- ---- what a list has
 
@@ -72,14 +64,10 @@ module _ {A : Type 0} (f : A → List ℕ) (bytes : List ℕ) where
   pub any_has : (xs : List A) → any same xs ≡ true → Has f bytes xs
   unfolding any
   any_has [] e = absurd (false≢true e)
-  any_has (x ∷ xs) e = ⊎_elim (λ t. here (same_eq (f x) bytes t)) (λ u. there (any_has xs u)) (or_either (same x) (any same xs) e)
+  any_has (x ∷ xs) e = ⊎_elim (λ t. here (same_eq (f x) bytes t)) (λ u. there (any_has xs u)) (or_cases (same x) (any same xs) e)
 
   pub has_none : (xs : List A) → (Has f bytes xs → ⊥) → any same xs ≡ false
-  has_none xs k = go (any same xs) refl
-    where
-      go : (b : Bool) → any same xs ≡ b → any same xs ≡ false
-      go true e = absurd (k (any_has xs e))
-      go false e = e
+  has_none xs k = false_from_ne_true (any same xs) (λ e. k (any_has xs e))
 
 abbrev pub OwnHas : List Own → List ℕ → Type 0
 OwnHas rows tag = Has (λ (o : Own). o.tag) tag rows
@@ -164,8 +152,8 @@ module _ (s : State) (tag : List ℕ) where
   unfolding duplicate
   duplicate_has = (
     λ e. ⊎_elim
-        (λ a. ⊎_elim (λ b. inl (any_has (λ (o : Own). o.tag) tag s.own b)) (λ b. inr (inl (any_has (λ (r : Carried). r.tag) tag s.carried b))) (or_either own carried a))
-        (λ b. inr (inr (any_has (λ (t : Tombstone). t.tag) tag s.tombstones b))) (or_either (own || carried) ended e),
+        (λ a. ⊎_elim (λ b. inl (any_has (λ (o : Own). o.tag) tag s.own b)) (λ b. inr (inl (any_has (λ (r : Carried). r.tag) tag s.carried b))) (or_cases own carried a))
+        (λ b. inr (inr (any_has (λ (t : Tombstone). t.tag) tag s.tombstones b))) (or_cases (own || carried) ended e),
     λ h. ⊎_elim
         (λ a. or_left (own || carried) ended (or_left own carried (has_any (λ (o : Own). o.tag) tag s.own a)))
         (λ b. ⊎_elim (λ a. or_left (own || carried) ended (or_right own carried (has_any (λ (r : Carried). r.tag) tag s.carried a)))
@@ -208,7 +196,7 @@ module _ {A : Type 0} (p : A → Bool) where
   find_without [] y a e = rw e
   find_without (b ∷ x) y a e = ap (λ (o : Option A). cond (p b) (Some b) o) (find_without x y a e)
 
-abbrev offer_for : Envelope → Offer
+abbrev pub offer_for : Envelope → Offer
 offer_for e = record { tag = e.head.tag; copies = e.head.copies }
 
 -- the offer of an envelope is found by its tag
@@ -270,18 +258,14 @@ unfolding is_offered in_question
 is_offered_lem ts listed e c t l =
     rw (lt-ltb 1 e.head.copies c, has_none (λ (r : Tombstone). r.tag) e.head.tag ts t, has_none (λ (b : List ℕ). b) (trunc8 e.head.tag) listed l)
 
-and_false : (b : Bool) → (b && false) ≡ false
-and_false true = refl
-and_false false = refl
-
 -- its prefix listed: not in question; a tombstone of the tag: not offered
 pub listed_out : (listed : List (List ℕ)) (e : Envelope) → Has (λ (b : List ℕ). b) (trunc8 e.head.tag) listed → in_question listed e ≡ false
 unfolding in_question
-listed_out listed e h = rw (has_any (λ (b : List ℕ). b) (trunc8 e.head.tag) listed h) (and_false (ltb 1 e.head.copies))
+listed_out listed e h = rw (has_any (λ (b : List ℕ). b) (trunc8 e.head.tag) listed h) (and-false (ltb 1 e.head.copies))
 
 pub tombstoned_out : (ts : List Tombstone) (listed : List (List ℕ)) (e : Envelope) → TombstonesHave ts e.head.tag → is_offered ts listed e ≡ false
 unfolding is_offered
-tombstoned_out ts listed e h = rw (has_any (λ (r : Tombstone). r.tag) e.head.tag ts h) (and_false (in_question listed e))
+tombstoned_out ts listed e h = rw (has_any (λ (r : Tombstone). r.tag) e.head.tag ts h) (and-false (in_question listed e))
 
 -- The answer to the terminator offers n copies of an envelope, after which the envelopes y stand: a reply, whose last byte they are, and
 -- the exchange's row of the tag, which the last envelope of that tag gives.

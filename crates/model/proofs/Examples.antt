@@ -32,7 +32,7 @@ use Rattle.model.specs.Custody as model
 use Rattle.model.specs.Exchange
 use Rattle.model.specs.Tombs
 use Rattle.model.specs.Maintenance
-use Rattle.model.specs.Areas.{PostAreas, no_session_areas, view, view_session, view_post, store, store_device, store_session, areas_for, after_areas, run_areas}
+use Rattle.model.specs.Areas.{PostAreas, SessionAreas, no_session_areas, view, view_session, view_post, store, store_device, store_session, areas_for, after_areas, run_areas}
 use Rattle.model.specs.Step.{Post, Lent, empty_state, tests, perform, step, state_for, answer_to, after, run, results}
 
 -- two cells of each kind, R = 4, three sessions
@@ -97,11 +97,12 @@ pub open_for : ℕ → ℕ → List Lent
 unfolding lend id
 open_for i peer = lend i (Calls.contact (id peer) verification.Unverified) ∷ lend i (Calls.open_exchange (id peer)) ∷ []
 
-pub terminator : ℕ → ℕ → Lent
+-- the empty inventory
+unfoldable pub terminator : ℕ → ℕ → Lent
 unfolding lend id
 terminator i peer = lend i (Calls.inventory_received 61440 [] (id peer) [])
 
-pub code : ℕ → ℕ → Custody → Lent
+unfoldable pub code : ℕ → ℕ → Custody → Lent
 unfolding lend id of_byte
 code i peer said = lend i (Calls.custody_answer 6708 (id peer) (of_byte 17) said)
 
@@ -145,7 +146,7 @@ with_row secret = record {
   sessions = wide ∷ [];
 }
 
-opens : (secret : List ℕ) → tombstone_matches (commitment_of secret) secret ≡ true
+pub opens : (secret : List ℕ) → tombstone_matches (commitment_of secret) secret ≡ true
 unfolding tombstone_matches
 opens secret = same_refl (commitment_of secret)
 
@@ -230,8 +231,12 @@ tombstone_duplicate = (refl, refl)
 
 -- ---- the worked example on areas of any bytes, through view and store
 
-areas : PostAreas
-areas = record {
+unfoldable pub session_areas : SessionAreas
+session_areas = record { exchange = closed_exchange; prefixes = replicate 4096 7; offers = replicate 8704 7 }
+
+-- fresh areas with R = 4, so many bytes of cells of each kind and these sessions, any bytes in them
+unfoldable pub areas_of : ℕ → ℕ → List SessionAreas → PostAreas
+areas_of own_cells carried_cells sessions = record {
   areas = record {
     device = fresh_device;
     contacts = replicate 2304 7;
@@ -239,12 +244,16 @@ areas = record {
     carried = replicate 14592 7;
     tombstones = replicate 176 7;
     bad_tags = replicate 96 7;
-    own_cells = replicate 4128 7;
-    carried_cells = replicate 4128 7;
+    own_cells = replicate own_cells 7;
+    carried_cells = replicate carried_cells 7;
     session = no_session_areas;
   };
-  sessions = record { exchange = closed_exchange; prefixes = replicate 4096 7; offers = replicate 8704 7 } ∷ [];
+  sessions = sessions;
 }
+
+areas : PostAreas
+unfolding session_areas areas_of
+areas = areas_of 4128 4128 (session_areas ∷ [])
 
 view_after : List Lent → List Carried × ℕ
 unfolding rows_of areas run_areas after_areas areas_for view view_session store store_device store_session codec.with_table table.written num encoded.carried_of encoded.carried_bytes encoded.contact_of encoded.contact_bytes

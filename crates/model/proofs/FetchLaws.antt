@@ -16,7 +16,7 @@ use Rattle.model.specs.Calls.{Call, Result, result, telling, done, fetch_reply}
 use Rattle.model.specs.Window.{no_reachable, window_rows, lookup, is_bad}
 use Rattle.model.specs.Custody.{tombstone_of_tag}
 use Rattle.model.specs.Exchange.{reply_for, not_fetched, fetch_for, tomb_for, offers, answer_inventory}
-use Rattle.model.specs.Step.{Post, Lent, step, after, run}
+use Rattle.model.specs.Step.{Post, Lent, step, run}
 use Rattle.model.specs.Before.{fetch_for_before_two, answer_inventory_before_two, step_before_two, run_before_two}
 use Rattle.model.proofs.BeforeLaws.{Terminator, either, terminator_answers, same_run}
 use Rattle.model.proofs.CornerLaws.{FirstOf, first_place, first_row, has_any, any_has, place_first, or_right, TombstonesHave}

@@ -1,10 +1,12 @@
 -- Rows that a call makes are in range: small facts, contacts, cells, offers.
 -- Assumes nothing.
-use Rattle.std.proofs.Common.{◌≡◌, ℕ, zero, suc, ◌+◌, ◌-◌, ◌/◌, ◌^◌, ◌<◌, ◌≤◌, min, Bool, true, false, cond, not, ◌&&◌, ◌||◌, eqb, ltb, leb, List, [], ◌∷◌, ◌++◌, map, length, sym, refl, ap, ◌∙◌, arith, length-append, ltb-false, ltb-true, leb-false, leb-true, Option, Some, None}
+pub use Rattle.std.proofs.lemmas.Bool.{or_parts as or_false}
+use Rattle.std.proofs.Common.{◌≡◌, ℕ, zero, suc, ◌+◌, ◌/◌, ◌^◌, ◌<◌, ◌≤◌, min, Bool, true, false, cond, not, ◌&&◌, eqb, ltb, leb, List, [], ◌∷◌, ◌++◌, map, length, sym, refl, ap, ◌∙◌, arith, length-append, ltb-false, ltb-true, leb-false, Option, Some, None}
 use mathlib.Core.Bool.{false≢true}
 use native.Mathlib.Nat.{min-le_left, min-le_right}
 use lib.ListN.{length-map}
 use borrow.Author.Tests.{eqb-false}
+use Rattle.std.proofs.lemmas.Bool.{not_from_false}
 use Rattle.courier_core.specs.Core.{verification_byte}
 use Rattle.courier_core.specs.declared.ContactId.{ContactId}
 use Rattle.courier_core.specs.declared.Verification.{Verification}
@@ -12,9 +14,10 @@ use Rattle.courier_core.specs.declared.Verification.TheVariants as verification
 use Rattle.table.specs.Lists.{All, more, any, filter, position, is_at, unwrap_or, replace_at}
 use Rattle.table.proofs.ListLaws.{length_replace_at, all_push, all_replace_at, all_filter, length_filter, all_map, all_imp, all_append}
 use Rattle.table.proofs.FindLaws.{position_any, position_first}
+use Rattle.courier.specs.declared.Custody.{Custody}
 use Rattle.courier.specs.declared.Custody.TheVariants as custody
-use Rattle.courier.specs.Courier.{envelope_valid, carried_length}
-use Rattle.chain.specs.Chain.{is_bucket}
+use Rattle.courier.specs.Courier.{envelope_valid}
+use Rattle.courier.proofs.Laws.{carried_fits, valid_parts}
 use Rattle.rows.specs.declared.Contact.{Contact}
 use Rattle.rows.specs.declared.Offer.{Offer}
 use Rattle.rows.specs.Proper.{Run, ProperContact, ProperOffer}
@@ -31,18 +34,6 @@ use Rattle.model.proofs.KeepLaws.{Few}
 pub and_false : (a b : Bool) → a ≡ true → (a && b) ≡ false → b ≡ false
 and_false true b e h = h
 and_false false b e h = absurd (false≢true e)
-
-pub or_false : (a b : Bool) → (a || b) ≡ false → (a ≡ false) × (b ≡ false)
-or_false true b h = absurd (false≢true (sym h))
-or_false false b h = (refl, h)
-
-and_true : (a b : Bool) → (a && b) ≡ true → (a ≡ true) × (b ≡ true)
-and_true true b h = (refl, h)
-and_true false b h = absurd (false≢true h)
-
-not_is : (b : Bool) → b ≡ false → not b ≡ true
-not_is true h = absurd (false≢true (sym h))
-not_is false h = refl
 
 pub small : (v : Verification) → verification_byte v < 2 ^ 8
 small verification.Unverified = omega arith
@@ -82,28 +73,28 @@ put_contact_lem ps id v h g t = go (position (is_contact id) ps) refl
     go None e =
         let new : any (is_contact id) ps ≡ false = sym (position_any (is_contact id) 0 ps) ∙ ap is_at e in (
           all_push ps p g.0 proper,
-          omega (arith, length-append ps (p ∷ []), leb-false 256 (length ps) (and_false (not (any (is_contact id) ps)) (leb 256 (length ps)) (not_is (any (is_contact id) ps) new) t)),
+          omega (arith, length-append ps (p ∷ []), leb-false 256 (length ps) (and_false (not (any (is_contact id) ps)) (leb 256 (length ps)) (not_from_false (any (is_contact id) ps) new) t)),
         )
 
 -- ---- envelope
 
 -- a code is Accepted where on, valid, no duplicate, and not full
-pub accepted : (on valid dup much : Bool)
-    → cond (not on) custody.Off (cond (not valid) custody.Invalid (cond dup custody.Duplicate (cond much custody.Full custody.Accepted))) ≡ custody.Accepted
-    → (valid ≡ true) × (much ≡ false)
-accepted true true false false e = (refl, refl)
-accepted false valid dup much e = let z : ◌≡◌ {A = ℕ} 0 1 = cc in absurd (omega arith)
-accepted true false dup much e = let z : ◌≡◌ {A = ℕ} 0 1 = cc in absurd (omega arith)
-accepted true true true much e = let z : ◌≡◌ {A = ℕ} 0 1 = cc in absurd (omega arith)
-accepted true true false true e = let z : ◌≡◌ {A = ℕ} 0 1 = cc in absurd (omega arith)
+abbrev pub code : (on valid dup much : Bool) → Custody
+code on valid dup much = cond (not on) custody.Off (cond (not valid) custody.Invalid (cond dup custody.Duplicate (cond much custody.Full custody.Accepted)))
+
+pub passed_all : (on valid dup much : Bool) → code on valid dup much ≡ custody.Accepted → (valid ≡ true) × (dup ≡ false) × (much ≡ false)
+passed_all true true false false e = (refl, refl, refl)
+passed_all false valid dup much e = cc
+passed_all true false dup much e = cc
+passed_all true true true much e = cc
+passed_all true true false true e = cc
+
+pub accepted : (on valid dup much : Bool) → code on valid dup much ≡ custody.Accepted → (valid ≡ true) × (much ≡ false)
+accepted on valid dup much e = let q = passed_all on valid dup much e in (q.0, q.2)
 
 -- a valid envelope's ciphertext fits a cell
 pub valid_length : (len copies expiry minute : ℕ) → envelope_valid len copies expiry minute ≡ true → len ≤ 2064
-unfolding envelope_valid carried_length
-valid_length len copies expiry minute h =
-    let a : (leb 16 len && leb (len - 16) 2048) ≡ true =
-    (and_true (leb 16 len && leb (len - 16) 2048) (is_bucket (len - 16)) (and_true (carried_length len) (ltb 0 copies) (and_true (carried_length len && ltb 0 copies) (ltb minute expiry) h).0).0).0 in
-    omega (arith, leb-true (len - 16) 2048 (and_true (leb 16 len) (leb (len - 16) 2048) a).1)
+valid_length len copies expiry minute h = (carried_fits len (valid_parts len copies expiry minute h).0).1
 
 -- a new cell is one of 256
 free_small : (n i : ℕ) (named : List ℕ) → unwrap_or 0 (free_from n i named) ≤ i + n

@@ -35,22 +35,22 @@ unfolding tags own_of carried_of rows_of envelopes Exchange.own_envelope_of Exch
 seen_by_a_peer = refl
 
 -- A row's envelope: its tag, commitment (an own row's is of its secret), expiry and copies, and where its ciphertext is. It is offered with half of the copies.
-abbrev an_own : Own
-an_own = record { contact = id 6; msgno = 1; tag = of_byte 2; s = of_byte 3; expiry_min = 90; copies = 7; renewed = 1; len = 40; cell = 11 }
+abbrev own_row : Own
+own_row = record { contact = id 6; msgno = 1; tag = of_byte 2; s = of_byte 3; expiry_min = 90; copies = 7; renewed = 1; len = 40; cell = 11 }
 
-abbrev a_carried : Carried
-a_carried = record { slot = 8; depositor = id 5; tag = of_byte 4; c = of_byte 5; expiry_min = 91; copies = 6; len = 41; cell = 12 }
+abbrev carried_row : Carried
+carried_row = record { slot = 8; depositor = id 5; tag = of_byte 4; c = of_byte 5; expiry_min = 91; copies = 6; len = 41; cell = 12 }
 
-own_as : ℕ → Envelope
-own_as n = record { head = record { tag = of_byte 2; c = commitment_of (of_byte 3); expiry_min = 90; copies = n }; cells = of_own; cell = 11; len = 40 }
+own_envelope : ℕ → Envelope
+own_envelope n = record { head = record { tag = of_byte 2; c = commitment_of (of_byte 3); expiry_min = 90; copies = n }; cells = of_own; cell = 11; len = 40 }
 
-carried_as : ℕ → Envelope
-carried_as n = record { head = record { tag = of_byte 4; c = of_byte 5; expiry_min = 91; copies = n }; cells = of_carried; cell = 12; len = 41 }
+carried_envelope : ℕ → Envelope
+carried_envelope n = record { head = record { tag = of_byte 4; c = of_byte 5; expiry_min = 91; copies = n }; cells = of_carried; cell = 12; len = 41 }
 
 as_held_and_offered :
-    (envelopes (an_own ∷ []) (a_carried ∷ []) (id 5) ≡ own_as 7 ∷ carried_as 6 ∷ [])
-    × (map halved (envelopes (an_own ∷ []) (a_carried ∷ []) (id 5)) ≡ own_as 3 ∷ carried_as 3 ∷ [])
-unfolding own_as carried_as rows_of envelopes halved Exchange.own_envelope_of Exchange.carried_envelope_of
+    (envelopes (own_row ∷ []) (carried_row ∷ []) (id 5) ≡ own_envelope 7 ∷ carried_envelope 6 ∷ [])
+    × (map halved (envelopes (own_row ∷ []) (carried_row ∷ []) (id 5)) ≡ own_envelope 3 ∷ carried_envelope 3 ∷ [])
+unfolding own_envelope carried_envelope rows_of envelopes halved Exchange.own_envelope_of Exchange.carried_envelope_of
 as_held_and_offered = (refl, refl)
 
 -- Contact 5 has listed the prefix of the carried row 4. Besides there are an own row for it, an own row with one copy, a carried row whose tag is tombstoned,

@@ -30,12 +30,12 @@ pub record GoodPost (p : PostAreas) : Type 0 where
 -- ---- lists
 
 module _ {A : Type 0} {P : A → Type 0} where
-  all_get_d : (xs : List A) (i : ℕ) (d : A) → All P xs → P d → P (get_or xs i d)
+  pub all_get_d : (xs : List A) (i : ℕ) (d : A) → All P xs → P d → P (get_or xs i d)
   all_get_d [] i d p q = q
   all_get_d (x ∷ xs) zero d (more h p) q = h
   all_get_d (x ∷ xs) (suc i) d (more h p) q = all_get_d xs i d p q
 
-  all_set : (xs : List A) (i : ℕ) (x : A) → All P xs → P x → All P (set xs i x)
+  pub all_set : (xs : List A) (i : ℕ) (x : A) → All P xs → P x → All P (set xs i x)
   all_set [] i x p q = none
   all_set (y ∷ ys) zero x (more h p) q = more q p
   all_set (y ∷ ys) (suc i) x (more h p) q = more h (all_set ys i x p q)
@@ -47,14 +47,14 @@ map_set f (y ∷ ys) (suc i) x = ap (λ (l : List _). f y ∷ l) (map_set f ys i
 
 -- ---- the session that is lent
 
-no_session_lem : view_session no_session_areas ≡ no_session
+pub no_session_lem : view_session no_session_areas ≡ no_session
 unfolding view_session table_of held rows
 no_session_lem = refl
 
-no_session_good : GoodSession no_session
+pub no_session_good : GoodSession no_session
 no_session_good = record { listed = none; offered = none; listed_few = omega arith; offered_few = omega arith; listed_fit = omega arith; offered_fit = omega arith }
 
-good_with : (s : State) (e : Session) → Good s → GoodSession e → Good (with_session s e)
+pub good_with : (s : State) (e : Session) → Good s → GoodSession e → Good (with_session s e)
 good_with s e g h = record {
   contacts = g.contacts;
   own = g.own;
@@ -76,7 +76,7 @@ unfolding view
 session_of a g = g.session
 
 module _ (p : PostAreas) (l : Lent) where
-  lent_view : view (areas_for p l) ≡ state_for (view_post p) l
+  pub lent_view : view (areas_for p l) ≡ state_for (view_post p) l
   unfolding areas_for state_for view_post view
   lent_view =
       ap (with_session (view p.areas))

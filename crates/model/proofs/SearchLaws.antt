@@ -12,7 +12,7 @@ module _ {A E : Type 0} (f : A → E) (p : E → Bool) (k : A → Bool) (ys : Li
   find_first : (d : A) (xs : List A) (j i : ℕ) → position_from j q xs ≡ Some i
       → (j ≤ i) × (find p (map f (filter k xs) ++ ys) ≡ Some (f (get_or xs (i - j) d)))
   unfolding position_from filter find
-  find_first d [] j i e = let z : ◌≡◌ {A = ℕ} 0 1 = cc in absurd (omega arith)
+  find_first d [] j i e = cc
   find_first d (x ∷ xs) j i e = go (k x) (p (f x)) refl refl e (find_first d xs (suc j) i)
     where
       go : (b c : Bool) → k x ≡ b → p (f x) ≡ c → cond (b && c) (Some j) (position_from (suc j) q xs) ≡ Some i
@@ -33,7 +33,7 @@ module _ {A E : Type 0} (f : A → E) (p : E → Bool) (k : A → Bool) (ys : Li
       go : (b c : Bool) → k x ≡ b → p (f x) ≡ c → cond (b && c) (Some j) (position_from (suc j) q xs) ≡ None
           → (position_from (suc j) q xs ≡ None → find p (map f (filter k xs) ++ ys) ≡ find p ys)
           → find p (map f (cond b (x ∷ filter k xs) (filter k xs)) ++ ys) ≡ find p ys
-      go true true t u h rest = let z : ◌≡◌ {A = ℕ} 0 1 = cc in absurd (omega arith)
+      go true true t u h rest = cc
       go true false t u h rest = rw u (rest h)
       go false c t u h rest = rest h
 

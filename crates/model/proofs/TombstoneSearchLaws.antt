@@ -1,6 +1,7 @@
 -- Request Three: an answered terminator tells how many rows would be offered if no tag were tombstoned, and nothing else of any answer is another than before.
 -- Assumes nothing.
-use Rattle.std.proofs.Common.{◌≡◌, ℕ, suc, ◌+◌, ◌≤◌, Bool, true, false, cond, not, ◌&&◌, eqb, ltb, ◌⊎◌, List, [], ◌∷◌, ◌++◌, map, length, get_or, sym, refl, ap, ◌∙◌, subst, inl, inr, ⊎_elim, arith, Option, Some, None}
+use Rattle.std.proofs.Common.{◌≡◌, ℕ, suc, ◌≤◌, Bool, true, false, cond, not, ◌&&◌, eqb, ltb, ◌⊎◌, List, [], ◌∷◌, ◌++◌, map, length, get_or, sym, refl, ap, ◌∙◌, subst, inl, inr, ⊎_elim, arith, Option, Some, None}
+use mathlib.Core.Bool.{and-true}
 use mathlib.Core.List.{flat_map}
 use lib.ListN.{length-map}
 use Rattle.octets.specs.Bytes.{same_bytes}
@@ -63,11 +64,7 @@ module _ (ts : List Tombstone) (listed : List (List ℕ)) (e : Envelope) where
 -- no tag tombstoned: what is offered are the rows in question
 free_offered : (listed : List (List ℕ)) (e : Envelope) → is_offered [] listed e ≡ in_question listed e
 unfolding is_offered any
-free_offered listed e = go (in_question listed e)
-  where
-    go : (b : Bool) → (b && not false) ≡ b
-    go true = refl
-    go false = refl
+free_offered listed e = and-true (in_question listed e)
 
 offers_same : (s : State) (peer : ContactId) → offers s peer ≡ offers_before_three s peer
 unfolding offers offers_before_three

@@ -1,11 +1,8 @@
 -- Laws of bytes and of big-endian numbers, over any width.
 -- Assumes nothing.
-use mathlib.Core.Path.{◌≡◌, refl, sym, ap, ap₂, subst, ◌∙◌}
-use mathlib.Core.List.{List, [], ◌∷◌, ◌++◌}
-use Prim.Native.Nat.{ℕ, zero, suc, ◌+◌, ◌-◌, ◌*◌, ◌/◌, ◌%◌, ◌^◌, ◌≤◌, ◌<◌}
-use native.Mathlib.Nat.{add_assoc, mul_assoc, add-mul, mod-one, mod-eq_of_lt, mul-le-mul_right, mul-add-div_right, div-one, pow-suc, mul_comm}
-use native.Mathlib.Omega.{arith}
-use lib.ListN.{length, take, drop, get_or, length-append}
+use Rattle.std.proofs.Common.{◌≡◌, ℕ, zero, suc, ◌+◌, ◌-◌, ◌*◌, ◌/◌, ◌%◌, ◌^◌, ◌≤◌, ◌<◌, List, [], ◌∷◌, ◌++◌, length, take, drop, get_or, refl, sym, ap, ap₂, subst, ◌∙◌, arith}
+use Rattle.std.proofs.lemmas.Grind.{common_steps}
+use native.Mathlib.Nat.{mul_assoc, add-mul, mod-one, mod-eq_of_lt, mul-le-mul_right, mul-add-div_right, div-one, pow-suc, mul_comm}
 use lib.Seq.{get_or-drop}
 use lib.Pow.{mod-pow-add, pow-add, pow_pos, high, shr-shr, field, mod-mod-pow}
 use mir.Syntax.{w8}
@@ -19,10 +16,7 @@ use Rattle.octets.proofs.Parts.{length_part, part_one}
 -- what is taken of bytes is bytes
 pub bytes_take : (n : ℕ) (a : List ℕ) → Bytes a → Bytes (take n a)
 unfolding Bytes
-bytes_take zero a h i = omega arith
-bytes_take (suc n) [] h i = h i
-bytes_take (suc n) (x ∷ xs) h zero = h 0
-bytes_take (suc n) (x ∷ xs) h (suc i) = bytes_take n xs (λ j. h (suc j)) i
+bytes_take n a h = grind (arith, common_steps)
 
 pub bytes_drop : (n : ℕ) (a : List ℕ) → Bytes a → Bytes (drop n a)
 unfolding Bytes
@@ -30,9 +24,7 @@ bytes_drop n a h i = rw get_or-drop (h (n + i))
 
 pub bytes_append : (x y : List ℕ) → Bytes x → Bytes y → Bytes (x ++ y)
 unfolding Bytes
-bytes_append [] y p q i = q i
-bytes_append (b ∷ x) y p q zero = p 0
-bytes_append (b ∷ x) y p q (suc i) = bytes_append x y (λ j. p (suc j)) q i
+bytes_append x y p q = grind (arith, common_steps)
 
 -- an array's elements, which fit their type, are bytes
 pub bytes_of : (a : List ℕ) → ((i : ℕ) → Fits w8 (get_or a i 0)) → Bytes a
@@ -52,27 +44,13 @@ length_be (suc n) v = ap suc (length_be n v)
 
 -- one byte more
 pow_step : (n : ℕ) → 2 ^ (8 * suc n) ≡ 256 * 2 ^ (8 * n)
-pow_step n = let e : 8 * suc n ≡ 8 + 8 * n = omega arith in ap (λ (k : ℕ). 2 ^ k) e ∙ pow-add 2 8 (8 * n)
-
--- the bytes of two runs, one after the other
-pub num_append : (x y : List ℕ) → num (x ++ y) ≡ num x * 2 ^ (8 * length y) + num y
-unfolding num
-num_append [] y = omega arith
-num_append (b ∷ x) y =
-    let e : 8 * (length x + length y) ≡ 8 * length x + 8 * length y = omega arith in
-    ap₂ (λ (p q : ℕ). b * p + q) (ap (λ (k : ℕ). 2 ^ (8 * k)) (length-append x y) ∙ ap (λ (k : ℕ). 2 ^ k) e ∙ pow-add 2 (8 * length x) (8 * length y)) (num_append x y)
-    ∙ ap (λ (k : ℕ). k + (num x * 2 ^ (8 * length y) + num y)) (sym (mul_assoc b (2 ^ (8 * length x)) (2 ^ (8 * length y))))
-    ∙ sym (add_assoc (b * 2 ^ (8 * length x) * 2 ^ (8 * length y)) (num x * 2 ^ (8 * length y)) (num y))
-    ∙ ap (λ (k : ℕ). k + num y) (sym (add-mul (b * 2 ^ (8 * length x)) (num x) (2 ^ (8 * length y))))
+pow_step n = grind (arith, pow-add 2 8 (8 * n))
 
 -- the low bytes of a number spell what they say of it
 pub num_be_mod : (n v : ℕ) → num (be n v) ≡ v % 2 ^ (8 * n)
 unfolding num be
 num_be_mod zero v = sym (mod-one v)
-num_be_mod (suc n) v =
-    let e : 8 + 8 * n ≡ 8 * suc n = omega arith in
-    ap₂ (λ (k m : ℕ). v / 2 ^ (8 * n) % 256 * 2 ^ (8 * k) + m) (length_be n v) (num_be_mod n v)
-    ∙ sym (mod-pow-add v 8 (8 * n)) ∙ ap (λ (k : ℕ). v % 2 ^ k) e
+num_be_mod (suc n) v = grind (arith, num_be_mod n v, length_be n v, mod-pow-add v 8 (8 * n))
 
 -- a number that fits is read back
 pub num_be : (n v : ℕ) → v < 2 ^ (8 * n) → num (be n v) ≡ v
@@ -108,7 +86,7 @@ be_num (x ∷ xs) h =
 
 pub be_1 : (v : ℕ) → v < 256 → be 1 v ≡ v ∷ []
 unfolding be
-be_1 v h = let e : v / 1 % 256 ≡ v = omega arith in ap (λ (k : ℕ). k ∷ []) e
+be_1 v h = grind arith
 
 pub bytes_be : (n v : ℕ) → Bytes (be n v)
 unfolding Bytes be
@@ -156,7 +134,7 @@ sum_same f g (suc k) e = ap₂ ◌+◌ (sum_same f g k e) (e (suc k))
 
 worth_is : (n b : ℕ) → byte_worth n b ≡ b * 2 ^ (8 * n)
 worth_is zero b = omega arith
-worth_is (suc n) b = ap (λ (m : ℕ). b * m) (pow_256 (suc n))
+worth_is (suc n) b = grind (arith, pow_256 (suc n))
 
 worth_at : (m k b : ℕ) → m ≡ suc k → byte_worth m b ≡ b * 2 ^ (8 * suc k)
 worth_at m k b e = worth_is m b ∙ ap (λ (n : ℕ). b * 2 ^ (8 * n)) e

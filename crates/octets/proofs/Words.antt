@@ -1,28 +1,22 @@
 -- Byte strings compared by the numbers that they spell, the lowest byte first.
 -- Assumes nothing.
 use mathlib.Core.Path.{◌≡◌, refl, sym, ap, ap₂, ◌∙◌}
-use mathlib.Core.Bool.{Bool, true, false, ◌&&◌, and_assoc}
-use mathlib.Core.List.{List, [], ◌∷◌, ◌++◌}
+use mathlib.Core.Bool.{◌&&◌}
+use mathlib.Core.List.{List, [], ◌∷◌}
 use Prim.Native.Nat.{ℕ, ◌+◌, ◌*◌, ◌≤◌, ◌<◌}
 use native.Mathlib.Omega.{arith}
 use lib.ListN.{length}
 use lib.Dec.{eqb}
 use lib.Bits.{bit_or, bit_xor, or_zero_l}
-use borrow.Author.Tests.{eq-eqb, ne_eqb, eqb-true, eqb-false}
 use Rattle.octets.specs.Bytes.{Bytes, part, low_first, same_bytes}
 use Rattle.octets.proofs.Parts.{length_part, part_add}
 use Rattle.octets.proofs.Numbers.{bytes_drop, bytes_part}
-use Rattle.octets.proofs.Compare.{gathered}
+use Rattle.octets.proofs.Compare.{gathered, same_append}
 
 -- ---- comparison
 
 step : (x y p q : ℕ) → x < 256 → y < 256 → eqb (x + 256 * p) (y + 256 * q) ≡ (eqb x y && eqb p q)
-step x y p q hx hy = go (eqb x y) refl (eqb p q) refl
-  where
-    go : (b : Bool) → eqb x y ≡ b → (d : Bool) → eqb p q ≡ d → eqb (x + 256 * p) (y + 256 * q) ≡ (b && d)
-    go true e true f = eq-eqb (x + 256 * p) (y + 256 * q) (omega (arith, eqb-true x y e, eqb-true p q f))
-    go true e false f = ne_eqb (x + 256 * p) (y + 256 * q) (λ z. eqb-false p q f (omega arith))
-    go false e d f = ne_eqb (x + 256 * p) (y + 256 * q) (λ z. eqb-false x y e (omega arith))
+step x y p q hx hy = grind arith
 
 low_same : (x y : List ℕ) → Bytes x → Bytes y → length x ≡ length y → eqb (low_first x) (low_first y) ≡ same_bytes x y
 unfolding low_first same_bytes Bytes
@@ -30,16 +24,11 @@ low_same [] [] hx hy e = refl
 low_same [] (y ∷ ys) hx hy e = absurd (omega arith)
 low_same (x ∷ xs) [] hx hy e = absurd (omega arith)
 low_same (x ∷ xs) (y ∷ ys) hx hy e =
-    step x y (low_first xs) (low_first ys) (hx 0) (hy 0)
-    ∙ ap (λ (b : Bool). eqb x y && b) (low_same xs ys (bytes_drop 1 (x ∷ xs) hx) (bytes_drop 1 (y ∷ ys) hy) (omega arith))
-
-same_append : (x u y v : List ℕ) → length x ≡ length u → same_bytes (x ++ y) (u ++ v) ≡ (same_bytes x u && same_bytes y v)
-unfolding same_bytes
-same_append [] [] y v e = refl
-same_append [] (b ∷ u) y v e = absurd (omega arith)
-same_append (a ∷ x) [] y v e = absurd (omega arith)
-same_append (a ∷ x) (b ∷ u) y v e =
-    ap (λ (d : Bool). eqb a b && d) (same_append x u y v (omega arith)) ∙ sym (and_assoc (eqb a b) (same_bytes x u) (same_bytes y v))
+    grind (
+      arith,
+      step x y (low_first xs) (low_first ys) (hx 0) (hy 0),
+      low_same xs ys (bytes_drop 1 (x ∷ xs) hx) (bytes_drop 1 (y ∷ ys) hy),
+    )
 
 module _ (a b : List ℕ) (ha : Bytes a) (hb : Bytes b) where
   pub same_8 : (at bt : ℕ) {x y : ℕ} → at + 8 ≤ length a → bt + 8 ≤ length b → x ≡ low_first (part a at 8) → y ≡ low_first (part b bt 8)

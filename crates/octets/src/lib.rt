@@ -1,26 +1,23 @@
 // Bytes in a lent area: runs copied and moved, runs compared, big-endian numbers read and written.
 #![tactic(auto)]
 
-ghost use Rattle.std.specs.Prelude.{◌≡◌, ℕ, ◌+◌, ◌*◌, ◌^◌, ◌≤◌, ◌<◌, min, length};
+ghost use Rattle.std.specs.Prelude.{◌≡◌, ℕ, ◌+◌, ◌*◌, ◌^◌, ◌≤◌, ◌<◌, length};
 ghost use Rattle.octets.specs.Bytes.{Bytes, splice, part, num, be, low_first, same_bytes};
 
-// The lesser of two.
-pub fn least(a: usize, b: usize) -> usize
-    ensures { result ≡ min a b }
-{
-    if a < b { a } else { b }
-}
-
 // Copies src into dst, from index at on.
+// Not `copy_from_slice`: of that, a test for overlap stays in every copy of a few bytes, and a window takes half as long again.
 pub fn copy_in(dst: &mut [u8], at: usize, src: &[u8])
     requires { at + length src.now ≤ length dst.old }
     ensures { dst.new ≡ splice dst.old at src.now }
 {
-    dst[at..at + src.len()].copy_from_slice(src);
+    for k in 0..src.len() {
+        dst[at + k] = src[k];
+    }
 }
 
 // The N bytes of area from index at on: a tag, a secret, a number's bytes.
 // Not `copy_from_slice`: of that, a test for overlap stays in every load of `same`, and a search of tags takes four to six times as long.
+#[tactic(auto, using(crate::proofs::Parts::part_add, crate::proofs::Parts::part_one), unfolding(crate::specs::Bytes::part))]
 pub fn get_array<const N: usize>(area: &[u8], at: usize) -> [u8; N]
     requires { at + N ≤ length area.now }
     ensures { result ≡ part area.now at N }
@@ -40,28 +37,26 @@ pub fn put_array<const N: usize>(area: &mut [u8], at: usize, bytes: [u8; N])
     copy_in(area, at, &bytes);
 }
 
-// Moves n bytes of area from index from to index to: the two runs may overlap.
-pub fn move_run(area: &mut [u8], to: usize, from: usize, n: usize)
-    requires { (from + n ≤ length area.old) × (to + n ≤ length area.old) }
-    ensures { area.new ≡ splice area.old to (part area.old from n) }
-{
-    area.copy_within(from..from + n, to);
-}
-
-// Moves n bytes of area down, from index from to index to.
+// Moves n bytes of area down, from index from to index to: the first byte first.
+// Here and in `move_up` not `copy_within`, whose loop takes its end from a test: the compiler makes the system's memmove of each of these
+// two, and none of that one, and a tomb that moves two tables takes a third longer.
 pub fn move_down(area: &mut [u8], to: usize, from: usize, n: usize)
     requires { (to ≤ from) × (from + n ≤ length area.old) }
     ensures { area.new ≡ splice area.old to (part area.old from n) }
 {
-    move_run(area, to, from, n);
+    for k in 0..n {
+        area[to + k] = area[from + k];
+    }
 }
 
-// Moves n bytes of area up, from index from to index to.
+// Moves n bytes of area up, from index from to index to: the last byte first.
 pub fn move_up(area: &mut [u8], to: usize, from: usize, n: usize)
     requires { (from ≤ to) × (to + n ≤ length area.old) }
     ensures { area.new ≡ splice area.old to (part area.old from n) }
 {
-    move_run(area, to, from, n);
+    for k in (0..n).rev() {
+        area[to + k] = area[from + k];
+    }
 }
 
 // Eight bytes as a number, the first the lowest: the compiler makes one load of it, with nothing to swap.
@@ -84,6 +79,7 @@ fn same_16(a: &[u8], at: usize, b: &[u8], bt: usize) -> bool
 
 // Are the n bytes of a from at on those of b from bt on?
 // Not `==`: tags and secrets are compared in constant time, so every byte is read, whatever came before.
+#[tactic(auto, using(crate::proofs::Compare::same_none, crate::proofs::Compare::same_more))]
 fn same_run(a: &[u8], at: usize, b: &[u8], bt: usize, n: usize) -> bool
     requires { (at + n ≤ length a.now) × (bt + n ≤ length b.now) }
     ensures { result ≡ same_bytes (part a.now at n) (part b.now bt n) }
@@ -109,7 +105,9 @@ pub fn same(a: &[u8], at: usize, b: &[u8], bt: usize, n: usize) -> bool
     same_run(a, at, b, bt, n)
 }
 
-// One function for each width, as std has one `from_be_bytes` for each type and no trait over them.
+// Numbers, the highest byte first: a function for each width, as std has one `from_be_bytes` for each type. One for all is a trait
+// with the width as its parameter, and an impl for each type with both directions: more than these, and no shorter at a call.
+#[tactic(auto, using(crate::proofs::Numbers::num_one))]
 pub fn get_u8(area: &[u8], at: usize) -> u8
     requires { at + 1 ≤ length area.now }
     ensures { result ≡ num (part area.now at 1) }
@@ -117,6 +115,7 @@ pub fn get_u8(area: &[u8], at: usize) -> u8
     area[at]
 }
 
+#[tactic(auto, using(crate::proofs::Numbers::num_read))]
 pub fn get_u16(area: &[u8], at: usize) -> u16
     requires { at + 2 ≤ length area.now }
     ensures { result ≡ num (part area.now at 2) }
@@ -124,6 +123,7 @@ pub fn get_u16(area: &[u8], at: usize) -> u16
     u16::from_be_bytes(get_array(area, at))
 }
 
+#[tactic(auto, using(crate::proofs::Numbers::num_read))]
 pub fn get_u32(area: &[u8], at: usize) -> u32
     requires { at + 4 ≤ length area.now }
     ensures { result ≡ num (part area.now at 4) }
@@ -131,6 +131,7 @@ pub fn get_u32(area: &[u8], at: usize) -> u32
     u32::from_be_bytes(get_array(area, at))
 }
 
+#[tactic(auto, using(crate::proofs::Numbers::num_read))]
 pub fn get_u64(area: &[u8], at: usize) -> u64
     requires { at + 8 ≤ length area.now }
     ensures { result ≡ num (part area.now at 8) }
@@ -138,6 +139,7 @@ pub fn get_u64(area: &[u8], at: usize) -> u64
     u64::from_be_bytes(get_array(area, at))
 }
 
+#[tactic(auto, using(crate::proofs::Parts::set_splice, crate::proofs::Numbers::be_1))]
 pub fn put_u8(area: &mut [u8], at: usize, v: u8)
     requires { at + 1 ≤ length area.old }
     ensures { area.new ≡ splice area.old at (be 1 v) }
@@ -145,6 +147,7 @@ pub fn put_u8(area: &mut [u8], at: usize, v: u8)
     area[at] = v;
 }
 
+#[tactic(auto, unfolding(crate::specs::Bytes::be))]
 pub fn put_u16(area: &mut [u8], at: usize, v: u16)
     requires { at + 2 ≤ length area.old }
     ensures { area.new ≡ splice area.old at (be 2 v) }
@@ -152,6 +155,7 @@ pub fn put_u16(area: &mut [u8], at: usize, v: u16)
     put_array(area, at, v.to_be_bytes());
 }
 
+#[tactic(auto, unfolding(crate::specs::Bytes::be))]
 pub fn put_u32(area: &mut [u8], at: usize, v: u32)
     requires { at + 4 ≤ length area.old }
     ensures { area.new ≡ splice area.old at (be 4 v) }
@@ -159,6 +163,7 @@ pub fn put_u32(area: &mut [u8], at: usize, v: u32)
     put_array(area, at, v.to_be_bytes());
 }
 
+#[tactic(auto, unfolding(crate::specs::Bytes::be))]
 pub fn put_u64(area: &mut [u8], at: usize, v: u64)
     requires { at + 8 ≤ length area.old }
     ensures { area.new ≡ splice area.old at (be 8 v) }

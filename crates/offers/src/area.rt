@@ -4,7 +4,9 @@
 ghost use Rattle.std.specs.Prelude.{◌≡◌, ◌*◌, ◌^◌, ◌<◌, ◌≤◌, length};
 ghost use Rattle.table.specs.Rows.{Fits};
 
-// The rows of W bytes at the front of an area, of which there are n.
+use table::Table;
+
+// The rows of W bytes at the front of an area, of which there are n. (A table's count may be anything; here it is cut once, for the loops that go through rows over and over.)
 #[derive(Clone, Copy)]
 pub struct Rows<'a, const W: usize> {
     pub area: &'a [u8],
@@ -14,13 +16,14 @@ pub struct Rows<'a, const W: usize> {
 }
 
 impl<'a, const W: usize> Rows<'a, W> {
-    // By a count that may be anything.
-    pub fn fit(area: &'a [u8], count: usize) -> Rows<'a, W>
-        requires { 0 < W }
-        ensures fits { Fits (length area.now) W count result.n }
-        ensures same { result.area.now ≡ area.now }
+    // Those of a table.
+    pub fn fit(table: Table<'a, W>) -> Rows<'a, W>
+        ensures fits { Fits (length table.entry.area.now) W table.entry.count result.n }
+        ensures same { result.area.now ≡ table.entry.area.now }
     {
-        let n = table::fit(area.len(), W, count);
-        Rows { area, n }
+        Rows {
+            area: table.area,
+            n: table.len(),
+        }
     }
 }

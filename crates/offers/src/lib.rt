@@ -117,6 +117,7 @@ fn may_offer(row: Row) -> bool
 
 // Flags the rows that are offered to the peer: those that may be offered and have none of the listed prefixes and none of the tombstones' tags.
 // Answers for how many rows the tombstones were searched: those that the listing left in question.
+// (Listing and writing are two walks with a flag for each row between them, so that what is offered may be picked from before it is written.)
 pub fn list_offers(
     held: &Held,
     peer: ContactId,

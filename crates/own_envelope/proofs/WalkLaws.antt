@@ -1,11 +1,11 @@
 -- A walk through the rows of a typed table, over any codec and any test: what the row at i says of those from i on, and of the first.
 -- Assumes nothing.
-use Rattle.std.proofs.Common.{◌≡◌, ℕ, zero, suc, ◌+◌, ◌*◌, ◌<◌, ◌≤◌, Bool, true, false, cond, ◌||◌, List, [], ◌∷◌, length, drop, sym, ap, ◌∙◌, arith, Some, None}
+use Rattle.std.proofs.Common.{◌≡◌, ℕ, zero, suc, ◌+◌, ◌*◌, ◌<◌, ◌≤◌, Bool, true, false, cond, List, [], ◌∷◌, length, drop, sym, ap, ◌∙◌, arith, Some, None}
 use Rattle.octets.specs.Bytes.{part}
-use Rattle.table.specs.Lists.{any, position, position_from, unwrap_or}
+use Rattle.table.specs.Lists.{position, position_from, unwrap_or}
 use Rattle.table.specs.Rows.{held}
 use Rattle.table.specs.Codec.{Codec, table_of}
-use Rattle.table.proofs.FindLaws.{position_next, position_end, any_next, any_end}
+use Rattle.table.proofs.FindLaws.{position_next, position_end}
 use Rattle.table.proofs.TableLaws.{length_table, table_next}
 
 module _ {A : Type 0} (c : Codec A) (count : ℕ) (a : List ℕ) (p : A → Bool) (i : ℕ) where
@@ -15,17 +15,11 @@ module _ {A : Type 0} (c : Codec A) (count : ℕ) (a : List ℕ) (p : A → Bool
   -- row i, of which a test says d
   module _ {row : A} {b d : Bool} (h : i < held (length a) c.width count) (e : row ≡ c.decode (part a (i * c.width) c.width)) (t : b ≡ p row)
       (f : b ≡ d) where
-    pub any_row : any p T ≡ any p (drop i T) → any p T ≡ (d || any p (drop (i + 1) T))
-    any_row left = left ∙ any_next p T i _ d (table_next c count a i h) (ap p (sym e) ∙ sym t ∙ f)
-
     pub place_row : position p T ≡ position_from i p (drop i T) → position p T ≡ cond d (Some i) (position_from (i + 1) p (drop (i + 1) T))
     place_row left = left ∙ position_next p T i _ d (table_next c count a i h) (ap p (sym e) ∙ sym t ∙ f)
 
   -- no row is left
   module _ (h : held (length a) c.width count ≤ i) where
-    pub any_past : any p T ≡ any p (drop i T) → any p T ≡ false
-    any_past left = left ∙ any_end p T i (omega (arith, length_table c count a))
-
     pub place_past : position p T ≡ position_from i p (drop i T) → position p T ≡ None
     place_past left = left ∙ position_end p T i (omega (arith, length_table c count a))
 

@@ -5,6 +5,7 @@ ghost use Rattle.std.specs.Prelude.{◌≡◌, ◌+◌, ◌*◌, ◌<◌, ◌≤
 ghost use Rattle.table.specs.Lists.{any};
 ghost use Rattle.table.specs.Rows.{held};
 ghost use Rattle.table.specs.Codec.{table_of, TableNow};
+ghost use Rattle.table.specs.Tables.{rows_in};
 ghost use Rattle.rows.specs.Rows.{own_width, own_codec, contact_codec};
 ghost use Rattle.model.specs.Calls.{add_own};
 ghost use Rattle.model.specs.Contacts.{added_before};
@@ -14,28 +15,22 @@ ghost use Rattle.own_envelope.specs.OwnEnvelope.{own_says, lent_own, made_own, o
 
 use chain::Dir;
 use courier_core::{ContactId, Refusal};
-use rows::{Device, Own};
+use rows::{CONTACT_WIDTH, Device, OWN_WIDTH, Own, Row};
+use state::CELL;
+use table::Table;
+
+const MAX_OWN: usize = 256;
+
+// Where the message number stands in an own row, behind the contact.
+const MSGNO_AT: usize = 8;
 
 // ---- the tests
 
-// Is the row the one of this contact and message number?
-fn is_message(row: Own, id: ContactId, msgno: u32) -> bool
-    ensures { result ≡ is_message id msgno row }
-{
-    (row.contact, row.msgno) == (id, msgno)
-}
-
 // Is the message number already there?
-fn has_message(own: &[u8], count: usize, id: ContactId, msgno: u32) -> bool
-    ensures { result ≡ any (is_message id msgno) (table_of own_codec count own.now) }
+fn has_message(own: Table<OWN_WIDTH>, id: ContactId, msgno: u32) -> bool
+    ensures { result ≡ any (is_message id msgno) (rows_in own_codec own.entry) }
 {
-    let n = table::fit(own.len(), rows::OWN_WIDTH, count);
-    for i in 0..n {
-        if is_message(rows::own_at(own, i * rows::OWN_WIDTH), id, msgno) {
-            return true;
-        }
-    }
-    false
+    own.any(|row| octets::get_u64(row, 0) == id.0 && octets::get_u32(row, MSGNO_AT) == msgno)
 }
 
 // Is the length, less 16, an inner length?
@@ -48,21 +43,21 @@ fn own_length(len: usize) -> bool
 
 // Is no envelope made: inner length above COURIER_INNER_MAX, or 256 own rows there?
 #[tactic(auto, using(table::proofs::TableLaws::length_table), unfolding(model::specs::Own::none_made))]
-fn none_made(own: &[u8], count: usize, len: usize) -> bool
-    ensures { result ≡ none_made (table_of own_codec count own.now) len }
+fn none_made(own: Table<OWN_WIDTH>, len: usize) -> bool
+    ensures { result ≡ none_made (rows_in own_codec own.entry) len }
 {
-    2064 < len || 256 <= table::fit(own.len(), rows::OWN_WIDTH, count)
+    CELL < len || MAX_OWN <= own.len()
 }
 
 // ---- the row
 
 // Where a contact stands from `at` on, or how many there are: its first place is no later.
-fn place_from(contacts: &[u8], count: usize, at: usize, id: ContactId) -> usize
-    ensures { added_before (table_of contact_codec count contacts.now) id ≤ result }
+fn place_from(contacts: Table<CONTACT_WIDTH>, at: usize, id: ContactId) -> usize
+    ensures { added_before (rows_in contact_codec contacts.entry) id ≤ result }
 {
-    let n = table::fit(contacts.len(), rows::CONTACT_WIDTH, count);
+    let n = contacts.len();
     for k in at..n {
-        if octets::get_u64(contacts, k * rows::CONTACT_WIDTH) == id.0 {
+        if octets::get_u64(contacts.area, k * CONTACT_WIDTH) == id.0 {
             return k;
         }
     }
@@ -72,42 +67,39 @@ fn place_from(contacts: &[u8], count: usize, at: usize, id: ContactId) -> usize
 // Does a row stand after one of this contact and message number? `mine` contacts were added before that one.
 // The row's contact stands at `place` or before it: all contacts are searched only where that is past `mine`.
 fn stands_after(
-    contacts: &[u8],
-    count: usize,
+    contacts: Table<CONTACT_WIDTH>,
     mine: usize,
     place: usize,
     id: ContactId,
     msgno: u32,
     row: Own,
 ) -> bool
-    requires { (mine ≡ added_before (table_of contact_codec count contacts.now) id) × (added_before (table_of contact_codec count contacts.now) row.contact ≤ place) }
-    ensures { result ≡ stands_after (table_of contact_codec count contacts.now) id msgno row }
+    requires { (mine ≡ added_before (rows_in contact_codec contacts) id) × (added_before (rows_in contact_codec contacts) row.contact ≤ place) }
+    ensures { result ≡ stands_after (rows_in contact_codec contacts.entry) id msgno row }
 {
     if row.contact == id {
         return msgno < row.msgno;
     }
-    mine < place && mine < contacts::added_before(contacts, count, row.contact)
+    mine < place && mine < contacts::added_before(contacts, row.contact)
 }
 
 // Where a new row goes: own rows stand by contact as added and message number.
 // So a row's contact is looked for from the place of the row's before it on.
 fn own_place(
-    contacts: &[u8],
-    known: usize,
-    own: &[u8],
-    count: usize,
+    contacts: Table<CONTACT_WIDTH>,
+    own: Table<OWN_WIDTH>,
     id: ContactId,
     msgno: u32,
 ) -> usize
-    ensures { result ≡ own_place (table_of contact_codec known contacts.now) id msgno (table_of own_codec count own.now) }
+    ensures { result ≡ own_place (rows_in contact_codec contacts.entry) id msgno (rows_in own_codec own.entry) }
 {
-    let mine = contacts::added_before(contacts, known, id);
-    let n = table::fit(own.len(), rows::OWN_WIDTH, count);
+    let mine = contacts::added_before(contacts, id);
+    let n = own.len();
     let mut place = 0;
     for i in 0..n {
-        let row = rows::own_at(own, i * rows::OWN_WIDTH);
-        place = place_from(contacts, known, place, row.contact);
-        if stands_after(contacts, known, mine, place, id, msgno, row) {
+        let row = Own::read(own.area, i * OWN_WIDTH);
+        place = place_from(contacts, place, row.contact);
+        if stands_after(contacts, mine, place, id, msgno, row) {
             return i;
         }
     }
@@ -115,14 +107,14 @@ fn own_place(
 }
 
 // Puts a row in at its place; answers how many there are.
-fn insert_own(contacts: &[u8], known: usize, own: &mut [u8], count: usize, row: Own) -> usize
+// (Own rows are written here: the area is the host's, lent across the C interface, and the count is the device's, so that they stand apart.)
+fn insert_own(contacts: Table<CONTACT_WIDTH>, own: &mut [u8], count: usize, row: Own) -> usize
     requires { held (length own.old) own_width count * own_width + own_width ≤ length own.old }
-    ensures { TableNow own_codec own.old (insert_own (table_of contact_codec known contacts.now) row (table_of own_codec count own.old)) result own.new }
+    ensures { TableNow own_codec own.old (insert_own (rows_in contact_codec contacts.entry) row (table_of own_codec count own.old)) result own.new }
 {
-    let i = own_place(contacts, known, own, count, row.contact, row.msgno);
-    let n = table::fit(own.len(), rows::OWN_WIDTH, count);
-    let b = rows::own_bytes(row);
-    table::insert(own, rows::OWN_WIDTH, n, i, &b)
+    let table = Table { area: own, count };
+    let i = own_place(contacts, table, row.contact, row.msgno);
+    Own::insert(own, count, i, row)
 }
 
 fn new_own(
@@ -154,6 +146,7 @@ fn new_own(
 
 // An own envelope of a queued message: its ciphertext goes to the first free cell, its row among the own rows. Answers the row, or none where no
 // envelope is made.
+// (As the C interface lends them, each area is a parameter.)
 pub fn own_envelope(
     device: &mut Device,
     id: ContactId,
@@ -172,22 +165,30 @@ pub fn own_envelope(
         (lent_own device.old contacts.now own.old own_cells.old)
         (lent_own device.new contacts.now own.new own_cells.new) no_answers no_answers }
 {
-    if !contacts::known(contacts, device.contacts, id) {
+    let contacts = Table {
+        area: contacts,
+        count: device.contacts,
+    };
+    if !contacts::known(contacts, id) {
         return Err(Refusal::UnknownContact);
     }
-    if has_message(own, device.own, id, msgno) {
+    let own_rows = Table {
+        area: own,
+        count: device.own,
+    };
+    if has_message(own_rows, id, msgno) {
         return Err(Refusal::MessageNumberTaken);
     }
     if !own_length(ct.len()) {
         return Err(Refusal::OwnLength);
     }
-    if none_made(own, device.own, ct.len()) {
+    if none_made(own_rows, ct.len()) {
         return Ok(None);
     }
-    let cell = custody::free_own_cell(own, device.own, own_cells.len()).ok_or(Refusal::NoCell)?;
+    let cell = custody::free_own_cell(own_rows, own_cells.len()).ok_or(Refusal::NoCell)?;
     let tag = courier::route_tag(key, dir, generation, idx);
     let row = new_own(device, id, msgno, tag, s, ct.len(), cell);
-    octets::copy_in(own_cells, cell * 2064, ct);
-    device.own = insert_own(contacts, device.contacts, own, device.own, row);
+    octets::copy_in(own_cells, cell * CELL, ct);
+    device.own = insert_own(contacts, own, device.own, row);
     Ok(Some(row))
 }

@@ -1,81 +1,80 @@
 // Makes the calls of a sample of the oracle's answers again, on a post of its own, and compares every answer with the sample's.
 #![tactic(auto)]
 
-use replay_calls::{Post, Sizes};
+use replay_calls::{Post, front};
 use replay_compare::{Difference, compare};
-use replay_log::{KINDS, Kind, Walk, cut};
+use replay_log::{Entry, KINDS, List, Record, Walk};
+use std::io::Result;
 
-// The file descriptors.
 const STDIN: i32 = 0;
 
-const STDOUT: i32 = 1;
+// ---- what was reached, counted
 
-const STDERR: i32 = 2;
+// How often each byte was there.
+#[derive(Drop)]
+struct Counts([u64; 256]);
 
-// ---- text
+impl Counts {
+    fn none() -> Counts {
+        Counts([0; 256])
+    }
 
-fn text(fd: i32, s: &[u8]) {
-    io::write_all(fd, s);
-}
+    fn add(&mut self, byte: u8) {
+        let i = usize::from(byte);
+        self.0[i] = self.0[i].saturating_add(1);
+    }
 
-fn number(fd: i32, n: u64) {
-    io::print_decimal(fd, n);
-}
-
-// ---- what was reached, counted: calls by kind from 0 on, replies by kind, custody codes and actions by kind from here on, and what
-// the calls said, any byte, behind them
-
-const REPLIES: usize = 40;
-
-const CODES: usize = 45;
-
-const ACTIONS: usize = 50;
-
-const SAID: usize = 64;
-
-fn bump(tally: &mut [u64; 320], i: usize) {
-    let at = i % 320;
-    if tally[at] < 1_000_000_000 {
-        tally[at] += 1;
+    fn of(&self, byte: u8) -> u64 {
+        self.0[usize::from(byte)]
     }
 }
 
-fn count_replies(r: &[u8], tally: &mut [u64; 320]) {
-    for i in 0..replay_log::half(r, replay_log::REPLIES) {
-        let row = cut(
-            r,
-            replay_log::past(replay_log::replies_at(r), i as usize * 40),
-            40,
-        );
-        let kind = replay_log::byte(row, 0);
-        bump(tally, REPLIES + kind as usize);
-        if kind == 2 {
-            bump(tally, CODES + replay_log::byte(row, 19) as usize);
+// Calls by the byte of their kind, what they said by its number, replies and actions by their kinds, and custody codes.
+#[derive(Drop)]
+struct Tally {
+    calls: Counts,
+    said: Counts,
+    replies: Counts,
+    codes: Counts,
+    actions: Counts,
+}
+
+// The kind of a reply that has a custody code, and where that stands.
+const CUSTODY: u8 = 2;
+
+const CODE: usize = 19;
+
+impl Tally {
+    fn none() -> Tally {
+        Tally {
+            calls: Counts::none(),
+            said: Counts::none(),
+            replies: Counts::none(),
+            codes: Counts::none(),
+            actions: Counts::none(),
+        }
+    }
+
+    fn count(&mut self, r: &Record) {
+        self.calls.add(r.kind.byte());
+        self.said.add(r.said());
+        for row in r.replies {
+            self.replies.add(row[0]);
+            if row[0] == CUSTODY {
+                self.codes.add(row[CODE]);
+            }
+        }
+        for row in r.actions {
+            self.actions.add(row[0]);
         }
     }
 }
 
-fn count_actions(r: &[u8], tally: &mut [u64; 320]) {
-    for i in 0..replay_log::half(r, replay_log::ACTIONS) {
-        let at = replay_log::past(replay_log::actions_at(r), i as usize * 15);
-        bump(tally, ACTIONS + replay_log::byte(r, at) as usize);
-    }
-}
-
-fn count(r: &[u8], tally: &mut [u64; 320]) {
-    bump(tally, replay_log::byte(r, replay_log::KIND) as usize);
-    bump(tally, SAID + replay_log::byte(r, replay_log::SAID) as usize);
-    count_replies(r, tally);
-    count_actions(r, tally);
-}
-
 // ---- the post, call by call
 
-// Where the program stands: the record that is next, the list, how many calls of it were made and are left, and how many of them and
-// of all calls differ.
+// Where the program stands: the list, how many calls of it were made and are left, and how many of them and of all calls differ.
 #[derive(Clone, Copy)]
 struct State {
-    at: usize,
     list: usize,
     calls: usize,
     left: usize,
@@ -83,244 +82,172 @@ struct State {
     all: usize,
 }
 
-fn start() -> State {
-    State {
-        at: 8,
-        list: 0,
-        calls: 0,
-        left: 0,
-        differ: 0,
-        all: 0,
+impl State {
+    fn start() -> State {
+        State {
+            list: 0,
+            calls: 0,
+            left: 0,
+            differ: 0,
+            all: 0,
+        }
     }
-}
 
-fn begin(s: State, r: &[u8]) -> State {
-    State {
-        at: replay_log::past(s.at, 11),
-        list: replay_log::past(s.list, 1),
-        left: replay_log::half(r, 9) as usize,
-        all: s.all,
-        ..start()
+    fn begin(&mut self, list: List) {
+        self.list = self.list.saturating_add(1);
+        self.calls = 0;
+        self.left = list.calls;
+        self.differ = 0;
     }
-}
 
-// What a list's post has of each area.
-fn sizes(r: &[u8]) -> Sizes {
-    Sizes {
-        cells: replay_log::half(r, 1) as usize * state::CELL,
-        own_cells: replay_log::half(r, 3) as usize * state::CELL,
-        tombstones: replay_log::half(r, 5) as usize * rows::TOMBSTONE_WIDTH,
-        bad_tags: replay_log::half(r, 7) as usize * rows::BAD_TAG_WIDTH,
+    // A call was made, which differs or not.
+    fn called(&mut self, differs: bool) {
+        self.calls = self.calls.saturating_add(1);
+        self.left = self.left.saturating_sub(1);
+        self.differ = self.differ.saturating_add(usize::from(differs));
+        self.all = self.all.saturating_add(usize::from(differs));
     }
-}
-
-// A call of so many bytes was made, and so many things differ in it.
-fn called(s: &mut State, length: usize, differ: usize) {
-    s.at = replay_log::past(s.at, length);
-    s.calls = replay_log::past(s.calls, 1);
-    s.left = s.left.saturating_sub(1);
-    s.differ = replay_log::past(s.differ, differ);
-    s.all = replay_log::past(s.all, differ);
-}
-
-fn what_differs(what: Difference) {
-    match what {
-        Difference::Answer => text(STDERR, b"the answer"),
-        Difference::Reply(i) => numbered(b"reply ", i),
-        Difference::Ciphertext(i) => numbered(b"the ciphertext of reply ", i),
-        Difference::Action(i) => numbered(b"action ", i),
-        Difference::Blob(i) => numbered(b"the blob of action ", i),
-        Difference::Bytes => text(STDERR, b"what it wrote or read"),
-    }
-}
-
-fn numbered(name: &[u8], place: u16) {
-    text(STDERR, name);
-    number(STDERR, place as u64);
 }
 
 // `list 3, call 17, fetch: reply 0 differs`. Calls are counted from 1, replies and actions from 0.
-fn report(s: &State, kind: Kind, what: Difference) {
-    text(STDERR, b"list ");
-    number(STDERR, s.list as u64);
-    text(STDERR, b", call ");
-    number(STDERR, replay_log::past(s.calls, 1) as u64);
-    text(STDERR, b", ");
-    text(STDERR, kind.name());
-    text(STDERR, b": ");
-    what_differs(what);
-    text(STDERR, b" differs\n");
+fn report(rt: &impl Eprint, s: &State, r: &Record, what: Difference) -> Result<()> {
+    let call = s.calls.saturating_add(1);
+    eprintln!(rt; "list {}, call {call}, {}: {what} differs", s.list, r.kind)
 }
 
-// `list 3: 300 calls, 0 differ`, once its last call was made.
-fn list_line(s: &State) {
-    if s.left > 0 {
-        return;
-    }
-    text(STDOUT, b"list ");
-    number(STDOUT, s.list as u64);
-    text(STDOUT, b": ");
-    number(STDOUT, s.calls as u64);
-    text(STDOUT, b" calls, ");
-    number(STDOUT, s.differ as u64);
-    text(STDOUT, b" differ\n");
-}
-
-// Makes the call of a record; what differs in it is said on standard error.
-fn make_call(s: &mut State, p: &mut Post, kind: Kind, r: &[u8]) {
-    let a = replay_rows::perform(p, kind, r);
-    match compare(a, p, r) {
-        Ok(()) => called(s, r.len(), 0),
+// Makes the call of a record; what differs in it is said on standard error. Behind a list's last call comes `list 3: 300 calls, 0 differ`.
+fn make_call(rt: &(impl Print + Eprint), s: &mut State, p: &mut Post, r: &Record) -> Result<()> {
+    let answer = replay_rows::perform(p, r);
+    match compare(answer, p, r) {
+        Ok(()) => s.called(false),
         Err(what) => {
-            report(s, kind, what);
-            called(s, r.len(), 1);
+            report(rt, s, r, what)?;
+            s.called(true);
         }
     }
+    if s.left > 0 {
+        return Ok(());
+    }
+    println!(rt; "list {}: {} calls, {} differ", s.list, s.calls, s.differ)
+}
+
+// Makes all calls of a sample of right shape, and says how many differ.
+fn replay(rt: &(impl Print + Eprint), sample: &[u8], tally: &mut Tally) -> Result<usize> {
+    let mut post = Post::fresh();
+    let mut s = State::start();
+    for (_, entry) in replay_log::entries_of(sample) {
+        match entry {
+            Entry::List(list) => {
+                s.begin(list);
+                post.begin(list);
+            }
+            Entry::Call(r) => {
+                tally.count(&r);
+                make_call(rt, &mut s, &mut post, &r)?;
+            }
+            Entry::End { .. } => {}
+        }
+    }
+    Ok(s.all)
 }
 
 // ---- the totals
 
-fn reached(tally: &[u64; 320], at: usize) {
-    text(STDOUT, b" ");
-    number(STDOUT, tally[at % 320]);
-}
-
-// A comma, or the end of the line.
-fn between(last: bool) {
-    if last {
-        text(STDOUT, b"\n");
-    } else {
-        text(STDOUT, b",");
+// One line: each name with the count of its byte.
+fn line(rt: &impl Print, title: &str, counts: &Counts, names: &[(u8, &str)]) -> Result<()> {
+    print!(rt; "{title}:")?;
+    for (i, (byte, name)) in names.iter().enumerate() {
+        let comma = if i == 0 { "" } else { "," };
+        print!(rt; "{comma} {name} {}", counts.of(*byte))?;
     }
+    println!(rt)
 }
 
-fn kinds_line(tally: &[u64; 320]) {
-    text(STDOUT, b"calls:");
+fn calls_line(rt: &impl Print, calls: &Counts) -> Result<()> {
+    print!(rt; "calls:")?;
     for (i, kind) in KINDS.iter().enumerate() {
-        text(STDOUT, b" ");
-        text(STDOUT, kind.name());
-        reached(tally, i);
-        between(i + 1 == KINDS.len());
+        let comma = if i == 0 { "" } else { "," };
+        print!(rt; "{comma} {kind} {}", calls.of(kind.byte()))?;
     }
+    println!(rt)
 }
 
-fn refused_line(tally: &[u64; 320]) {
-    text(STDOUT, b"refused:");
+fn refused_line(rt: &impl Print, said: &Counts) -> Result<()> {
+    print!(rt; "refused:")?;
     for n in 1..=replay_log::LAST_REFUSAL {
-        text(STDOUT, b" number ");
-        number(STDOUT, n as u64);
-        reached(tally, SAID + n as usize);
-        between(n == replay_log::LAST_REFUSAL);
+        let comma = if n == 1 { "" } else { "," };
+        print!(rt; "{comma} number {n} {}", said.of(n))?;
     }
+    println!(rt)
 }
 
-fn item(name: &[u8], tally: &[u64; 320], at: usize) {
-    text(STDOUT, name);
-    reached(tally, at);
-}
+const SAID: [(u8, &str); 5] = [
+    (replay_log::DONE, "done"),
+    (replay_log::MALFORMED, "malformed"),
+    (replay_log::OURS, "ours"),
+    (replay_log::MISSING, "missing"),
+    (replay_log::NO_ENVELOPE, "no envelope"),
+];
 
-fn said_line(tally: &[u64; 320]) {
-    item(b"said: done", tally, SAID + replay_log::DONE as usize);
-    item(b", malformed", tally, SAID + replay_log::MALFORMED as usize);
-    item(b", ours", tally, SAID + replay_log::OURS as usize);
-    item(b", missing", tally, SAID + replay_log::MISSING as usize);
-    item(
-        b", no envelope",
-        tally,
-        SAID + replay_log::NO_ENVELOPE as usize,
-    );
-    text(STDOUT, b"\n");
-}
+const REPLIES: [(u8, &str); 4] = [
+    (0, "fetch"),
+    (1, "envelope"),
+    (CUSTODY, "custody"),
+    (3, "tomb"),
+];
 
-fn rows_lines(tally: &[u64; 320]) {
-    item(b"replies: fetch", tally, REPLIES);
-    item(b", envelope", tally, REPLIES + 1);
-    item(b", custody", tally, REPLIES + 2);
-    item(b", tomb", tally, REPLIES + 3);
-    item(b"\ncustody: accepted", tally, CODES);
-    item(b", full", tally, CODES + 1);
-    item(b", duplicate", tally, CODES + 2);
-    item(b", off", tally, CODES + 3);
-    item(b", invalid", tally, CODES + 4);
-    item(b"\nactions: put", tally, ACTIONS);
-    item(b", delete", tally, ACTIONS + 1);
-    item(b", own put", tally, ACTIONS + 2);
-    text(STDOUT, b"\n");
-}
+const CODES: [(u8, &str); 5] = [
+    (0, "accepted"),
+    (1, "full"),
+    (2, "duplicate"),
+    (3, "off"),
+    (4, "invalid"),
+];
 
-fn totals(lists: usize, calls: usize, differ: usize, tally: &[u64; 320]) {
-    kinds_line(tally);
-    refused_line(tally);
-    said_line(tally);
-    rows_lines(tally);
-    number(STDOUT, lists as u64);
-    text(STDOUT, b" lists, ");
-    number(STDOUT, calls as u64);
-    text(STDOUT, b" calls, ");
-    number(STDOUT, differ as u64);
-    text(STDOUT, b" differ\n");
+const ACTIONS: [(u8, &str); 3] = [(0, "put"), (1, "delete"), (2, "own put")];
+
+fn totals(rt: &impl Print, w: Walk, differ: usize, tally: &Tally) -> Result<()> {
+    calls_line(rt, &tally.calls)?;
+    refused_line(rt, &tally.said)?;
+    line(rt, "said", &tally.said, &SAID)?;
+    line(rt, "replies", &tally.replies, &REPLIES)?;
+    line(rt, "custody", &tally.codes, &CODES)?;
+    line(rt, "actions", &tally.actions, &ACTIONS)?;
+    println!(rt; "{} lists, {} calls, {differ} differ", w.lists, w.calls)
 }
 
 // ---- the program
 
-// Makes all calls of a sample of right shape, and says how many differ.
-fn replay(sample: &[u8], tally: &mut [u64; 320]) -> usize {
-    let mut post = Post::fresh();
-    let mut s = start();
-    for _ in 0..sample.len() {
-        let rest = cut(sample, s.at, sample.len());
-        match replay_log::byte(rest, 0) {
-            b'L' => {
-                s = begin(s, rest);
-                post.begin(sizes(rest));
-            }
-            b'C' => {
-                let r = cut(rest, 0, replay_log::record_length(rest));
-                let Some(kind) = Kind::from_byte(replay_log::byte(r, replay_log::KIND)) else {
-                    return s.all;
-                };
-                count(r, tally);
-                make_call(&mut s, &mut post, kind, r);
-                list_line(&s);
-            }
-            _ => return s.all,
-        }
-    }
-    s.all
-}
-
 // The whole shape is tested before the first call, so that nothing is printed of a sample that ends too soon.
-fn run(sample: &[u8]) {
+fn run(rt: &(impl Print + Eprint), sample: &[u8]) -> Result<()> {
     match replay_log::walked(sample) {
-        Ok(w) => run_whole(sample, w),
-        Err(at) => {
-            text(STDERR, b"the sample is of wrong shape at byte ");
-            number(STDERR, at as u64);
-            text(STDERR, b"\n");
+        Ok(w) => {
+            let mut tally = Tally::none();
+            let differ = replay(rt, sample, &mut tally)?;
+            totals(rt, w, differ, &tally)
         }
+        Err(at) => eprintln!(rt; "the sample is of wrong shape at byte {at}"),
     }
 }
 
-fn run_whole(sample: &[u8], w: Walk) {
-    let mut tally = [0u64; 320];
-    let differ = replay(sample, &mut tally);
-    totals(w.lists, w.calls, differ, &tally);
-}
+// The longest sample that is read, and a byte.
+const INPUT: usize = 1_048_576;
 
-fn fill(input: &mut [u8; 1048576]) -> usize {
+// (The input is given on as an array of its size: sliced where it is made, the check goes through a million zeros.)
+fn fill(input: &mut [u8; INPUT]) -> usize {
     io::read_full(STDIN, input)
 }
 
-fn run_first(input: &[u8; 1048576], n: usize) {
-    run(cut(input, 0, n));
+fn run_first(rt: &(impl Print + Eprint), input: &[u8; INPUT], n: usize) -> Result<()> {
+    run(rt, front(input, n))
 }
 
-fn main() {
-    let mut input = [0u8; 1048576];
+fn main(rt: HostRuntime) -> Result<()> {
+    let mut input = [0u8; INPUT];
     let n = fill(&mut input);
-    if n < 1048576 {
-        run_first(&input, n);
+    if n < INPUT {
+        run_first(&rt, &input, n)
     } else {
-        text(STDERR, b"the sample is too long\n");
+        eprintln!(rt; "the sample is too long")
     }
 }

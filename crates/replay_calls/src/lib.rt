@@ -2,34 +2,63 @@
 // and says what it answered.
 #![tactic(auto)]
 
-ghost use Rattle.std.specs.Prelude.{◌≤◌};
+use courier_core::Refusal;
+use replay_log::{Key, List, Record, Said};
+use rows::{BAD_TAG_WIDTH, Device, Exchange, OWN_WIDTH, Own, Row, TOMBSTONE_WIDTH};
 
-use chain::Dir;
-use courier::{Custody, Header};
-use courier_core::{ContactId, Refusal, Verification};
-use replay_log::{DONE, MALFORMED, MISSING, NEVER_SAID, NO_ENVELOPE, OURS, cap, cut};
-use rows::{Device, Exchange, Own};
+// ---- the areas of a post
 
-// What a list's post has of each area, in bytes. The other areas are as long as each call says.
+// How many first bytes of four areas are lent: as many as a list's post has. They stand beside the areas, and not with each in a struct: of one
+// that holds half a million bytes an unoptimized build keeps copies, and the program ran out of stack. It has no heap.
 #[derive(Clone, Copy)]
-pub struct Sizes {
-    pub cells: usize,
-    pub own_cells: usize,
+pub struct Lent {
     pub tombstones: usize,
     pub bad_tags: usize,
+    pub own_cells: usize,
+    pub cells: usize,
 }
 
-// What each of the three exchanges has of the listed prefixes, and of the offers.
-const PREFIXES: usize = 4200;
+const NOTHING: Lent = Lent {
+    tombstones: 0,
+    bad_tags: 0,
+    own_cells: 0,
+    cells: 0,
+};
 
-const OFFERS: usize = 8900;
+// The first n bytes of an area, or all where there are fewer.
+pub fn front(area: &[u8], n: usize) -> &[u8] {
+    &area[..n.min(area.len())]
+}
 
-// A post of any list: areas of the greatest sizes, and three exchanges, each with prefixes and offers of its own.
+pub fn front_mut(area: &mut [u8], n: usize) -> &mut [u8] {
+    let n = n.min(area.len());
+    &mut area[..n]
+}
+
+// An exchange, with prefixes and offers of its own: as long as each call says.
+#[derive(Clone, Copy)]
+pub struct Session {
+    exchange: Exchange,
+    prefixes: [u8; 4200],
+    offers: [u8; 8900],
+}
+
+impl Session {
+    fn closed() -> Session {
+        Session {
+            exchange: Exchange::closed(),
+            prefixes: [0; 4200],
+            offers: [0; 8900],
+        }
+    }
+}
+
+// A post of any list: areas of the greatest sizes, and three exchanges. The replies and actions are as long as each call says.
 #[derive(Drop)]
 pub struct Post {
     pub device: Device,
-    pub exchanges: [Exchange; 3],
-    pub sizes: Sizes,
+    pub lent: Lent,
+    sessions: [Session; 3],
     pub contacts: [u8; 2304],
     pub own: [u8; 13824],
     pub carried: [u8; 14592],
@@ -37,395 +66,296 @@ pub struct Post {
     pub bad_tags: [u8; 240],
     pub own_cells: [u8; 528384],
     pub cells: [u8; 528384],
-    pub prefixes: [u8; 12600],
-    pub offers: [u8; 26700],
     pub replies: [u8; 600000],
     pub actions: [u8; 22000],
 }
-
-pub const NO_SIZES: Sizes = Sizes {
-    cells: 0,
-    own_cells: 0,
-    tombstones: 0,
-    bad_tags: 0,
-};
 
 impl Post {
     pub fn fresh() -> Post {
         Post {
             device: Device::fresh(),
-            exchanges: [Exchange::closed(); 3],
-            sizes: NO_SIZES,
-            contacts: [0u8; 2304],
-            own: [0u8; 13824],
-            carried: [0u8; 14592],
-            tombstones: [0u8; 48400],
-            bad_tags: [0u8; 240],
-            own_cells: [0u8; 528384],
-            cells: [0u8; 528384],
-            prefixes: [0u8; 12600],
-            offers: [0u8; 26700],
-            replies: [0u8; 600000],
-            actions: [0u8; 22000],
+            lent: NOTHING,
+            sessions: [Session::closed(); 3],
+            contacts: [0; 2304],
+            own: [0; 13824],
+            carried: [0; 14592],
+            tombstones: [0; 48400],
+            bad_tags: [0; 240],
+            own_cells: [0; 528384],
+            cells: [0; 528384],
+            replies: [0; 600000],
+            actions: [0; 22000],
         }
     }
 
     // A list begins with a fresh device. What the areas hold stays: a fresh device has no row of it.
-    pub fn begin(&mut self, sizes: Sizes) {
+    pub fn begin(&mut self, list: List) {
         self.device = Device::fresh();
-        self.exchanges = [Exchange::closed(); 3];
-        self.sizes = sizes;
+        for session in &mut self.sessions {
+            session.exchange = Exchange::closed();
+        }
+        self.lent = Lent {
+            tombstones: list.tombstones.saturating_mul(TOMBSTONE_WIDTH),
+            bad_tags: list.bad_tags.saturating_mul(BAD_TAG_WIDTH),
+            own_cells: list.own_cells.saturating_mul(state::CELL),
+            cells: list.cells.saturating_mul(state::CELL),
+        };
     }
 }
 
-// What a call said, how many replies, actions and bytes it wrote, and for how many rows an inventory's end searched the tombstones.
+// ---- answers
+
+// What a call said that was not refused, how many replies, actions and bytes it wrote, and for how many rows an inventory's end searched the
+// tombstones.
 #[derive(Clone, Copy)]
 pub struct Answer {
-    pub said: u8,
-    pub generation: u8,
-    pub index: u32,
-    pub contact: u64,
+    pub said: Said,
     pub replies: usize,
     pub actions: usize,
     pub length: usize,
     pub searched: usize,
 }
 
-pub fn answer_of(said: u8, replies: usize, actions: usize, length: usize) -> Answer {
-    Answer {
-        said,
-        generation: 0,
-        index: 0,
-        contact: 0,
-        replies,
-        actions,
-        length,
-        searched: 0,
+impl Answer {
+    // Of a call that wrote nothing.
+    pub fn of(said: Said) -> Answer {
+        Answer {
+            said,
+            replies: 0,
+            actions: 0,
+            length: 0,
+            searched: 0,
+        }
     }
-}
 
-pub fn refused(why: Refusal) -> Answer {
-    answer_of(courier_core::refusal_number(why), 0, 0, 0)
-}
-
-// What a call answers that lists so many actions.
-pub fn listing(said: Result<usize, Refusal>) -> Answer {
-    match said {
-        Ok(actions) => answer_of(DONE, 0, actions, 0),
-        Err(why) => refused(why),
+    pub fn done() -> Answer {
+        Answer::of(Said::Done)
     }
-}
 
-// What a call answers that says nothing else where it is done.
-pub fn answered(said: Result<(), Refusal>) -> Answer {
-    match said {
-        Ok(()) => answer_of(DONE, 0, 0, 0),
-        Err(why) => refused(why),
+    // Of a call that listed so many actions.
+    pub fn listed(actions: usize) -> Answer {
+        Answer {
+            actions,
+            ..Answer::done()
+        }
     }
-}
 
-// What a call answers that writes so many bytes.
-pub fn writing(said: Result<usize, Refusal>) -> Answer {
-    match said {
-        Ok(length) => answer_of(DONE, 0, 0, length),
-        Err(why) => refused(why),
+    // Of a call that wrote so many bytes.
+    pub fn wrote(length: usize) -> Answer {
+        Answer {
+            length,
+            ..Answer::done()
+        }
     }
-}
-
-// ---- what a record says
-
-pub fn peer(r: &[u8]) -> ContactId {
-    ContactId(replay_log::long(r, replay_log::NUMBER))
-}
-
-pub fn tag(r: &[u8]) -> [u8; 16] {
-    replay_log::sixteen(r, replay_log::TAG)
-}
-
-// A commitment or a secret.
-pub fn second(r: &[u8]) -> [u8; 16] {
-    replay_log::sixteen(r, replay_log::SECOND)
-}
-
-// The n bytes of an area from a place on, as `cut` cuts them.
-pub fn part(area: &mut [u8], at: usize, n: usize) -> &mut [u8] {
-    let a = cap(at, area.len());
-    let e = a + cap(n, area.len() - a);
-    &mut area[a..e]
-}
-
-// As many first bytes of an area as the record says, at one of the places of lengths.
-pub fn lent<'a>(area: &'a mut [u8], r: &[u8], place: usize) -> &'a mut [u8] {
-    part(area, 0, replay_log::size(r, place))
-}
-
-// Which of the three exchanges.
-pub fn which(r: &[u8]) -> usize
-    ensures { result ≤ 2 }
-{
-    cap(replay_log::byte(r, replay_log::EXCHANGE) as usize, 2)
 }
 
 // ---- what the host sets
 
-pub fn call_contact(p: &mut Post, r: &[u8]) -> Answer {
-    let byte = replay_log::byte(r, replay_log::SMALL);
-    let v = Verification::from_byte(byte).unwrap_or(Verification::Compromised);
-    answered(contacts::contact(&mut p.device, peer(r), v, &mut p.contacts))
+pub fn call_contact(p: &mut Post, r: &Record) -> Result<Answer, Refusal> {
+    contacts::contact(&mut p.device, r.peer(), r.verification(), &mut p.contacts)?;
+    Ok(Answer::done())
 }
 
-pub fn call_setting(p: &mut Post, r: &[u8]) -> Answer {
-    let enabled = replay_log::byte(r, replay_log::SMALL) == 1;
-    let copies = replay_log::byte(r, replay_log::COPIES);
-    let lifetime = replay_log::half(r, replay_log::LIFETIME);
-    answered(contacts::setting(&mut p.device, enabled, copies, lifetime))
+pub fn call_setting(p: &mut Post, r: &Record) -> Result<Answer, Refusal> {
+    contacts::setting(&mut p.device, r.enabled(), r.copies(), r.lifetime())?;
+    Ok(Answer::done())
 }
 
-pub fn call_clock(p: &mut Post, r: &[u8]) -> Answer {
-    contacts::clock(&mut p.device, replay_log::long(r, replay_log::NUMBER));
-    answered(Ok(()))
+pub fn call_clock(p: &mut Post, r: &Record) -> Answer {
+    contacts::clock(&mut p.device, r.number());
+    Answer::done()
 }
 
-pub fn call_fresh_exchange(p: &mut Post, r: &[u8]) -> Answer {
-    let w = which(r);
-    let n = replay_log::size(r, replay_log::PREFIXES_AREA);
-    let m = replay_log::size(r, replay_log::OFFERS_AREA);
-    let mut e = p.exchanges[w];
-    let said = exchange::fresh_exchange(
-        &mut e,
+pub fn call_fresh_exchange(p: &mut Post, r: &Record) -> Result<Answer, Refusal> {
+    let session = &mut p.sessions[r.exchange()];
+    exchange::fresh_exchange(
+        &mut session.exchange,
         p.device,
-        peer(r),
+        r.peer(),
         &p.contacts,
-        cut(&p.prefixes, w * PREFIXES, cap(n, PREFIXES)),
-        cut(&p.offers, w * OFFERS, cap(m, OFFERS)),
-    );
-    p.exchanges[w] = e;
-    answered(said)
+        front(&session.prefixes, r.prefixes_area()),
+        front(&session.offers, r.offers_area()),
+    )?;
+    Ok(Answer::done())
 }
 
 // ---- envelopes
 
-fn header(r: &[u8]) -> Header {
-    Header {
-        tag: tag(r),
-        c: second(r),
-        expiry_min: replay_log::word(r, replay_log::EXPIRY),
-        copies: replay_log::byte(r, replay_log::COPIES),
-    }
-}
-
-fn enveloped(said: Result<envelope::Answer, Refusal>) -> Answer {
-    match said {
-        Ok(envelope::Answer::Ours(id, generation, index)) => Answer {
-            generation,
-            index,
-            contact: id.0,
-            ..answer_of(OURS, 0, 0, 0)
-        },
-        Ok(envelope::Answer::Done(replies, actions)) => answer_of(DONE, replies, actions, 0),
-        Err(why) => refused(why),
-    }
-}
-
-pub fn call_envelope(p: &mut Post, r: &[u8]) -> Answer {
-    let z = p.sizes;
-    let tombstones = cut(&p.tombstones, 0, z.tombstones);
-    let cells = part(&mut p.cells, 0, z.cells);
-    let replies = lent(&mut p.replies, r, replay_log::REPLIES_AREA);
-    let actions = lent(&mut p.actions, r, replay_log::ACTIONS_AREA);
-    enveloped(envelope::envelope(
+pub fn call_envelope(p: &mut Post, r: &Record) -> Result<Answer, Refusal> {
+    let answer = envelope::envelope(
         &mut p.device,
-        peer(r),
-        header(r),
-        replay_log::rest(r),
-        replay_log::front(r),
+        r.peer(),
+        r.header(),
+        r.rest,
+        r.front,
         &p.contacts,
         &p.own,
         &mut p.carried,
-        tombstones,
-        cells,
-        replies,
-        actions,
-    ))
-}
-
-// Done where the ciphertext that a fetch hands out is that of the record's one reply, else what no record says.
-fn found(r: &[u8], ct: &[u8]) -> u8 {
-    let n = replay_log::half(r, replay_log::past(replay_log::replies_at(r), 1)) as usize;
-    if replay_log::same(ct, replay_log::cut(r, replay_log::bytes_at(r), n)) {
-        return DONE;
-    }
-    NEVER_SAID
-}
-
-// What a fetch says of the rows, with the cells and the replies lent.
-fn fetched<'c>(
-    device: Device,
-    r: &[u8],
-    contacts: &[u8; 2304],
-    own: &[u8; 13824],
-    carried: &[u8; 14592],
-    own_cells: &'c [u8],
-    cells: &'c [u8],
-    replies: &mut [u8],
-) -> Answer {
-    match fetch::fetch(
-        device,
-        peer(r),
-        tag(r),
-        contacts,
-        own,
-        carried,
-        own_cells,
-        cells,
-        replies,
-    ) {
-        Ok(Some(ct)) => answer_of(found(r, ct), 1, 0, 0),
-        Ok(None) => answer_of(MISSING, 0, 0, 0),
-        Err(why) => refused(why),
+        front(&p.tombstones, p.lent.tombstones),
+        front_mut(&mut p.cells, p.lent.cells),
+        front_mut(&mut p.replies, r.replies_area()),
+        front_mut(&mut p.actions, r.actions_area()),
+    )?;
+    match answer {
+        envelope::Answer::Ours(contact, generation, index) => Ok(Answer::of(Said::Ours(Key {
+            contact,
+            generation,
+            index,
+        }))),
+        envelope::Answer::Done(replies, actions) => Ok(Answer {
+            replies,
+            ..Answer::listed(actions)
+        }),
     }
 }
 
-pub fn call_fetch(p: &mut Post, r: &[u8]) -> Answer {
-    let z = p.sizes;
-    let replies = lent(&mut p.replies, r, replay_log::REPLIES_AREA);
-    let own_cells = cut(&p.own_cells, 0, z.own_cells);
-    let cells = cut(&p.cells, 0, z.cells);
-    fetched(
+// What a fetch of so many bytes' ciphertext says: the record has the length in the place of the one reply's cell, and the bytes.
+fn fetched(r: &Record, ct: &[u8]) -> Said {
+    match r.replies.first() {
+        Some(reply) if ct == front(r.expected, octets::get_u16(reply, 1) as usize) => Said::Done,
+        _ => Said::OtherCiphertext,
+    }
+}
+
+pub fn call_fetch(p: &mut Post, r: &Record) -> Result<Answer, Refusal> {
+    let found = fetch::fetch(
         p.device,
-        r,
+        r.peer(),
+        r.tag(),
         &p.contacts,
         &p.own,
         &p.carried,
-        own_cells,
-        cells,
-        replies,
-    )
+        front(&p.own_cells, p.lent.own_cells),
+        front(&p.cells, p.lent.cells),
+        front_mut(&mut p.replies, r.replies_area()),
+    )?;
+    match found {
+        Some(ct) => Ok(Answer {
+            replies: 1,
+            ..Answer::of(fetched(r, ct))
+        }),
+        None => Ok(Answer::of(Said::Missing)),
+    }
 }
 
-fn route_key(r: &[u8]) -> [u8; 32] {
-    let f = replay_log::front(r);
-    if f.len() < 32 {
-        return [0u8; 32];
-    }
-    octets::get_array(f, 0)
+// What is written one run behind the other in front of an area, as far as there is room.
+#[derive(Drop)]
+pub struct Writer<'a> {
+    area: &'a mut [u8],
+    at: usize,
 }
 
-// Puts a run behind another in front of an area, if there is room, and says where it ends.
-pub fn put(area: &mut [u8], at: usize, run: &[u8]) -> usize {
-    if area.len() < run.len() || area.len() - run.len() < at {
-        return at;
+impl<'a> Writer<'a> {
+    pub fn new(area: &'a mut [u8]) -> Writer<'a> {
+        Writer { area, at: 0 }
     }
-    octets::copy_in(area, at, run);
-    at + run.len()
+
+    // A run that has no room is left out.
+    pub fn put(&mut self, run: &[u8]) {
+        let end = self.at.saturating_add(run.len());
+        if let Some(place) = self.area.get_mut(self.at..end) {
+            place.copy_from_slice(run);
+            self.at = end;
+        }
+    }
+
+    // How many bytes were written.
+    pub fn end(self) -> usize {
+        self.at
+    }
 }
 
 // A new own row: its bytes without its cell, and its ciphertext.
-fn put_own(row: Own, cells: &[u8], replies: &mut [u8]) -> usize {
-    let b = rows::own_bytes(row);
-    let at = put(replies, 0, replay_log::cut(&b, 0, 52));
-    put(replies, at, fetch::cell_part(cells, row.cell, row.len))
+fn put_own(row: Own, cells: &[u8], area: &mut [u8]) -> usize {
+    let bytes = row.bytes();
+    let mut writer = Writer::new(area);
+    writer.put(front(&bytes, OWN_WIDTH - 2));
+    writer.put(fetch::cell_part(cells, row.cell, row.len));
+    writer.end()
 }
 
-pub fn call_own_envelope(p: &mut Post, r: &[u8]) -> Answer {
-    let z = p.sizes;
-    let dir = Dir::from_label(replay_log::byte(r, replay_log::SMALL)).unwrap_or(Dir::I);
+pub fn call_own_envelope(p: &mut Post, r: &Record) -> Result<Answer, Refusal> {
     let made = own_envelope::own_envelope(
         &mut p.device,
-        peer(r),
-        replay_log::word(r, replay_log::MESSAGE),
-        route_key(r),
-        dir,
-        replay_log::byte(r, replay_log::GENERATION),
-        replay_log::word(r, replay_log::INDEX),
-        second(r),
-        replay_log::rest(r),
+        r.peer(),
+        r.message(),
+        r.route_key(),
+        r.dir(),
+        r.generation(),
+        r.index(),
+        r.second(),
+        r.rest,
         &p.contacts,
         &mut p.own,
-        part(&mut p.own_cells, 0, z.own_cells),
-    );
-    let cells = cut(&p.own_cells, 0, z.own_cells);
+        front_mut(&mut p.own_cells, p.lent.own_cells),
+    )?;
     match made {
-        Ok(Some(row)) => answer_of(DONE, 0, 0, put_own(row, cells, &mut p.replies)),
-        Ok(None) => answer_of(NO_ENVELOPE, 0, 0, 0),
-        Err(why) => refused(why),
+        Some(row) => Ok(Answer::wrote(put_own(
+            row,
+            front(&p.own_cells, p.lent.own_cells),
+            &mut p.replies,
+        ))),
+        None => Ok(Answer::of(Said::NoEnvelope)),
     }
 }
 
 // ---- inventories and custody codes
 
-fn received(said: Result<inventory::Said, Refusal>) -> Answer {
-    match said {
-        Ok(inventory::Said::Done(replies, searched)) => Answer {
-            searched,
-            ..answer_of(DONE, replies, 0, 0)
-        },
-        Ok(inventory::Said::Malformed) => answer_of(MALFORMED, 0, 0, 0),
-        Err(why) => refused(why),
-    }
-}
-
-pub fn call_inventory(p: &mut Post, r: &[u8]) -> Answer {
-    let z = p.sizes;
-    let w = which(r);
-    let n = replay_log::size(r, replay_log::PREFIXES_AREA);
-    let m = replay_log::size(r, replay_log::OFFERS_AREA);
-    let mut e = p.exchanges[w];
+pub fn call_inventory(p: &mut Post, r: &Record) -> Result<Answer, Refusal> {
+    let session = &mut p.sessions[r.exchange()];
     let said = exchange::receive_inventory(
-        &mut e,
+        &mut session.exchange,
         p.device,
-        peer(r),
+        r.peer(),
         &p.contacts,
         &p.own,
         &p.carried,
-        cut(&p.tombstones, 0, z.tombstones),
-        cut(&p.bad_tags, 0, z.bad_tags),
-        replay_log::front(r),
-        replay_log::rest(r),
-        part(&mut p.prefixes, w * PREFIXES, cap(n, PREFIXES)),
-        part(&mut p.offers, w * OFFERS, cap(m, OFFERS)),
-        lent(&mut p.replies, r, replay_log::REPLIES_AREA),
-    );
-    p.exchanges[w] = e;
-    received(said)
+        front(&p.tombstones, p.lent.tombstones),
+        front(&p.bad_tags, p.lent.bad_tags),
+        r.front,
+        r.rest,
+        front_mut(&mut session.prefixes, r.prefixes_area()),
+        front_mut(&mut session.offers, r.offers_area()),
+        front_mut(&mut p.replies, r.replies_area()),
+    )?;
+    match said {
+        inventory::Said::Done(replies, searched) => Ok(Answer {
+            replies,
+            searched,
+            ..Answer::done()
+        }),
+        inventory::Said::Malformed => Ok(Answer::of(Said::Malformed)),
+    }
 }
 
-pub fn call_custody_code(p: &mut Post, r: &[u8]) -> Answer {
-    let z = p.sizes;
-    let w = which(r);
-    let code = replay_log::byte(r, replay_log::SMALL);
-    let n = replay_log::size(r, replay_log::PREFIXES_AREA);
-    let m = replay_log::size(r, replay_log::OFFERS_AREA);
-    let mut e = p.exchanges[w];
-    let said = exchange::handed_over(
-        &mut e,
+pub fn call_custody_code(p: &mut Post, r: &Record) -> Result<Answer, Refusal> {
+    let session = &mut p.sessions[r.exchange()];
+    let actions = exchange::handed_over(
+        &mut session.exchange,
         &mut p.device,
-        peer(r),
-        tag(r),
-        Custody::from_code(code).unwrap_or(Custody::Invalid),
+        r.peer(),
+        r.tag(),
+        r.custody(),
         &p.contacts,
         &mut p.own,
         &mut p.carried,
-        cut(&p.tombstones, 0, z.tombstones),
-        cut(&p.prefixes, w * PREFIXES, cap(n, PREFIXES)),
-        part(&mut p.offers, w * OFFERS, cap(m, OFFERS)),
-        lent(&mut p.actions, r, replay_log::ACTIONS_AREA),
-    );
-    p.exchanges[w] = e;
-    listing(said)
+        front(&p.tombstones, p.lent.tombstones),
+        front(&session.prefixes, r.prefixes_area()),
+        front_mut(&mut session.offers, r.offers_area()),
+        front_mut(&mut p.actions, r.actions_area()),
+    )?;
+    Ok(Answer::listed(actions))
 }
 
-// The listed prefixes go into the answer area.
-pub fn call_inventory_of_ours(p: &mut Post, r: &[u8]) -> Answer {
-    match inventory::inventory(
+// The listed prefixes, eight bytes each, go into the answer area.
+pub fn call_inventory_of_ours(p: &mut Post, r: &Record) -> Result<Answer, Refusal> {
+    let count = inventory::inventory(
         p.device,
-        peer(r),
+        r.peer(),
         &p.contacts,
         &p.own,
         &p.carried,
-        lent(&mut p.replies, r, replay_log::ANSWER_AREA),
-    ) {
-        Ok(count) => answer_of(DONE, 0, 0, cap(count, 512) * 8),
-        Err(why) => refused(why),
-    }
+        front_mut(&mut p.replies, r.answer_area()),
+    )?;
+    Ok(Answer::wrote(count.saturating_mul(8)))
 }

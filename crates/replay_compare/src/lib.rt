@@ -2,135 +2,176 @@
 // of its row, and what the call wrote or read.
 #![tactic(auto)]
 
-ghost use Rattle.std.specs.Prelude.{◌+◌, ◌≤◌};
+use courier_core::Refusal;
+use replay_calls::{Answer, Post, front};
+use replay_log::{PUT_WIDTH, Record};
+use rows::{ACTION_WIDTH, Action, CARRIED_WIDTH, Carried, OWN_WIDTH, Own, REPLY_WIDTH, Reply, Row};
+use std::fmt;
 
-use replay_calls::{Answer, Post};
-use replay_log::{cap, cut, same};
+// The kind of a reply that has an envelope, and of an action that puts a held row.
+const ENVELOPE: u8 = 1;
 
-// What differs. Replies and actions are told by their place.
+const PUT: u8 = 0;
+
+// What differs. Replies and actions are told by their place, from 0 on.
 #[derive(Clone, Copy)]
 pub enum Difference {
     Answer,
-    Reply(u16),
-    Ciphertext(u16), // of a reply
-    Action(u16),
-    Blob(u16), // of the row that an action put
+    Reply(usize),
+    Ciphertext(usize), // of a reply
+    Action(usize),
+    Blob(usize), // of the row that an action put
     Bytes, // that were written or read
 }
 
-fn same_answer(r: &[u8], a: Answer) -> bool {
-    a.said == replay_log::byte(r, replay_log::SAID)
-        && a.generation == replay_log::byte(r, replay_log::SAID_GENERATION)
-        && a.index == replay_log::word(r, replay_log::SAID_INDEX)
-        && a.contact == replay_log::long(r, replay_log::SAID_CONTACT)
-        && a.replies == replay_log::half(r, replay_log::REPLIES) as usize
-        && a.actions == replay_log::half(r, replay_log::ACTIONS) as usize
-        && a.searched == replay_log::half(r, replay_log::SEARCHED) as usize
+impl fmt::Display for Difference {
+    fn fmt<W: fmt::Write>(&self, f: &mut fmt::Formatter<W>) -> fmt::Result {
+        match self {
+            Difference::Answer => f.write_str("the answer"),
+            Difference::Reply(i) => write!(f, "reply {i}"),
+            Difference::Ciphertext(i) => write!(f, "the ciphertext of reply {i}"),
+            Difference::Action(i) => write!(f, "action {i}"),
+            Difference::Blob(i) => write!(f, "the blob of action {i}"),
+            Difference::Bytes => f.write_str("what it wrote or read"),
+        }
+    }
 }
 
-// The length of the ciphertext in a cell: that of the row which names it, of rows with the cell at one place and the length at another.
-fn length_of(table: &[u8], width: usize, count: usize, cell: u16, at: usize, place: usize) -> u16
-    requires { (at + 2 ≤ width) × (width ≤ 57) × (place ≤ 57) }
-{
-    let n = table::fit(table.len(), width, count);
-    match table::find(table, width, n, at, &cell.to_be_bytes()) {
-        Some(i) => replay_log::half(table, cap(i, 256) * width + place),
-        None => 0,
+// A refused call says nothing but its number.
+fn same_answer(r: &Record, answer: Result<Answer, Refusal>) -> bool {
+    let a = answer.unwrap_or(Answer::done());
+    let number = match answer {
+        Ok(a) => a.said.number(),
+        Err(why) => why.number(),
+    };
+    r.said() == number
+        && r.said_key() == a.said.key()
+        && r.replies.len() == a.replies
+        && r.actions.len() == a.actions
+        && r.searched() == a.searched
+}
+
+// The first n rows, or all where there are fewer.
+fn first<T>(rows: &[T], n: usize) -> &[T] {
+    &rows[..n.min(rows.len())]
+}
+
+// The ciphertext of an own row's cell; none where no row names it.
+fn own_sent(p: &Post, cell: u16) -> &[u8] {
+    let rows: &[[u8; OWN_WIDTH]] = p.own.as_chunks().0;
+    for bytes in first(rows, p.device.own) {
+        let row = Own::read(bytes, 0);
+        if row.cell == cell {
+            return fetch::cell_part(front(&p.own_cells, p.lent.own_cells), cell, row.len);
+        }
     }
+    b""
+}
+
+// The same, of a carried row. (Two functions: rows by the trait have bytes alone, and a cell and a length would be a trait more, with two impls.)
+fn carried_sent(p: &Post, cell: u16) -> &[u8] {
+    let rows: &[[u8; CARRIED_WIDTH]] = p.carried.as_chunks().0;
+    for bytes in first(rows, p.device.carried) {
+        let row = Carried::read(bytes, 0);
+        if row.cell == cell {
+            return fetch::cell_part(front(&p.cells, p.lent.cells), cell, row.len);
+        }
+    }
+    b""
 }
 
 // The ciphertext of a reply's cell: own from 0, carried from 256.
 fn sent(p: &Post, cell: u16) -> &[u8] {
     if cell < 256 {
-        let len = length_of(&p.own, rows::OWN_WIDTH, p.device.own, cell, 52, 50);
-        return fetch::cell_part(cut(&p.own_cells, 0, p.sizes.own_cells), cell, len);
+        own_sent(p, cell)
+    } else {
+        carried_sent(p, cell - 256)
     }
-    let cell = cell - 256;
-    let len = length_of(
-        &p.carried,
-        rows::CARRIED_WIDTH,
-        p.device.carried,
-        cell,
-        55,
-        53,
-    );
-    fetch::cell_part(cut(&p.cells, 0, p.sizes.cells), cell, len)
 }
 
-// Everything but the cell, where there is one.
-fn same_reply(ours: &[u8], theirs: &[u8]) -> bool {
-    if replay_log::byte(ours, 0) == 1 {
-        return replay_log::byte(theirs, 0) == 1 && same(cut(ours, 3, 37), cut(theirs, 3, 37));
-    }
-    same(ours, theirs)
-}
-
-// Row i of a run of rows that begins at a place.
-fn row_of(area: &[u8], from: usize, width: usize, i: u16) -> &[u8] {
-    let w = cap(width, 40);
-    cut(area, replay_log::past(from, i as usize * w), w)
-}
-
-// The reply at i, where the expected bytes go on at `at`: answers where they go on behind it.
-fn see_reply(at: usize, i: u16, p: &Post, r: &[u8]) -> Result<usize, Difference> {
-    let ours = row_of(&p.replies, 0, rows::REPLY_WIDTH, i);
-    let theirs = row_of(r, replay_log::replies_at(r), rows::REPLY_WIDTH, i);
-    if !same_reply(ours, theirs) {
+// Compares the reply at i, and takes its ciphertext off the front of the expected bytes. An envelope's cell is not compared: the record has
+// the length of the ciphertext in its place.
+fn see_reply<'r>(
+    expected: &'r [u8],
+    i: usize,
+    ours: Reply,
+    theirs: Reply,
+    p: &Post,
+) -> Result<&'r [u8], Difference> {
+    if ours.kind != theirs.kind || ours.body != theirs.body {
         return Err(Difference::Reply(i));
     }
-    if replay_log::byte(ours, 0) != 1 {
-        return Ok(at);
+    if ours.kind != ENVELOPE {
+        return if ours.cell == theirs.cell {
+            Ok(expected)
+        } else {
+            Err(Difference::Reply(i))
+        };
     }
-    let n = replay_log::half(theirs, 1) as usize;
-    if same(sent(p, replay_log::half(ours, 1)), cut(r, at, n)) {
-        return Ok(replay_log::past(at, n));
+    let sent = sent(p, ours.cell);
+    if sent.len() != usize::from(theirs.cell) {
+        return Err(Difference::Ciphertext(i));
     }
-    Err(Difference::Ciphertext(i))
+    expected.strip_prefix(sent).ok_or(Difference::Ciphertext(i))
 }
 
 // The blob of a row that was put; of no bytes where no row has the slot.
 fn same_put(p: &Post, slot: u64, theirs: &[u8]) -> bool {
     let mut blob = [0u8; state::BLOB];
-    let tombstones = cut(&p.tombstones, 0, p.sizes.tombstones);
-    let cells = cut(&p.cells, 0, p.sizes.cells);
-    match saved::row_blob(p.device, slot, &p.carried, tombstones, cells, &mut blob) {
-        Ok(Some(n)) => same(cut(&blob, 0, n), theirs),
+    match saved::row_blob(
+        p.device,
+        slot,
+        &p.carried,
+        front(&p.tombstones, p.lent.tombstones),
+        front(&p.cells, p.lent.cells),
+        &mut blob,
+    ) {
+        Ok(Some(n)) => front(&blob, n) == theirs,
         Ok(None) => theirs.is_empty(),
         Err(_) => false,
     }
 }
 
 // The same, of the action at i. A record's action has two bytes more, the length of the blob.
-fn see_action(at: usize, i: u16, p: &Post, r: &[u8]) -> Result<usize, Difference> {
-    let ours = row_of(&p.actions, 0, rows::ACTION_WIDTH, i);
-    let theirs = row_of(r, replay_log::actions_at(r), rows::ACTION_WIDTH + 2, i);
-    if !same(ours, cut(theirs, 0, rows::ACTION_WIDTH)) {
+fn see_action<'r>(
+    expected: &'r [u8],
+    i: usize,
+    ours: &[u8; ACTION_WIDTH],
+    theirs: &[u8; PUT_WIDTH],
+    p: &Post,
+) -> Result<&'r [u8], Difference> {
+    if ours[..] != theirs[..ACTION_WIDTH] {
         return Err(Difference::Action(i));
     }
-    if replay_log::byte(ours, 0) > 0 {
-        return Ok(at);
+    let action = Action::read(ours, 0);
+    if action.kind != PUT {
+        return Ok(expected);
     }
-    let n = replay_log::half(theirs, rows::ACTION_WIDTH) as usize;
-    if same_put(p, replay_log::long(ours, 1), cut(r, at, n)) {
-        return Ok(replay_log::past(at, n));
+    let n = usize::from(octets::get_u16(theirs, ACTION_WIDTH));
+    match expected.split_at_checked(n) {
+        Some((blob, rest)) if same_put(p, action.number, blob) => Ok(rest),
+        _ => Err(Difference::Blob(i)),
     }
-    Err(Difference::Blob(i))
 }
 
 // What the call wrote or read is all of the expected bytes that are left.
-pub fn compare(a: Answer, p: &Post, r: &[u8]) -> Result<(), Difference> {
-    if !same_answer(r, a) {
+pub fn compare(answer: Result<Answer, Refusal>, p: &Post, r: &Record) -> Result<(), Difference> {
+    if !same_answer(r, answer) {
         return Err(Difference::Answer);
     }
-    let mut at = replay_log::bytes_at(r);
-    for i in 0..replay_log::half(r, replay_log::REPLIES) {
-        at = see_reply(at, i, p, r)?;
+    let mut expected = r.expected;
+    let replies: &[[u8; REPLY_WIDTH]] = p.replies.as_chunks().0;
+    for (i, (ours, theirs)) in replies.iter().zip(r.replies).enumerate() {
+        expected = see_reply(expected, i, Reply::read(ours, 0), Reply::read(theirs, 0), p)?;
     }
-    for i in 0..replay_log::half(r, replay_log::ACTIONS) {
-        at = see_action(at, i, p, r)?;
+    let actions: &[[u8; ACTION_WIDTH]] = p.actions.as_chunks().0;
+    for (i, (ours, theirs)) in actions.iter().zip(r.actions).enumerate() {
+        expected = see_action(expected, i, ours, theirs, p)?;
     }
-    if same(cut(&p.replies, 0, a.length), cut(r, at, r.len())) {
-        return Ok(());
+    let wrote = answer.map_or(0, |a| a.length);
+    if front(&p.replies, wrote) == expected {
+        Ok(())
+    } else {
+        Err(Difference::Bytes)
     }
-    Err(Difference::Bytes)
 }

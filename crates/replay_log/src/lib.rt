@@ -1,4 +1,4 @@
-// The records of a sample: the calls of lists, each with what it is made with and what it must answer. Numbers are big-endian.
+// The entries of a sample: the calls of lists, each with what it is made with and what it must answer. Numbers are big-endian.
 //
 //   sample   "SAMPLE 3", the lists, then `E`, how many lists (2 bytes) and how many calls (4)
 //   list     `L`, carried cells (2), own cells (2), tombstone rows (2), bad-tag rows (2), calls (2); then the calls
@@ -9,76 +9,84 @@
 //            and the expected bytes: the ciphertexts of the replies, the blobs of the puts, and what the call wrote or read
 #![tactic(auto)]
 
-ghost use Rattle.std.specs.Prelude.{◌≤◌};
+ghost use Rattle.std.specs.Prelude.{◌<◌, ◌≤◌, IfSome, length};
+ghost use Rattle.std.specs.Iterator.{at_most};
+
+use chain::Dir;
+use courier::{Custody, Header};
+use courier_core::{ContactId, Verification};
+use rows::{ACTION_WIDTH, REPLY_WIDTH};
+use std::fmt;
 
 // ---- places in the head of a call
 
 // The byte of a `Kind`.
-pub const KIND: usize = 1;
+const KIND: usize = 1;
 
 // Which of the three exchanges.
-pub const EXCHANGE: usize = 2;
+const EXCHANGE: usize = 2;
 
 // A verification, enabled, a custody code, or a direction.
-pub const SMALL: usize = 3;
+const SMALL: usize = 3;
 
-pub const COPIES: usize = 4;
+const COPIES: usize = 4;
 
-pub const GENERATION: usize = 5;
+const GENERATION: usize = 5;
 
-pub const LIFETIME: usize = 6;
+const LIFETIME: usize = 6;
 
 // A contact, a peer, seconds, a slot, or a page.
-pub const NUMBER: usize = 8;
+const NUMBER: usize = 8;
 
-pub const EXPIRY: usize = 16;
+const EXPIRY: usize = 16;
 
-pub const INDEX: usize = 20;
+const INDEX: usize = 20;
 
-pub const MESSAGE: usize = 24;
+const MESSAGE: usize = 24;
 
-pub const TAG: usize = 28;
+const TAG: usize = 28;
 
 // A commitment or a secret.
-pub const SECOND: usize = 44;
+const SECOND: usize = 44;
 
 // The lengths of the areas that number 1 speaks of.
-pub const REPLIES_AREA: usize = 60;
+const REPLIES_AREA: usize = 60;
 
-pub const PREFIXES_AREA: usize = 64;
+const PREFIXES_AREA: usize = 64;
 
-pub const OFFERS_AREA: usize = 68;
+const OFFERS_AREA: usize = 68;
 
-pub const ACTIONS_AREA: usize = 72;
+const ACTIONS_AREA: usize = 72;
 
-pub const ANSWER_AREA: usize = 76;
+const ANSWER_AREA: usize = 76;
 
 // The lengths of the front and the rest.
-pub const FRONT: usize = 80;
+const FRONT: usize = 80;
 
-pub const REST: usize = 84;
+const REST: usize = 84;
 
 // What must be answered: a number of those below, or of a refusal.
-pub const SAID: usize = 88;
+const SAID: usize = 88;
 
-pub const SAID_GENERATION: usize = 89;
+const SAID_GENERATION: usize = 89;
 
-pub const SAID_INDEX: usize = 90;
+const SAID_INDEX: usize = 90;
 
-pub const SAID_CONTACT: usize = 94;
+const SAID_CONTACT: usize = 94;
 
-pub const REPLIES: usize = 102;
+// How many rows and bytes the other three runs have.
+const REPLIES: usize = 102;
 
-pub const ACTIONS: usize = 104;
+const ACTIONS: usize = 104;
 
-pub const BYTES: usize = 106;
+const BYTES: usize = 106;
 
 // For how many rows the end of an inventory searched the tombstones.
-pub const SEARCHED: usize = 110;
+const SEARCHED: usize = 110;
 
-pub const HEAD: usize = 112;
+const HEAD: usize = 112;
 
-// ---- kinds of calls, by their bytes
+// ---- kinds of calls
 
 #[derive(Clone, Copy, PartialEq, Eq)]
 pub enum Kind {
@@ -105,7 +113,7 @@ pub enum Kind {
     Page,
 }
 
-// In the order of their bytes, from 0 on.
+// In the order of their bytes, from 0 on, and of the enum.
 pub const KINDS: [Kind; 21] = [
     Kind::Contact,
     Kind::Setting,
@@ -130,284 +138,452 @@ pub const KINDS: [Kind; 21] = [
     Kind::Page,
 ];
 
+// (No `TryFrom`: it would need an error type, which says no more than `None`.)
 impl Kind {
-    pub fn from_byte(byte: u8) -> Option<Kind> {
-        let i = byte as usize;
-        if i < KINDS.len() {
-            return Some(KINDS[i]);
-        }
-        None
+    fn from_byte(byte: u8) -> Option<Kind> {
+        KINDS.get(usize::from(byte)).copied()
     }
 
-    // Its name, as the programs write it.
-    pub fn name(self) -> &'static [u8] {
-        match self {
-            Kind::Contact => b"contact",
-            Kind::Setting => b"setting",
-            Kind::Clock => b"clock",
-            Kind::FreshExchange => b"fresh exchange",
-            Kind::Envelope => b"envelope",
-            Kind::Inventory => b"inventory received",
-            Kind::Fetch => b"fetch",
-            Kind::CustodyCode => b"custody code",
-            Kind::Tomb => b"tomb",
-            Kind::Opened => b"report opened",
-            Kind::Failed => b"report failed",
-            Kind::StoredTombstone => b"stored tombstone",
-            Kind::OwnEnvelope => b"own envelope",
-            Kind::Maintenance => b"maintenance",
-            Kind::InventoryOfOurs => b"inventory of ours",
-            Kind::Window => b"window",
-            Kind::RowBlob => b"row blob",
-            Kind::RowRead => b"row read",
-            Kind::Save => b"save",
-            Kind::Load => b"load",
-            Kind::Page => b"page",
-        }
+    pub fn byte(self) -> u8 {
+        self as u8
     }
 }
 
-// ---- what the calls say, in the library's numbers (crates/host_answers)
+impl fmt::Display for Kind {
+    fn fmt<W: fmt::Write>(&self, f: &mut fmt::Formatter<W>) -> fmt::Result {
+        f.write_str(match self {
+            Kind::Contact => "contact",
+            Kind::Setting => "setting",
+            Kind::Clock => "clock",
+            Kind::FreshExchange => "fresh exchange",
+            Kind::Envelope => "envelope",
+            Kind::Inventory => "inventory received",
+            Kind::Fetch => "fetch",
+            Kind::CustodyCode => "custody code",
+            Kind::Tomb => "tomb",
+            Kind::Opened => "report opened",
+            Kind::Failed => "report failed",
+            Kind::StoredTombstone => "stored tombstone",
+            Kind::OwnEnvelope => "own envelope",
+            Kind::Maintenance => "maintenance",
+            Kind::InventoryOfOurs => "inventory of ours",
+            Kind::Window => "window",
+            Kind::RowBlob => "row blob",
+            Kind::RowRead => "row read",
+            Kind::Save => "save",
+            Kind::Load => "load",
+            Kind::Page => "page",
+        })
+    }
+}
+
+// ---- what the calls say that are not refused
+
+// A message key of the window.
+#[derive(Clone, Copy, PartialEq, Eq)]
+pub struct Key {
+    pub contact: ContactId,
+    pub generation: u8,
+    pub index: u32,
+}
+
+#[derive(Clone, Copy, PartialEq, Eq)]
+pub enum Said {
+    Done,
+    Malformed, // what the peer sent
+    Ours(Key), // the envelope is in the window
+    Missing, // no such envelope, no such row
+    NoEnvelope, // the message gets none of its own
+    OtherCiphertext, // than that of the fetched envelope
+}
+
+// The library's numbers of them (crates/host_answers).
+pub const DONE: u8 = 0;
+
+pub const MALFORMED: u8 = 128;
+
+pub const OURS: u8 = 129;
+
+pub const MISSING: u8 = 130;
+
+pub const NO_ENVELOPE: u8 = 131;
+
+// What no record has.
+const NEVER_SAID: u8 = 255;
 
 // The last number of a refusal; 1 is the first.
 pub const LAST_REFUSAL: u8 = 13;
 
-pub const DONE: u8 = 0;
-
-// What the peer sent is malformed.
-pub const MALFORMED: u8 = 128;
-
-// The envelope is in the window.
-pub const OURS: u8 = 129;
-
-// No such envelope, no such row.
-pub const MISSING: u8 = 130;
-
-// The message gets no own envelope.
-pub const NO_ENVELOPE: u8 = 131;
-
-// What no record says.
-pub const NEVER_SAID: u8 = 255;
-
-// ---- parts of bytes: what is not there is cut off, and reads as 0
-
-pub fn cap(n: usize, most: usize) -> usize
-    ensures { result ≤ most }
-{
-    n.min(most)
-}
-
-// The sum of two places; both are below 2^40 in a sample.
-pub fn past(at: usize, n: usize) -> usize
-    ensures { result ≤ 2199023255552 }
-{
-    if at < 0x100_0000_0000 {
-        if n < 0x100_0000_0000 {
-            return at + n;
+impl Said {
+    pub fn number(self) -> u8 {
+        match self {
+            Said::Done => DONE,
+            Said::Malformed => MALFORMED,
+            Said::Ours(_) => OURS,
+            Said::Missing => MISSING,
+            Said::NoEnvelope => NO_ENVELOPE,
+            Said::OtherCiphertext => NEVER_SAID,
         }
     }
-    0x100_0000_0000
-}
 
-// The n bytes from a place on.
-pub fn cut(s: &[u8], at: usize, n: usize) -> &[u8] {
-    let a = cap(at, s.len());
-    let e = a + cap(n, s.len() - a);
-    &s[a..e]
-}
-
-pub fn byte(r: &[u8], at: usize) -> u8 {
-    state::byte_at(r, at).unwrap_or(0)
-}
-
-pub fn half(r: &[u8], at: usize) -> u16 {
-    if r.len() < 2 {
-        return 0;
+    // The key that it names, of zeros where it names none.
+    pub fn key(self) -> Key {
+        match self {
+            Said::Ours(key) => key,
+            _ => Key {
+                contact: ContactId(0),
+                generation: 0,
+                index: 0,
+            },
+        }
     }
-    if r.len() - 2 < at {
-        return 0;
+}
+
+// ---- a list
+
+// How many rows and cells its post has room for, and how many calls it has.
+#[derive(Clone, Copy)]
+pub struct List {
+    pub cells: usize,
+    pub own_cells: usize,
+    pub tombstones: usize,
+    pub bad_tags: usize,
+    pub calls: usize,
+}
+
+const LIST_HEAD: usize = 11;
+
+// A number of two bytes, as a length.
+fn half(bytes: &[u8; LIST_HEAD], at: usize) -> usize {
+    usize::from(octets::get_u16(bytes, at.min(LIST_HEAD - 2)))
+}
+
+impl List {
+    // The list with which the bytes begin, and those behind it; none where the program has no areas for it.
+    fn first_of(bytes: &[u8]) -> Option<(List, &[u8])>
+        ensures { IfSome result (λ p. length p.1.now < length bytes.now) }
+    {
+        let (head, rest) = bytes.split_first_chunk::<LIST_HEAD>()?;
+        let list = List {
+            cells: half(head, 1),
+            own_cells: half(head, 3),
+            tombstones: half(head, 5),
+            bad_tags: half(head, 7),
+            calls: half(head, 9),
+        };
+        if list.is_small() && list.calls > 0 {
+            return Some((list, rest));
+        }
+        None
     }
-    octets::get_u16(r, at)
-}
 
-pub fn word(r: &[u8], at: usize) -> u32 {
-    state::u32_at(r, at).unwrap_or(0)
-}
-
-pub fn long(r: &[u8], at: usize) -> u64 {
-    state::u64_at(r, at).unwrap_or(0)
-}
-
-pub fn size(r: &[u8], at: usize) -> usize {
-    word(r, at) as usize
-}
-
-pub fn sixteen(r: &[u8], at: usize) -> [u8; 16] {
-    state::array_at(r, at).unwrap_or([0u8; 16])
-}
-
-pub fn same(a: &[u8], b: &[u8]) -> bool {
-    if a.len() == b.len() {
-        return octets::same(a, 0, b, 0, a.len());
+    fn is_small(&self) -> bool {
+        self.cells <= 256 && self.own_cells <= 256 && self.tombstones <= 1100 && self.bad_tags <= 10
     }
-    false
 }
 
-// ---- the runs behind the head
+// ---- the record of a call
 
-pub fn front(r: &[u8]) -> &[u8] {
-    cut(r, HEAD, size(r, FRONT))
+// An action row, and the length of the blob of a row that was put.
+pub const PUT_WIDTH: usize = ACTION_WIDTH + 2;
+
+// What the call is made with, and what it must answer.
+#[derive(Clone, Copy)]
+pub struct Record<'s> {
+    pub kind: Kind,
+    head: &'s [u8; HEAD],
+    pub front: &'s [u8],
+    pub rest: &'s [u8],
+    pub replies: &'s [[u8; REPLY_WIDTH]],
+    pub actions: &'s [[u8; PUT_WIDTH]],
+    pub expected: &'s [u8],
 }
 
-pub fn rest(r: &[u8]) -> &[u8] {
-    cut(r, past(HEAD, size(r, FRONT)), size(r, REST))
+impl<'s> Record<'s> {
+    // The record with which the bytes begin, and those behind it; none where no whole one does, or one of no call.
+    fn first_of(bytes: &'s [u8]) -> Option<(Record<'s>, &'s [u8])>
+        ensures { IfSome result (λ p. length p.1.now < length bytes.now) }
+    {
+        let (head, runs) = bytes.split_first_chunk::<HEAD>()?;
+        let kind = Kind::from_byte(head[KIND])?;
+        let (front, runs) = runs.split_at_checked(octets::get_u32(head, FRONT) as usize)?;
+        let (rest, runs) = runs.split_at_checked(octets::get_u32(head, REST) as usize)?;
+        let replies = usize::from(octets::get_u16(head, REPLIES)) * REPLY_WIDTH;
+        let (replies, runs) = runs.split_at_checked(replies)?;
+        let actions = usize::from(octets::get_u16(head, ACTIONS)) * PUT_WIDTH;
+        let (actions, runs) = runs.split_at_checked(actions)?;
+        let (expected, behind) = runs.split_at_checked(octets::get_u32(head, BYTES) as usize)?;
+        let record = Record {
+            kind,
+            head,
+            front,
+            rest,
+            replies: replies.as_chunks().0,
+            actions: actions.as_chunks().0,
+            expected,
+        };
+        if record.is_call() {
+            return Some((record, behind));
+        }
+        None
+    }
+
+    // May the head's bytes be what its kind of call takes them for?
+    fn is_call(&self) -> bool {
+        let small = self.head[SMALL];
+        self.head[EXCHANGE] < 3
+            && match self.kind {
+                Kind::Contact => Verification::from_byte(small).is_some(),
+                Kind::Setting => small < 2,
+                Kind::CustodyCode => Custody::from_code(small).is_some(),
+                Kind::OwnEnvelope => Dir::from_label(small).is_some() && self.front.len() == 32,
+                _ => true,
+            }
+    }
+
+    // As a reference of its own: what a field that is a reference shows cannot be lent on as a slice.
+    fn head(&self) -> &'s [u8; HEAD] {
+        self.head
+    }
+
+    // ---- what the call is made with
+
+    // Which of the three exchanges.
+    pub fn exchange(&self) -> usize
+        ensures { result ≤ 2 }
+    {
+        usize::from(self.head[EXCHANGE]).min(2)
+    }
+
+    // Of a contact call; and so each of the four that read this byte.
+    pub fn verification(&self) -> Verification {
+        Verification::from_byte(self.head[SMALL]).unwrap_or(Verification::Compromised)
+    }
+
+    pub fn enabled(&self) -> bool {
+        self.head[SMALL] == 1
+    }
+
+    pub fn custody(&self) -> Custody {
+        Custody::from_code(self.head[SMALL]).unwrap_or(Custody::Invalid)
+    }
+
+    pub fn dir(&self) -> Dir {
+        Dir::from_label(self.head[SMALL]).unwrap_or(Dir::I)
+    }
+
+    pub fn copies(&self) -> u8 {
+        self.head[COPIES]
+    }
+
+    pub fn generation(&self) -> u8 {
+        self.head[GENERATION]
+    }
+
+    pub fn lifetime(&self) -> u16 {
+        octets::get_u16(self.head(), LIFETIME)
+    }
+
+    // Seconds, a slot, or a page.
+    pub fn number(&self) -> u64 {
+        octets::get_u64(self.head(), NUMBER)
+    }
+
+    // A contact or a peer.
+    pub fn peer(&self) -> ContactId {
+        ContactId(self.number())
+    }
+
+    pub fn expiry(&self) -> u32 {
+        octets::get_u32(self.head(), EXPIRY)
+    }
+
+    pub fn index(&self) -> u32 {
+        octets::get_u32(self.head(), INDEX)
+    }
+
+    pub fn message(&self) -> u32 {
+        octets::get_u32(self.head(), MESSAGE)
+    }
+
+    pub fn tag(&self) -> [u8; 16] {
+        octets::get_array(self.head(), TAG)
+    }
+
+    // A commitment or a secret.
+    pub fn second(&self) -> [u8; 16] {
+        octets::get_array(self.head(), SECOND)
+    }
+
+    // Of an envelope.
+    pub fn header(&self) -> Header {
+        Header {
+            tag: self.tag(),
+            c: self.second(),
+            expiry_min: self.expiry(),
+            copies: self.copies(),
+        }
+    }
+
+    // Of an own envelope.
+    pub fn route_key(&self) -> [u8; 32] {
+        self.front.first_chunk().copied().unwrap_or([0; 32])
+    }
+
+    // ---- how long the areas are that it lends
+
+    pub fn replies_area(&self) -> usize {
+        octets::get_u32(self.head(), REPLIES_AREA) as usize
+    }
+
+    pub fn prefixes_area(&self) -> usize {
+        octets::get_u32(self.head(), PREFIXES_AREA) as usize
+    }
+
+    pub fn offers_area(&self) -> usize {
+        octets::get_u32(self.head(), OFFERS_AREA) as usize
+    }
+
+    pub fn actions_area(&self) -> usize {
+        octets::get_u32(self.head(), ACTIONS_AREA) as usize
+    }
+
+    pub fn answer_area(&self) -> usize {
+        octets::get_u32(self.head(), ANSWER_AREA) as usize
+    }
+
+    // ---- what it must answer
+
+    // A number of what the calls say, or of a refusal.
+    pub fn said(&self) -> u8 {
+        self.head[SAID]
+    }
+
+    pub fn said_key(&self) -> Key {
+        Key {
+            contact: ContactId(octets::get_u64(self.head(), SAID_CONTACT)),
+            generation: self.head[SAID_GENERATION],
+            index: octets::get_u32(self.head(), SAID_INDEX),
+        }
+    }
+
+    pub fn searched(&self) -> usize {
+        usize::from(octets::get_u16(self.head(), SEARCHED))
+    }
 }
 
-pub fn replies_at(r: &[u8]) -> usize {
-    past(past(HEAD, size(r, FRONT)), size(r, REST))
+// ---- a sample
+
+#[derive(Clone, Copy)]
+pub enum Entry<'s> {
+    List(List),
+    Call(Record<'s>),
+    End { lists: usize, calls: usize }, // how many there are; nothing stands behind it
 }
 
-pub fn actions_at(r: &[u8]) -> usize {
-    past(replies_at(r), half(r, REPLIES) as usize * 40)
+impl<'s> Entry<'s> {
+    // The entry with which the bytes begin, and those behind it.
+    fn first_of(bytes: &'s [u8]) -> Option<(Entry<'s>, &'s [u8])>
+        ensures { IfSome result (λ p. length p.1.now < length bytes.now) }
+    {
+        match bytes.first()? {
+            b'L' => {
+                let (list, behind) = List::first_of(bytes)?;
+                Some((Entry::List(list), behind))
+            }
+            b'C' => {
+                let (record, behind) = Record::first_of(bytes)?;
+                Some((Entry::Call(record), behind))
+            }
+            b'E' => {
+                let end = bytes.as_array::<7>()?;
+                let lists = usize::from(octets::get_u16(end, 1));
+                let calls = octets::get_u32(end, 3) as usize;
+                Some((Entry::End { lists, calls }, b""))
+            }
+            _ => None,
+        }
+    }
 }
 
-pub fn bytes_at(r: &[u8]) -> usize {
-    past(actions_at(r), half(r, ACTIONS) as usize * 15)
+// The entries of a sample, one by one, each with its place, as far as they are whole.
+#[derive(Drop)]
+pub struct Entries<'s> {
+    at: usize,
+    rest: &'s [u8],
 }
 
-pub fn record_length(r: &[u8]) -> usize {
-    past(bytes_at(r), size(r, BYTES))
+const MARK: &[u8; 8] = b"SAMPLE 3";
+
+// Those behind the mark; none where another stands.
+pub fn entries_of(sample: &[u8]) -> Entries<'_> {
+    Entries {
+        at: MARK.len(),
+        rest: sample.strip_prefix(MARK).unwrap_or(b""),
+    }
 }
 
-// ---- the shape of a sample
+impl<'s> Iterator for Entries<'s> {
+    type Item = (usize, Entry<'s>);
 
-// Where the walk stands, how many lists and calls it passed and how many calls of this list are left.
+    ghost remaining = { λ s. at_most (length s.rest.now) };
+
+    fn next(&mut self) -> Option<(usize, Entry<'s>)> {
+        let at = self.at;
+        let (entry, behind) = Entry::first_of(self.rest)?;
+        self.at = at.saturating_add(self.rest.len() - behind.len());
+        self.rest = behind;
+        Some((at, entry))
+    }
+}
+
+// How many lists and calls a walk has passed, and how many calls of this list are left.
 #[derive(Clone, Copy)]
 pub struct Walk {
-    pub at: usize,
     pub lists: usize,
     pub calls: usize,
-    pub left: usize,
+    left: usize,
 }
 
-// May the byte be the verification of a contact call, and so on?
-fn small_fits(kind: Kind, small: u8) -> bool {
-    match kind {
-        Kind::Contact => small < 3,
-        Kind::Setting => small < 2,
-        Kind::CustodyCode => small < 5,
-        Kind::OwnEnvelope => small == b'I' || small == b'R',
-        _ => true,
+impl Walk {
+    // Past a list or a call; none where it may not stand there.
+    fn past(self, entry: Entry) -> Option<Walk> {
+        match entry {
+            Entry::List(list) if self.left == 0 => Some(Walk {
+                lists: self.lists.saturating_add(1),
+                left: list.calls,
+                ..self
+            }),
+            Entry::Call(_) if self.left > 0 => Some(Walk {
+                calls: self.calls.saturating_add(1),
+                left: self.left - 1,
+                ..self
+            }),
+            _ => None,
+        }
     }
-}
 
-// Do the bytes begin with a whole call?
-fn is_call(r: &[u8]) -> bool {
-    if r.len() < HEAD {
-        return false;
-    }
-    let Some(kind) = Kind::from_byte(byte(r, KIND)) else {
-        return false;
-    };
-    if 2 < byte(r, EXCHANGE) {
-        return false;
-    }
-    if kind == Kind::OwnEnvelope && size(r, FRONT) != 32 {
-        return false;
-    }
-    small_fits(kind, byte(r, SMALL)) && record_length(r) <= r.len()
-}
-
-fn walk_call(r: &[u8], w: Walk) -> Option<Walk> {
-    if w.left == 0 || !is_call(r) {
-        return None;
-    }
-    Some(Walk {
-        at: past(w.at, record_length(r)),
-        calls: past(w.calls, 1),
-        left: w.left - 1,
-        ..w
-    })
-}
-
-// Do the bytes begin with a list that the program has the areas for?
-fn is_list(r: &[u8]) -> bool {
-    if r.len() < 11 {
-        return false;
-    }
-    if 256 < half(r, 1) {
-        return false;
-    }
-    if 256 < half(r, 3) {
-        return false;
-    }
-    if 1100 < half(r, 5) {
-        return false;
-    }
-    if 10 < half(r, 7) {
-        return false;
-    }
-    half(r, 9) > 0
-}
-
-fn walk_list(r: &[u8], w: Walk) -> Option<Walk> {
-    if w.left > 0 || !is_list(r) {
-        return None;
-    }
-    Some(Walk {
-        at: past(w.at, 11),
-        lists: past(w.lists, 1),
-        left: half(r, 9) as usize,
-        ..w
-    })
-}
-
-// The end is the last of the sample, and says how many lists and calls there are: some.
-fn is_end(r: &[u8], w: Walk) -> bool {
-    if r.len() != 7 {
-        return false;
-    }
-    if w.left > 0 {
-        return false;
-    }
-    if w.lists != half(r, 1) as usize {
-        return false;
-    }
-    if w.calls == 0 {
-        return false;
-    }
-    w.calls == size(r, 3)
-}
-
-// Past a call or a list; none where neither begins there.
-fn walk_one(r: &[u8], w: Walk) -> Option<Walk> {
-    match byte(r, 0) {
-        b'C' => walk_call(r, w),
-        b'L' => walk_list(r, w),
-        _ => None,
+    // Has it passed whole lists of some calls, as many as the end says?
+    fn ends(self, lists: usize, calls: usize) -> bool {
+        self.left == 0 && self.lists == lists && self.calls == calls && calls > 0
     }
 }
 
-// The walk over a sample of right shape to its end; or the place of the record at which its shape is wrong.
-pub fn walked(s: &[u8]) -> Result<Walk, usize> {
-    let mut w = Walk {
-        at: 8,
+// The walk over a sample of right shape; or the place of the entry at which its shape is wrong.
+pub fn walked(sample: &[u8]) -> Result<Walk, usize> {
+    let mut walk = Walk {
         lists: 0,
         calls: 0,
         left: 0,
     };
-    if !same(cut(s, 0, 8), b"SAMPLE 3") {
-        return Err(w.at);
-    }
-    for _ in 0..s.len() {
-        let r = cut(s, w.at, s.len());
-        if byte(r, 0) == b'E' && is_end(r, w) {
-            return Ok(w);
+    let mut whole = entries_of(sample);
+    for (at, entry) in &mut whole {
+        if let Entry::End { lists, calls } = entry {
+            if walk.ends(lists, calls) {
+                return Ok(walk);
+            }
         }
-        let Some(next) = walk_one(r, w) else {
-            return Err(w.at);
-        };
-        w = next;
+        walk = walk.past(entry).ok_or(at)?;
     }
-    Err(w.at)
+    Err(whole.at)
 }

@@ -2,192 +2,192 @@
 #![tactic(auto)]
 
 use courier_core::Refusal;
-use replay_calls::{
-    Answer, Post, answer_of, answered, lent, listing, part, peer, put, refused, second, tag,
-    writing,
-};
-use replay_log::{DONE, Kind, MALFORMED, MISSING, cap, cut};
+use replay_calls::{Answer, Post, Writer, front, front_mut};
+use replay_log::{Kind, Record, Said};
 use state::{Carried, Held, Tombstone};
 
 // ---- tombs, reports, tombstones, maintenance
 
-fn tombed(said: Result<tombs::Said, Refusal>, replies: usize) -> Answer {
+fn tombed(said: tombs::Said, replies: usize) -> Answer {
     match said {
-        Ok(tombs::Said::Done(n)) => answer_of(DONE, replies, n, 0),
-        Ok(tombs::Said::Malformed) => answer_of(MALFORMED, 0, 0, 0),
-        Err(why) => refused(why),
+        tombs::Said::Done(actions) => Answer {
+            replies,
+            ..Answer::listed(actions)
+        },
+        tombs::Said::Malformed => Answer::of(Said::Malformed),
     }
 }
 
-fn call_tomb(p: &mut Post, r: &[u8]) -> Answer {
-    let t = p.sizes.tombstones;
+fn call_tomb(p: &mut Post, r: &Record) -> Result<Answer, Refusal> {
     let said = tombs::receive_tomb(
         &mut p.device,
-        peer(r),
-        tag(r),
-        second(r),
+        r.peer(),
+        r.tag(),
+        r.second(),
         &p.contacts,
         &mut p.own,
         &mut p.carried,
-        part(&mut p.tombstones, 0, t),
-        lent(&mut p.actions, r, replay_log::ACTIONS_AREA),
-    );
-    tombed(said, 0)
+        front_mut(&mut p.tombstones, p.lent.tombstones),
+        front_mut(&mut p.actions, r.actions_area()),
+    )?;
+    Ok(tombed(said, 0))
 }
 
-fn call_opened(p: &mut Post, r: &[u8]) -> Answer {
-    let t = p.sizes.tombstones;
+fn call_opened(p: &mut Post, r: &Record) -> Result<Answer, Refusal> {
     let said = reports::report_opened(
         &mut p.device,
-        peer(r),
-        tag(r),
-        second(r),
-        replay_log::word(r, replay_log::EXPIRY),
+        r.peer(),
+        r.tag(),
+        r.second(),
+        r.expiry(),
         &p.contacts,
-        part(&mut p.tombstones, 0, t),
-        lent(&mut p.replies, r, replay_log::REPLIES_AREA),
-        lent(&mut p.actions, r, replay_log::ACTIONS_AREA),
-    );
-    tombed(said, 1)
+        front_mut(&mut p.tombstones, p.lent.tombstones),
+        front_mut(&mut p.replies, r.replies_area()),
+        front_mut(&mut p.actions, r.actions_area()),
+    )?;
+    Ok(tombed(said, 1))
 }
 
-fn call_failed(p: &mut Post, r: &[u8]) -> Answer {
-    let b = p.sizes.bad_tags;
+fn call_failed(p: &mut Post, r: &Record) -> Result<Answer, Refusal> {
     let said = reports::report_failed(
         &mut p.device,
-        peer(r),
-        tag(r),
+        r.peer(),
+        r.tag(),
         &p.contacts,
-        part(&mut p.bad_tags, 0, b),
-    );
-    tombed(said, 0)
+        front_mut(&mut p.bad_tags, p.lent.bad_tags),
+    )?;
+    Ok(tombed(said, 0))
 }
 
-fn call_stored_tombstone(p: &mut Post, r: &[u8]) -> Answer {
-    let t = p.sizes.tombstones;
-    listing(tombstones::stored_tombstone(
+fn call_stored_tombstone(p: &mut Post, r: &Record) -> Result<Answer, Refusal> {
+    let actions = tombstones::stored_tombstone(
         &mut p.device,
-        tag(r),
-        second(r),
-        replay_log::word(r, replay_log::EXPIRY),
-        part(&mut p.tombstones, 0, t),
-        lent(&mut p.actions, r, replay_log::ACTIONS_AREA),
-    ))
+        r.tag(),
+        r.second(),
+        r.expiry(),
+        front_mut(&mut p.tombstones, p.lent.tombstones),
+        front_mut(&mut p.actions, r.actions_area()),
+    )?;
+    Ok(Answer::listed(actions))
 }
 
-fn call_maintenance(p: &mut Post, r: &[u8]) -> Answer {
-    let t = p.sizes.tombstones;
-    listing(maintenance::maintain_couriers(
+fn call_maintenance(p: &mut Post, r: &Record) -> Result<Answer, Refusal> {
+    let actions = maintenance::maintain_couriers(
         &mut p.device,
         &mut p.own,
         &mut p.carried,
-        part(&mut p.tombstones, 0, t),
-        lent(&mut p.actions, r, replay_log::ACTIONS_AREA),
-    ))
+        front_mut(&mut p.tombstones, p.lent.tombstones),
+        front_mut(&mut p.actions, r.actions_area()),
+    )?;
+    Ok(Answer::listed(actions))
 }
 
 // ---- held rows as blobs, files, the window: what is written goes into the answer area
 
-fn call_window(p: &mut Post, r: &[u8]) -> Answer {
-    match chain::window(
-        replay_log::front(r),
-        replay_log::rest(r),
-        lent(&mut p.replies, r, replay_log::ANSWER_AREA),
-    ) {
-        Ok(count) => answer_of(DONE, 0, 0, cap(count, 500) * 6),
-        Err(why) => refused(why),
-    }
+// Six bytes for each listed row.
+fn call_window(p: &mut Post, r: &Record) -> Result<Answer, Refusal> {
+    let area = front_mut(&mut p.replies, r.answer_area());
+    let count = chain::window(r.front, r.rest, area)?;
+    Ok(Answer::wrote(count.saturating_mul(6)))
 }
 
-fn call_row_blob(p: &mut Post, r: &[u8]) -> Answer {
-    let t = p.sizes.tombstones;
-    let c = p.sizes.cells;
-    match saved::row_blob(
+fn call_row_blob(p: &mut Post, r: &Record) -> Result<Answer, Refusal> {
+    let blob = saved::row_blob(
         p.device,
-        replay_log::long(r, replay_log::NUMBER),
+        r.number(),
         &p.carried,
-        cut(&p.tombstones, 0, t),
-        cut(&p.cells, 0, c),
-        lent(&mut p.replies, r, replay_log::ANSWER_AREA),
-    ) {
-        Ok(Some(length)) => answer_of(DONE, 0, 0, length),
-        Ok(None) => answer_of(MISSING, 0, 0, 0),
-        Err(why) => refused(why),
+        front(&p.tombstones, p.lent.tombstones),
+        front(&p.cells, p.lent.cells),
+        front_mut(&mut p.replies, r.answer_area()),
+    )?;
+    match blob {
+        Some(length) => Ok(Answer::wrote(length)),
+        None => Ok(Answer::of(Said::Missing)),
     }
 }
 
-// Kind, depositor, tag, commitment or secret, expiry, copies. A carried row's ciphertext is the blob from byte 46 on.
-fn put_carried(row: Carried, blob: &[u8], area: &mut [u8]) -> usize {
-    let header = row.header;
-    let at = put(area, 0, b"\x01");
-    let at = put(area, at, &row.depositor.0.to_be_bytes());
-    let at = put(area, at, &header.tag);
-    let at = put(area, at, &header.c);
-    let at = put(area, at, &header.expiry_min.to_be_bytes());
-    let at = put(area, at, &[header.copies]);
-    put(area, at, cut(blob, 46, blob.len()))
+// The bytes of the two kinds of held rows that are read.
+const CARRIED: u8 = 1;
+
+const TOMBSTONE: u8 = 2;
+
+// Kind, depositor, tag, commitment or secret, expiry, copies. A carried row's ciphertext is what stands behind the blob's head.
+fn put_carried(row: Carried, ct: &[u8], area: &mut [u8]) -> usize {
+    let mut writer = Writer::new(area);
+    writer.put(&[CARRIED]);
+    writer.put(&row.depositor.0.to_be_bytes());
+    writer.put(&row.header.tag);
+    writer.put(&row.header.c);
+    writer.put(&row.header.expiry_min.to_be_bytes());
+    writer.put(&[row.header.copies]);
+    writer.put(ct);
+    writer.end()
 }
 
+// The same, of depositor and copies 0.
 fn put_tombstone(row: Tombstone, area: &mut [u8]) -> usize {
-    let at = put(area, 0, b"\x02\0\0\0\0\0\0\0\0");
-    let at = put(area, at, &row.tag);
-    let at = put(area, at, &row.s);
-    let at = put(area, at, &row.expiry_min.to_be_bytes());
-    put(area, at, b"\0")
+    let mut writer = Writer::new(area);
+    writer.put(&[TOMBSTONE]);
+    writer.put(&[0; 8]);
+    writer.put(&row.tag);
+    writer.put(&row.s);
+    writer.put(&row.expiry_min.to_be_bytes());
+    writer.put(&[0]);
+    writer.end()
 }
 
-fn call_row_read(p: &mut Post, r: &[u8]) -> Answer {
-    let blob = replay_log::rest(r);
-    match state::decode(blob) {
-        Some(Held::Carried(row)) => answer_of(DONE, 0, 0, put_carried(row, blob, &mut p.replies)),
-        Some(Held::Tombstone(row)) => answer_of(DONE, 0, 0, put_tombstone(row, &mut p.replies)),
-        None => answer_of(MISSING, 0, 0, 0),
+fn call_row_read(p: &mut Post, r: &Record) -> Answer {
+    match state::decode(r.rest) {
+        Some(Held::Carried(row)) => {
+            let ct = &r.rest[state::CARRIED_HEAD.min(r.rest.len())..];
+            Answer::wrote(put_carried(row, ct, &mut p.replies))
+        }
+        Some(Held::Tombstone(row)) => Answer::wrote(put_tombstone(row, &mut p.replies)),
+        None => Answer::of(Said::Missing),
     }
 }
 
-fn call_save(p: &mut Post, r: &[u8]) -> Answer {
-    let t = p.sizes.tombstones;
-    let c = p.sizes.cells;
-    writing(saved::save(
+fn call_save(p: &mut Post, r: &Record) -> Result<Answer, Refusal> {
+    let length = saved::save(
         p.device,
         &p.carried,
-        cut(&p.tombstones, 0, t),
-        cut(&p.cells, 0, c),
-        lent(&mut p.replies, r, replay_log::ANSWER_AREA),
-    ))
+        front(&p.tombstones, p.lent.tombstones),
+        front(&p.cells, p.lent.cells),
+        front_mut(&mut p.replies, r.answer_area()),
+    )?;
+    Ok(Answer::wrote(length))
 }
 
-fn call_load(p: &mut Post, r: &[u8]) -> Answer {
-    let t = p.sizes.tombstones;
-    let c = p.sizes.cells;
-    answered(load::load(
+fn call_load(p: &mut Post, r: &Record) -> Result<Answer, Refusal> {
+    load::load(
         &mut p.device,
         &p.contacts,
         &mut p.carried,
-        part(&mut p.tombstones, 0, t),
-        part(&mut p.cells, 0, c),
-        replay_log::rest(r),
-    ))
+        front_mut(&mut p.tombstones, p.lent.tombstones),
+        front_mut(&mut p.cells, p.lent.cells),
+        r.rest,
+    )?;
+    Ok(Answer::done())
 }
 
-fn call_page(p: &mut Post, r: &[u8]) -> Answer {
-    let t = p.sizes.tombstones;
-    writing(screen::page(
+fn call_page(p: &mut Post, r: &Record) -> Result<Answer, Refusal> {
+    let length = screen::page(
         p.device,
-        replay_log::long(r, replay_log::NUMBER),
+        r.number(),
         &p.carried,
-        cut(&p.tombstones, 0, t),
-        lent(&mut p.replies, r, replay_log::ANSWER_AREA),
-    ))
+        front(&p.tombstones, p.lent.tombstones),
+        front_mut(&mut p.replies, r.answer_area()),
+    )?;
+    Ok(Answer::wrote(length))
 }
 
 // ---- the call of a record
 
-pub fn perform(p: &mut Post, kind: Kind, r: &[u8]) -> Answer {
-    match kind {
+pub fn perform(p: &mut Post, r: &Record) -> Result<Answer, Refusal> {
+    match r.kind {
         Kind::Contact => replay_calls::call_contact(p, r),
         Kind::Setting => replay_calls::call_setting(p, r),
-        Kind::Clock => replay_calls::call_clock(p, r),
+        Kind::Clock => Ok(replay_calls::call_clock(p, r)),
         Kind::FreshExchange => replay_calls::call_fresh_exchange(p, r),
         Kind::Envelope => replay_calls::call_envelope(p, r),
         Kind::Inventory => replay_calls::call_inventory(p, r),
@@ -202,7 +202,7 @@ pub fn perform(p: &mut Post, kind: Kind, r: &[u8]) -> Answer {
         Kind::InventoryOfOurs => replay_calls::call_inventory_of_ours(p, r),
         Kind::Window => call_window(p, r),
         Kind::RowBlob => call_row_blob(p, r),
-        Kind::RowRead => call_row_read(p, r),
+        Kind::RowRead => Ok(call_row_read(p, r)),
         Kind::Save => call_save(p, r),
         Kind::Load => call_load(p, r),
         Kind::Page => call_page(p, r),

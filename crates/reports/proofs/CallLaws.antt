@@ -1,8 +1,7 @@
 -- Laws of the calls report opened and report failed: each way out as the model's step, and what it leaves.
 -- Assumes nothing.
-use Rattle.std.proofs.Common.{◌≡◌, ℕ, ◌+◌, ◌*◌, ◌/◌, ◌<◌, ◌≤◌, min, Bool, true, false, cond, not, ◌&&◌, ◌||◌, ltb, leb, List, [], ◌∷◌, ◌++◌, length, sym, refl, ap, ◌∙◌, subst, ap₂, arith, le-leb, Result, Ok, Err}
+use Rattle.std.proofs.Common.{◌≡◌, ℕ, ◌+◌, ◌*◌, ◌/◌, ◌<◌, ◌≤◌, min, Bool, true, false, cond, not, ◌&&◌, ◌||◌, ltb, leb, List, [], ◌∷◌, ◌++◌, length, sym, refl, ap, ◌∙◌, subst, ap₂, le-leb, Result, Ok, Err}
 use borrow.Author.Tests.{lt-leb}
-use Rattle.std.proofs.lemmas.Bool.Decides.{nat_tests}
 use Rattle.octets.specs.Bytes.{splice}
 use Rattle.courier_core.specs.declared.ContactId.{ContactId}
 use Rattle.courier_core.specs.declared.Refusal.{Refusal}
@@ -31,10 +30,6 @@ use Rattle.tombs.specs.Tombs.{says}
 use Rattle.reports.specs.Reports.{opened_lent, failed_lent}
 
 -- ---- report opened
-
--- answer areas that are not too short have room for the reply and the actions
-pub answers_long : (rs ac to : ℕ) → false ≡ (ltb rs 61440 || ltb ac (13 * (512 + to / 44))) → (40 ≤ rs) × (26 ≤ ac)
-answers_long rs ac to e = (grind (arith, nat_tests), grind (arith, nat_tests))
 
 module _ (d : Device) (peer : ContactId) (tag secret : List ℕ) (expiry : ℕ) (contacts to rs ac : List ℕ) (a : Areas) where
   abbrev P : Areas

@@ -1,10 +1,8 @@
 // What follows local opening: the calls report opened and report failed.
 #![tactic(auto)]
 
-ghost use Rattle.std.specs.Prelude.{◌≡◌, ◌+◌, ◌*◌, ◌/◌, ◌≤◌, ◌||◌, [], ◌∷◌, ◌++◌, length, nat_lt};
-ghost use Rattle.table.specs.Rows.{held};
-ghost use Rattle.table.specs.Codec.{table_of, TableNow};
-ghost use Rattle.rows.specs.Rows.{action_width, bad_tag_width, bad_tag_codec, reply_width, tombstone_width};
+ghost use Rattle.std.specs.Prelude.{◌≡◌, ◌+◌, ◌*◌, ◌/◌, ◌||◌, length, nat_lt};
+ghost use Rattle.rows.specs.Rows.{action_width, reply_width, tombstone_width};
 ghost use Rattle.model.specs.Calls.{opened, failed};
 ghost use Rattle.model.specs.Lent.{Does, no_answers, answers_lent};
 ghost use Rattle.tombs.specs.Tombs.{says};
@@ -12,7 +10,8 @@ ghost use Rattle.reports.specs.Reports.{opened_lent, failed_lent};
 
 use contacts::known;
 use courier_core::{ContactId, Refusal};
-use rows::{BAD_TAG_WIDTH, BadTag, Device, REPLY_WIDTH};
+use rows::{BAD_TAG_WIDTH, BadTag, Device, REPLY_WIDTH, Row};
+use table::Table;
 use tombs::Said;
 use tombstones::{Tomb, short_actions, store_choice, store_tombstone};
 
@@ -28,6 +27,7 @@ fn short_answers(replies: usize, actions: usize, tombstones: usize) -> bool
 
 // An envelope was opened: its tombstone is stored, and its tomb answered, one row of the reply area, also where the tag has a tombstone.
 // The tombstone expires with the envelope, or when the lifetime from now ends, if that is sooner.
+// (As the C interface lends them, each area is a parameter.)
 pub fn report_opened(
     device: &mut Device,
     peer: ContactId,
@@ -46,23 +46,17 @@ pub fn report_opened(
     if short_answers(replies.len(), actions.len(), tombstones.len()) {
         return Err(Refusal::ShortArea);
     }
-    if !known(contacts, device.contacts, peer) {
+    let contacts = Table {
+        area: contacts,
+        count: device.contacts,
+    };
+    if !known(contacts, peer) {
         return Err(Refusal::UnknownContact);
     }
     let how = store_choice(*device, tag, tombstones)?;
     answers::put_tomb(replies, 0, tag, s);
     let until = expiry.min(contacts::lifetime_end(device.now_s, device.courier));
     Ok(Said::Done(store_tombstone(device, how, Tomb { tag, s }, until, tombstones, actions, 0)))
-}
-
-// Adds a bad tag behind the last; answers how many there are.
-fn add_bad(bad: &mut [u8], count: usize, row: BadTag) -> usize
-    requires { held (length bad.old) bad_tag_width count * bad_tag_width + bad_tag_width ≤ length bad.old }
-    ensures { TableNow bad_tag_codec bad.old (table_of bad_tag_codec count bad.old ++ (row ∷ [])) result bad.new }
-{
-    let n = table::fit(bad.len(), BAD_TAG_WIDTH, count);
-    let b = rows::bad_tag_bytes(row);
-    table::push(bad, BAD_TAG_WIDTH, n, &b)
 }
 
 // An envelope could not be opened: its tag is bad for the peer from now on, and it is malformed.
@@ -76,16 +70,24 @@ pub fn report_failed(
     ensures { Does says (failed peer tag) result (failed_lent device.old contacts.now bad_tags.old)
         (failed_lent device.new contacts.now bad_tags.new) no_answers no_answers }
 {
-    if !known(contacts, device.contacts, peer) {
+    let contacts = Table {
+        area: contacts,
+        count: device.contacts,
+    };
+    if !known(contacts, peer) {
         return Err(Refusal::UnknownContact);
     }
-    if custody::is_bad(bad_tags, device.bad_tags, peer, tag) {
+    let table = Table::<BAD_TAG_WIDTH> {
+        area: bad_tags,
+        count: device.bad_tags,
+    };
+    if custody::is_bad(table, peer, tag) {
         return Ok(Said::Malformed);
     }
-    let count = table::fit(bad_tags.len(), BAD_TAG_WIDTH, device.bad_tags);
+    let count = table.len();
     if bad_tags.len() / BAD_TAG_WIDTH <= count {
         return Err(Refusal::NoBadTagRow);
     }
-    device.bad_tags = add_bad(bad_tags, device.bad_tags, BadTag { peer, tag });
+    device.bad_tags = BadTag::push(bad_tags, device.bad_tags, BadTag { peer, tag });
     Ok(Said::Malformed)
 }

@@ -1,4 +1,4 @@
--- The laws of the nine codecs: each row type is a shape with names.
+-- The laws of the nine codecs. The argument is `laws` of Shapes, once; a kind gives what it alone has: its shape, its names, and which field is which.
 -- Assumes nothing.
 use Rattle.std.proofs.Common.{refl, arith}
 use Rattle.table.specs.Codec.{CodecLaws}

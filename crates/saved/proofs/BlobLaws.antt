@@ -1,8 +1,7 @@
 -- Laws of held rows: found by slot, and written to a blob area.
 -- Assumes nothing.
-use Rattle.std.proofs.Common.{◌≡◌, ℕ, ◌+◌, ◌≤◌, List, length, sym, refl, ap, ◌∙◌, subst, ap₂, arith, length-append, length-take, le-ltb, Option, Result, Ok}
-use Rattle.octets.specs.Bytes.{part, splice}
-use Rattle.octets.proofs.Parts.{length_part}
+use Rattle.std.proofs.Common.{◌≡◌, ℕ, ◌≤◌, List, length, sym, refl, ap, ◌∙◌, subst, ap₂, arith, length-append, length-take, le-ltb, Option, Result, Ok}
+use Rattle.octets.specs.Bytes.{splice}
 use Rattle.octets.proofs.Numbers.{length_be}
 use Rattle.courier.specs.Courier.{header_bytes}
 use Rattle.courier_core.specs.declared.Refusal.{Refusal}
@@ -49,49 +48,29 @@ blobbed most h row area after said n e l k W c =
       area = W.area ∙ rw (le-ltb (length area) 2110 k) (ap (splice area 0) (sym e));
     }
 
-module _ (cells : List ℕ) (a : List ℕ) (at : ℕ) (fits : at + 57 ≤ length a) where
-  abbrev R : Carried
-  R = carried_of (part a at 57)
+module _ (cells : List ℕ) (row : Carried) (whole : (length row.tag ≡ 16) × (length row.c ≡ 16)) where
+  carried_length_lem : (ct : List ℕ) → length (held_row (held.carried (held_carried row) ct)) ≤ 2110
+  unfolding held_row carried_head header_bytes
+  carried_length_lem ct = simp (length-append, length_be) (omega (arith, whole.0, whole.1, length-take 2064 ct))
 
-  carried_length_lem : (ct : List ℕ) → length (held_row (held.carried (held_carried R) ct)) ≤ 2110
-  unfolding held_row carried_head header_bytes carried_of
-  carried_length_lem ct =
-      simp (length-append, length_be) (omega (
-        arith,
-        length_part (part a at 57) 16 16 (omega (arith, length_part a at 57 fits)),
-        length_part (part a at 57) 32 16 (omega (arith, length_part a at 57 fits)),
-        length-take 2064 ct,
-      ))
-
-  pub carried_blobbed : (row : Carried) (hc : HeldCarried) (ct : List ℕ) (area after : List ℕ) (said : Result ℕ Refusal) (n : ℕ) → 2110 ≤ length area
-      → row ≡ R → ct ≡ ciphertext cells row.cell row.len → hc ≡ held_carried row
-      → RowWritten (held_row (held.carried hc ct)) area said after → said ≡ Ok n → Blobbed 2110 (carried_held cells R) area n after
+  pub carried_blobbed : (hc : HeldCarried) (ct : List ℕ) (area after : List ℕ) (said : Result ℕ Refusal) (n : ℕ) → 2110 ≤ length area
+      → ct ≡ ciphertext cells row.cell row.len → hc ≡ held_carried row
+      → RowWritten (held_row (held.carried hc ct)) area said after → said ≡ Ok n → Blobbed 2110 (carried_held cells row) area n after
   unfolding carried_held
-  carried_blobbed row hc ct area after said n k er ec eh W c =
-      let e : ct ≡ ciphertext cells R.cell R.len = ec ∙ ap (λ (x : Carried). ciphertext cells x.cell x.len) er in
-      let f : hc ≡ held_carried R = eh ∙ ap held_carried er in
-      let U : RowWritten (held_row (held.carried (held_carried R) (ciphertext cells R.cell R.len))) area said after =
-      subst (λ (x : List ℕ). RowWritten x area said after) (ap₂ (λ (x : HeldCarried) (y : List ℕ). held_row (held.carried x y)) f e) W in
-      blobbed 2110 (carried_held cells R) _ area after said n refl (carried_length_lem (ciphertext cells R.cell R.len)) k U c
+  carried_blobbed hc ct area after said n k ec eh W c =
+      let U : RowWritten (held_row (held.carried (held_carried row) (ciphertext cells row.cell row.len))) area said after =
+      subst (λ (x : List ℕ). RowWritten x area said after) (ap₂ (λ (x : HeldCarried) (y : List ℕ). held_row (held.carried x y)) eh ec) W in
+      blobbed 2110 (carried_held cells row) _ area after said n refl (carried_length_lem (ciphertext cells row.cell row.len)) k U c
 
-module _ (a : List ℕ) (at : ℕ) (fits : at + 44 ≤ length a) where
-  abbrev T : Tombstone
-  T = tombstone_of (part a at 44)
+module _ (row : Tombstone) (whole : (length row.tag ≡ 16) × (length row.s ≡ 16)) where
+  tombstone_length : length (held_row (held.tombstone (held_tombstone row))) ≤ 37
+  unfolding held_row
+  tombstone_length = simp (length-append, length_be) (omega (arith, whole.0, whole.1))
 
-  tombstone_length : length (held_row (held.tombstone (held_tombstone T))) ≤ 37
-  unfolding held_row tombstone_of
-  tombstone_length =
-      simp (length-append, length_be) (omega (
-        arith,
-        length_part (part a at 44) 8 16 (omega (arith, length_part a at 44 fits)),
-        length_part (part a at 44) 24 16 (omega (arith, length_part a at 44 fits)),
-      ))
-
-  pub tombstone_blobbed : (row : Tombstone) (ht : HeldTombstone) (area after : List ℕ) (said : Result ℕ Refusal) (n : ℕ) → 2110 ≤ length area
-      → row ≡ T → ht ≡ held_tombstone row
-      → RowWritten (held_row (held.tombstone ht)) area said after → said ≡ Ok n → Blobbed 37 (tombstone_held T) area n after
+  pub tombstone_blobbed : (ht : HeldTombstone) (area after : List ℕ) (said : Result ℕ Refusal) (n : ℕ) → 2110 ≤ length area → ht ≡ held_tombstone row
+      → RowWritten (held_row (held.tombstone ht)) area said after → said ≡ Ok n → Blobbed 37 (tombstone_held row) area n after
   unfolding tombstone_held
-  tombstone_blobbed row ht area after said n k er eh W c =
-      let U : RowWritten (held_row (held.tombstone (held_tombstone T))) area said after =
-      subst (λ (x : HeldTombstone). RowWritten (held_row (held.tombstone x)) area said after) (eh ∙ ap held_tombstone er) W in
-      blobbed 37 (tombstone_held T) _ area after said n refl tombstone_length k U c
+  tombstone_blobbed ht area after said n k eh W c =
+      let U : RowWritten (held_row (held.tombstone (held_tombstone row))) area said after =
+      subst (λ (x : HeldTombstone). RowWritten (held_row (held.tombstone x)) area said after) eh W in
+      blobbed 37 (tombstone_held row) _ area after said n refl tombstone_length k U c

@@ -1,17 +1,17 @@
 -- Laws of a record of the saved file: its bytes, run by run.
 -- Assumes nothing.
-use Rattle.std.proofs.Common.{◌≡◌, ℕ, ◌+◌, ◌-◌, ◌*◌, ◌≤◌, List, [], ◌∷◌, ◌++◌, map, length, take, set, replicate, sym, refl, ap, ◌∙◌, append-nil, arith, length-append}
+use Rattle.std.proofs.Common.{◌≡◌, ℕ, ◌+◌, ◌-◌, ◌≤◌, List, [], ◌∷◌, ◌++◌, map, length, take, set, replicate, sym, refl, ap, ◌∙◌, append-nil, arith, length-append}
 use lib.Seq.{take-append_seam}
-use Rattle.octets.specs.Bytes.{part, splice, num, be}
+use Rattle.octets.specs.Bytes.{splice, be}
 use Rattle.octets.proofs.Parts.{splice_then, length_splice}
 use Rattle.octets.proofs.Numbers.{length_be}
 use Rattle.table.specs.Rows.{join}
 use Rattle.state.specs.Held.{held_row}
-use Rattle.rows.specs.Rows.{carried_of, tombstone_of}
+use Rattle.rows.specs.declared.Carried.{Carried}
+use Rattle.rows.specs.declared.Tombstone.{Tombstone}
 use Rattle.model.specs.Saved.{Slotted, carried_held, tombstone_held, held_mark, saved_record, saved_file}
 use Rattle.saved.specs.Blobs.{Blobbed}
 use Rattle.saved.specs.Saving.{record_bytes, RecordPut, Recorded, Records, Filled}
-use Rattle.by_slot.proofs.SlotLaws.{slot_of}
 
 abbrev pub mark : ℕ → ℕ → List ℕ
 mark letter number = (72 ∷ letter ∷ []) ++ be 8 number
@@ -57,16 +57,16 @@ module _ (most letter : ℕ) (h : Slotted) (marked : held_mark h.held ≡ 72 ∷
         area = P.area ∙ ap (splice file at) e;
       }
 
-module _ (area blob : List ℕ) (n slot at : ℕ) (file : List ℕ) (r : ℕ) (after : List ℕ) where
-  pub carried_recorded : (cells a : List ℕ) (i : ℕ) → Blobbed 2110 (carried_held cells (carried_of (part a (i * 57) 57))) area n blob → slot ≡ num (part a (i * 57) 8)
-      → RecordPut 67 slot (take (n - 0) blob) at file r after → Recorded 2122 (carried_held cells (carried_of (part a (i * 57) 57))) at file r after
-  unfolding carried_held carried_of
-  carried_recorded cells a i B e P = recorded 2110 67 _ refl area blob n slot at file r after B (slot_of a (i * 57) 57 (omega arith) ∙ sym e) P
+module _ (area blob : List ℕ) (n at : ℕ) (file : List ℕ) (r : ℕ) (after : List ℕ) where
+  pub carried_recorded : (cells : List ℕ) (row : Carried) → Blobbed 2110 (carried_held cells row) area n blob
+      → RecordPut 67 row.slot (take (n - 0) blob) at file r after → Recorded 2122 (carried_held cells row) at file r after
+  unfolding carried_held
+  carried_recorded cells row B P = recorded 2110 67 _ refl area blob n row.slot at file r after B refl P
 
-  pub tombstone_recorded : (a : List ℕ) (i : ℕ) → Blobbed 37 (tombstone_held (tombstone_of (part a (i * 44) 44))) area n blob → slot ≡ num (part a (i * 44) 8)
-      → RecordPut 84 slot (take (n - 0) blob) at file r after → Recorded 49 (tombstone_held (tombstone_of (part a (i * 44) 44))) at file r after
-  unfolding tombstone_held tombstone_of
-  tombstone_recorded a i B e P = recorded 37 84 _ refl area blob n slot at file r after B (slot_of a (i * 44) 44 (omega arith) ∙ sym e) P
+  pub tombstone_recorded : (row : Tombstone) → Blobbed 37 (tombstone_held row) area n blob
+      → RecordPut 84 row.slot (take (n - 0) blob) at file r after → Recorded 49 (tombstone_held row) at file r after
+  unfolding tombstone_held
+  tombstone_recorded row B P = recorded 37 84 _ refl area blob n row.slot at file r after B refl P
 
 -- the next slot, then the records
 pub file_filled : (next : ℕ) (rows : List Slotted) (lent x after head : List ℕ) (r : ℕ) → 10 ≤ length lent → head ≡ mark 78 next → x ≡ splice lent 0 head

@@ -90,12 +90,12 @@ module _ (d : Device) (slot : ℕ) (carried tombs cells lent : List ℕ) (a : Ar
     given most h n back e G = bytes_call (held_row h.held) (stepped e) (ap (λ (k : ℕ). Ok (Some k)) G.count) G.area
 
     pub says_carried : (i n : ℕ) (back : List ℕ) → Some i ≡ position (carried_in_slot slot) Tc
-        → Blobbed 2110 (carried_held cells (carried_of (part carried (i * 57) 57))) lent n back → Says (Ok (Some n)) back
+        → {row : Carried} → row ≡ carried_of (part carried (i * 57) 57) → Blobbed 2110 (carried_held cells row) lent n back → Says (Ok (Some n)) back
     unfolding carried_held
-    says_carried i n back e G =
+    says_carried i n back e r G =
         given 2110 _ n back
         (found_in (carried_held cells) here (map tombstone_held Tt) Tc no_carried i e
-        ∙ ap (λ (r : Carried). Some (carried_held cells r)) (row_found carried_codec no_carried d.carried carried (carried_in_slot slot) e)) G
+        ∙ ap (λ (r : Carried). Some (carried_held cells r)) (row_found carried_codec no_carried d.carried carried (carried_in_slot slot) e ∙ sym r)) G
 
     module _ (none-carried : None ≡ position (carried_in_slot slot) Tc) where
       behind : find here (map (carried_held cells) Tc ++ map tombstone_held Tt) ≡ find here (map tombstone_held Tt ++ [])
@@ -104,12 +104,12 @@ module _ (d : Device) (slot : ℕ) (carried tombs cells lent : List ℕ) (a : Ar
           found_behind (carried_held cells) here (map tombstone_held Tt) Tc none-carried ∙ ap (find here) (sym (append-nil (map tombstone_held Tt)))
 
       pub says_tombstone : (i n : ℕ) (back : List ℕ) → Some i ≡ position (tombstone_in_slot slot) Tt
-          → Blobbed 37 (tombstone_held (tombstone_of (part tombs (i * 44) 44))) lent n back → Says (Ok (Some n)) back
+          → {row : Tombstone} → row ≡ tombstone_of (part tombs (i * 44) 44) → Blobbed 37 (tombstone_held row) lent n back → Says (Ok (Some n)) back
       unfolding tombstone_held
-      says_tombstone i n back e G =
+      says_tombstone i n back e r G =
           given 37 _ n back
           (behind ∙ found_in tombstone_held here [] Tt no_tombstone i e
-          ∙ ap (λ (t : Tombstone). Some (tombstone_held t)) (row_found tombstone_codec no_tombstone d.tombstones tombs (tombstone_in_slot slot) e)) G
+          ∙ ap (λ (t : Tombstone). Some (tombstone_held t)) (row_found tombstone_codec no_tombstone d.tombstones tombs (tombstone_in_slot slot) e ∙ sym r)) G
 
       pub says_missing : None ≡ position (tombstone_in_slot slot) Tt → Says (Ok None) lent
       unfolding tombstone_held find store store_device store_session

@@ -1,7 +1,6 @@
 -- Laws of the save call: each way out as the model's step, and what it leaves.
 -- Assumes nothing.
 use Rattle.std.proofs.Common.{◌≡◌, ℕ, ◌+◌, ◌*◌, ◌/◌, ◌≤◌, min, Bool, true, false, ltb, leb, List, [], ◌∷◌, map, length, take, sym, refl, ap, ◌∙◌, subst, ap₂, arith, take_all, ltb-false, leb-false, leb-true, Result, Ok, Err}
-use mathlib.Core.List.{map-map}
 use lib.Seq.{take-append_seam}
 use Rattle.octets.specs.Bytes.{splice}
 use Rattle.courier_core.specs.declared.Refusal.{Refusal}
@@ -10,8 +9,11 @@ use Rattle.table.specs.Rows.{held, rows}
 use Rattle.table.specs.Codec.{Codec, table_of}
 use Rattle.table.proofs.ListLaws.{map_take}
 use Rattle.table.proofs.RowLaws.{length_rows, take_rows}
+use Rattle.table.specs.declared.Table.{Table}
 use Rattle.rows.specs.declared.Device.{Device}
-use Rattle.rows.specs.Rows.{carried_codec, carried_of, tombstone_of}
+use Rattle.rows.specs.declared.Carried.{Carried}
+use Rattle.rows.specs.declared.Tombstone.{Tombstone}
+use Rattle.rows.specs.Rows.{carried_codec, tombstone_codec}
 use Rattle.model.specs.Basics.{merge}
 use Rattle.model.specs.State.{State}
 use Rattle.model.specs.Calls.{Call, save, step_of}
@@ -22,7 +24,9 @@ use Rattle.model.specs.Areas.{Areas, AnswerAreas, Written, view, answer_areas}
 use Rattle.model.proofs.Laws.{saved}
 use Rattle.model.proofs.CallLaws.{refused_here, not_here, no_test, refused_call, bytes_call}
 use Rattle.model.specs.Lent.{bytes_lent}
-use Rattle.by_slot.specs.BySlot.{rows_left}
+use Rattle.by_slot.specs.declared.held.Held.{Held}
+use Rattle.by_slot.specs.BySlot.{Fitted, rows_left}
+use Rattle.by_slot.proofs.SlotLaws.{carried_fitted, tombstones_fitted}
 use Rattle.saved.specs.Blobs.{held_in}
 use Rattle.saved.specs.Saving.{left, Rooms, Filled, save_says}
 use Rattle.saved.specs.declared.HeldRows.{HeldRows}
@@ -40,21 +44,20 @@ rows_capped w n cap a = go (leb cap n) refl
         let k : n ≡ min n cap = omega (arith, leb-false cap n e) in
         take_all cap (rows w n a) (omega (arith, leb-false cap n e, length_rows w n a)) ∙ ap (λ (i : ℕ). rows w i a) k
 
-table_capped : {A : Type 0} (c : Codec A) (count cap n : ℕ) (a : List ℕ) → n ≡ held (length a) c.width (min count cap)
-    → take cap (table_of c count a) ≡ map c.decode (rows c.width n a)
+table_capped : {A : Type 0} (c : Codec A) (count cap : ℕ) (a : List ℕ) → take cap (table_of c count a) ≡ table_of c (min count cap) a
 unfolding table_of held
-table_capped c count cap n a e =
-    let k : min (min count (length a / c.width)) cap ≡ n = omega arith in
-    sym (map_take c.decode cap (rows c.width (min count (length a / c.width)) a))
-    ∙ ap (map c.decode) (rows_capped c.width (min count (length a / c.width)) cap a ∙ ap (λ (i : ℕ). rows c.width i a) k)
+table_capped c count cap a =
+    let m : ℕ = min count (length a / c.width) in
+    let k : min m cap ≡ min (min count cap) (length a / c.width) = omega arith in
+    sym (map_take c.decode cap (rows c.width m a)) ∙ ap (map c.decode) (rows_capped c.width m cap a ∙ ap (λ (i : ℕ). rows c.width i a) k)
 
 -- a file that is not too short has room for every record
-pub rooms : (h : HeldRows) (file count j k : ℕ) {size : ℕ} → length h.carried.now ≡ size → ltb file (10 + 2122 * count + 49 * (length h.tombstones.now / 44)) ≡ false
-    → h.n ≡ held size 57 (min j count) → h.n * 57 ≤ size → h.m ≡ held (length h.tombstones.now) 44 k → h.m * 44 ≤ length h.tombstones.now → Rooms h file
+pub rooms : {T : Table 57} {U : Table 44} {h : Held} → Fitted T U h → (file count : ℕ) → T.count ≤ count
+    → ltb file (10 + 2122 * count + 49 * (length U.area.now / 44)) ≡ false → Rooms h file
 unfolding held
-rooms h file count j k e f en hn em hm =
-    let l : 10 + 2122 * count + 49 * (length h.tombstones.now / 44) ≤ file = ltb-false file (10 + 2122 * count + 49 * (length h.tombstones.now / 44)) f in
-    record { rows = omega arith; tombs = hm; size = omega arith }
+rooms {U = U} F file count le f =
+    let l = ltb-false file (10 + 2122 * count + 49 * (length U.area.now / 44)) f in
+    omega (arith, l, F.carried_count, F.tombstones_count)
 
 module _ (d : Device) (carried tombs cells lent : List ℕ) (a : Areas) (count : ℕ) (counted : count ≡ cell_count (length cells)) where
   abbrev B : Areas
@@ -77,28 +80,26 @@ module _ (d : Device) (carried tombs cells lent : List ℕ) (a : Areas) (count :
   says_no_room e = refused_call refusal.ShortArea (refused_here _ _ _ (tested e)) refl refl
 
 -- the file of held rows, as many as there are cells for
-module _ (d : Device) (h : HeldRows) (lent : List ℕ) (a : Areas) (count : ℕ) (counted : count ≡ cell_count (length h.cells.now)) where
+module _ (d : Device) (h : HeldRows) (lent : List ℕ) (a : Areas) (count : ℕ) (counted : count ≡ cell_count (length h.cells.now)) {T : Table 57} {U : Table 44}
+    (F : Fitted T U h.rows) (et : T.count ≡ min d.carried count) (eu : U.count ≡ d.tombstones) where
   abbrev H : Areas
-  H = held_in d h.carried.now h.tombstones.now h.cells.now a
+  H = held_in d T.area.now U.area.now h.cells.now a
 
-  module _ (fits : ltb (length lent) (10 + 2122 * count + 49 * (length h.tombstones.now / 44)) ≡ false) {len : ℕ} (el : length h.carried.now ≡ len)
-      (en : h.n ≡ held len 57 (min d.carried count)) (em : h.m ≡ held (length h.tombstones.now) 44 d.tombstones) where
-    same_rows : left h 0 0 ≡ saved_rows (view H)
-    unfolding left rows_left saved_rows view table_of
-    same_rows =
-        ap₂ (merge (λ (s : Slotted). s.slot))
-        (sym (map-map (carried_held h.cells.now) carried_of (rows 57 h.n h.carried.now))
-        ∙ ap (map (carried_held h.cells.now)) (sym (table_capped carried_codec d.carried count h.n h.carried.now (en ∙ ap (λ (l : ℕ). held l 57 (min d.carried count)) (sym el)))
-        ∙ ap (λ (k : ℕ). take k (table_of carried_codec d.carried h.carried.now)) counted))
-        (sym (map-map tombstone_held tombstone_of (rows 44 h.m h.tombstones.now)) ∙ ap (λ (k : ℕ). map tombstone_held (map tombstone_of (rows 44 k h.tombstones.now))) em)
+  same_rows : left h 0 0 ≡ saved_rows (view H)
+  unfolding left rows_left saved_rows view
+  same_rows =
+      ap₂ (λ (x : List Carried) (y : List Tombstone). merge (λ (s : Slotted). s.slot) (map (carried_held h.cells.now) x) (map tombstone_held y))
+      (carried_fitted F ∙ ap (λ (n : ℕ). table_of carried_codec n T.area.now) et ∙ sym (table_capped carried_codec d.carried count T.area.now)
+      ∙ ap (λ (k : ℕ). take k (table_of carried_codec d.carried T.area.now)) counted)
+      (tombstones_fitted F ∙ ap (λ (n : ℕ). table_of tombstone_codec n U.area.now) eu)
 
-    pub says_saved : (r : ℕ) (back : List ℕ) → Filled (saved_file d.next_slot (left h 0 0)) lent r back
-        → Says d h.carried.now h.tombstones.now h.cells.now lent a count counted (Ok r) back
-    unfolding step tests perform save_tests save_held view
-    says_saved r back F =
-        bytes_call (saved_file d.next_slot (saved_rows (view H))) (not_here _ _ _ (tested d h.carried.now h.tombstones.now h.cells.now lent a count counted fits) (no_test _))
-        (ap Ok (F.count ∙ ap (λ (l : List Slotted). length (saved_file d.next_slot l)) same_rows))
-        (F.area ∙ ap (λ (l : List Slotted). splice lent 0 (saved_file d.next_slot l)) same_rows)
+  pub says_saved : (fits : ltb (length lent) (10 + 2122 * count + 49 * (length U.area.now / 44)) ≡ false) (r : ℕ) (back : List ℕ)
+      → Filled (saved_file d.next_slot (left h 0 0)) lent r back → Says d T.area.now U.area.now h.cells.now lent a count counted (Ok r) back
+  unfolding step tests perform save_tests save_held view
+  says_saved fits r back S =
+      bytes_call (saved_file d.next_slot (saved_rows (view H))) (not_here _ _ _ (tested d T.area.now U.area.now h.cells.now lent a count counted fits) (no_test _))
+      (ap Ok (S.count ∙ ap (λ (l : List Slotted). length (saved_file d.next_slot l)) same_rows))
+      (S.area ∙ ap (λ (l : List Slotted). splice lent 0 (saved_file d.next_slot l)) same_rows)
 
 -- A file that the call wrote is what document 01 fixes of one: its bytes are those of the held rows, each once.
 pub is_saved : (s : State) (before after : Areas) (lent back : List ℕ) (n : ℕ)

@@ -6,41 +6,46 @@ use Rattle.octets.specs.Bytes.{part, splice, num}
 use Rattle.octets.proofs.Parts.{splice_nil, splice_then, length_splice}
 use Rattle.table.specs.Rows.{join}
 use Rattle.table.proofs.RowLaws.{join_snoc}
+use Rattle.rows.specs.declared.Carried.{Carried}
+use Rattle.rows.specs.declared.Tombstone.{Tombstone}
 use Rattle.rows.specs.Rows.{carried_of, tombstone_of}
 use Rattle.model.specs.Saved.{Slotted, carried_held, tombstone_held, saved_record}
 use Rattle.by_slot.proofs.SlotLaws.{next_carried, next_tombstone, none_left}
 use Rattle.saved.specs.declared.HeldRows.{HeldRows}
 use Rattle.saved.specs.declared.Turn.{Turn}
-use Rattle.saved.specs.Saving.{Recorded, left, More, Saving, Records}
+use Rattle.saved.specs.Saving.{Recorded, left, Rooms, More, Saving, Records}
 
 -- ---- one row more
 
 module _ (h : HeldRows) (t : Turn) (file after : List ℕ) (at : ℕ) where
-  abbrev C : List ℕ → Slotted
-  C b = carried_held h.cells.now (carried_of b)
+  abbrev p : ℕ
+  p = t.next.carried
 
-  abbrev T : List ℕ → Slotted
-  T b = tombstone_held (tombstone_of b)
+  abbrev q : ℕ
+  q = t.next.tombstones
 
   abbrev slot_c : ℕ
-  slot_c = num (part h.carried.now (t.p * 57) 8)
+  slot_c = num (part h.rows.carried.area.now (p * 57) 8)
 
   abbrev slot_t : ℕ
-  slot_t = num (part h.tombstones.now (t.q * 44) 8)
+  slot_t = num (part h.rows.tombstones.area.now (q * 44) 8)
 
-  next_c : t.p < h.n → (t.q < h.m → slot_c ≤ slot_t) → left h t.p t.q ≡ C (part h.carried.now (t.p * 57) 57) ∷ left h (t.p + 1) t.q
-  unfolding left carried_held carried_of tombstone_held tombstone_of
-  next_c l g = next_carried (λ (x : Slotted). x.slot) C T h.carried.now h.tombstones.now h.n h.m (λ b. refl) (λ b. refl) t.p t.q l g
+  next_c : p < h.rows.carried.count → (q < h.rows.tombstones.count → slot_c ≤ slot_t)
+      → left h p q ≡ carried_held h.cells.now (carried_of (part h.rows.carried.area.now (p * 57) 57)) ∷ left h (p + 1) q
+  unfolding left carried_held tombstone_held
+  next_c l g = next_carried (λ (x : Slotted). x.slot) (carried_held h.cells.now) tombstone_held h.rows (λ r. refl) (λ s. refl) p q l g
 
-  next_t : t.q < h.m → (t.p < h.n → slot_t < slot_c) → left h t.p t.q ≡ T (part h.tombstones.now (t.q * 44) 44) ∷ left h t.p (t.q + 1)
-  unfolding left carried_held carried_of tombstone_held tombstone_of
-  next_t l g = next_tombstone (λ (x : Slotted). x.slot) C T h.carried.now h.tombstones.now h.n h.m (λ b. refl) (λ b. refl) t.p t.q l g
+  next_t : q < h.rows.tombstones.count → (p < h.rows.carried.count → slot_t < slot_c)
+      → left h p q ≡ tombstone_held (tombstone_of (part h.rows.tombstones.area.now (q * 44) 44)) ∷ left h p (q + 1)
+  unfolding left carried_held tombstone_held
+  next_t l g = next_tombstone (λ (x : Slotted). x.slot) (carried_held h.cells.now) tombstone_held h.rows (λ r. refl) (λ s. refl) p q l g
 
-  pub more_carried : t.q ≤ h.m → t.p < h.n → (t.q < h.m → slot_c ≤ slot_t) → Recorded 2122 (C (part h.carried.now (t.p * 57) 57)) t.at file at after
-      → More h t file (record { p = t.p + 1; q = t.q; at = at }) after
-  more_carried b l g D = record {
-    row = C (part h.carried.now (t.p * 57) 57);
-    next = next_c l g;
+  pub more_carried : q ≤ h.rows.tombstones.count → p < h.rows.carried.count → (q < h.rows.tombstones.count → slot_c ≤ slot_t) → (row : Carried)
+      → row ≡ carried_of (part h.rows.carried.area.now (p * 57) 57) → Recorded 2122 (carried_held h.cells.now row) t.at file at after
+      → More h t file (record { next = record { carried = p + 1; tombstones = q }; at = at }) after
+  more_carried b l g row e D = record {
+    row = carried_held h.cells.now row;
+    next = next_c l g ∙ ap (λ (r : Carried). carried_held h.cells.now r ∷ left h (p + 1) q) (sym e);
     area = D.area;
     end = D.end;
     on = omega arith;
@@ -49,11 +54,12 @@ module _ (h : HeldRows) (t : Turn) (file after : List ℕ) (at : ℕ) where
     room = omega (arith, D.within);
   }
 
-  pub more_tombstone : t.p ≤ h.n → t.q < h.m → (t.p < h.n → slot_t < slot_c) → Recorded 49 (T (part h.tombstones.now (t.q * 44) 44)) t.at file at after
-      → More h t file (record { p = t.p; q = t.q + 1; at = at }) after
-  more_tombstone b l g D = record {
-    row = T (part h.tombstones.now (t.q * 44) 44);
-    next = next_t l g;
+  pub more_tombstone : p ≤ h.rows.carried.count → q < h.rows.tombstones.count → (p < h.rows.carried.count → slot_t < slot_c) → (row : Tombstone)
+      → row ≡ tombstone_of (part h.rows.tombstones.area.now (q * 44) 44) → Recorded 49 (tombstone_held row) t.at file at after
+      → More h t file (record { next = record { carried = p; tombstones = q + 1 }; at = at }) after
+  more_tombstone b l g row e D = record {
+    row = tombstone_held row;
+    next = next_t l g ∙ ap (λ (r : Tombstone). tombstone_held r ∷ left h p (q + 1)) (sym e);
     area = D.area;
     end = D.end;
     on = omega arith;
@@ -68,7 +74,7 @@ records_snoc : (rs : List Slotted) (h : Slotted) → join (map saved_record (rs 
 records_snoc rs h = ap join (map-append saved_record rs (h ∷ [])) ∙ join_snoc (map saved_record rs) (saved_record h)
 
 module _ (h : HeldRows) (lent : List ℕ) where
-  pub saving_start : Saving h lent lent (record { p = 0; q = 0; at = 10 })
+  pub saving_start : Saving h lent lent (record { next = record { carried = 0; tombstones = 0 }; at = 10 })
   unfolding join
   saving_start = record {
     done = [];
@@ -81,19 +87,19 @@ module _ (h : HeldRows) (lent : List ℕ) where
     room = omega arith;
   }
 
-  module _ (size : 10 + (2122 * h.n + 49 * h.m) ≤ length lent) (x : List ℕ) (t : Turn) (S : Saving h lent x t) where
+  module _ (size : Rooms h.rows (length lent)) (x : List ℕ) (t : Turn) (S : Saving h lent x t) where
     pub saving_more : (y : List ℕ) (r : Turn) → More h t x r y → Saving h lent y r
     saving_more y r M =
         let J : List ℕ = join (map saved_record S.done) in
         let s = records_snoc S.done M.row in
-        let room : r.at ≤ 10 + (2122 * r.p + 49 * r.q) = omega (arith, S.room, M.room) in
+        let room : r.at ≤ 10 + (2122 * r.next.carried + 49 * r.next.tombstones) = omega (arith, S.room, M.room) in
         let fits : t.at + length (saved_record M.row) ≤ length lent = omega (arith, M.end, M.within, M.below) in
         let e : y ≡ splice lent 10 (J ++ saved_record M.row) =
         splice_then lent x y 10 t.at J (saved_record M.row) S.bytes M.area S.end fits in
         let l : length (J ++ saved_record M.row) ≡ length J + length (saved_record M.row) = length-append J (saved_record M.row) in
         record {
           done = S.done ++ (M.row ∷ []);
-          all = append_assoc S.done (M.row ∷ []) (left h r.p r.q)
+          all = append_assoc S.done (M.row ∷ []) (left h r.next.carried r.next.tombstones)
               ∙ ap (λ (k : List Slotted). S.done ++ k) (sym M.next) ∙ S.all;
           bytes = e ∙ ap (splice lent 10) (sym s);
           end = omega (arith, M.end, S.end, l, ap length s);
@@ -103,14 +109,13 @@ module _ (h : HeldRows) (lent : List ℕ) where
           room = room;
         }
 
-    pub saving_end : h.n + h.m ≤ t.p + t.q → Records (left h 0 0) lent t.at x
+    pub saving_end : h.rows.carried.count + h.rows.tombstones.count ≤ t.next.carried + t.next.tombstones → Records (left h 0 0) lent t.at x
     unfolding left
     saving_end e =
         let w = S.within in
         let b = S.below in
-        let z : left h t.p t.q ≡ [] =
-        none_left (λ (k : Slotted). k.slot) (λ (d : List ℕ). carried_held h.cells.now (carried_of d)) (λ (d : List ℕ). tombstone_held (tombstone_of d)) h.carried.now h.tombstones.now h.n h.m t.p t.q
-        (omega arith) (omega arith) in
+        let z : left h t.next.carried t.next.tombstones ≡ [] =
+        none_left (λ (k : Slotted). k.slot) (carried_held h.cells.now) tombstone_held h.rows t.next.carried t.next.tombstones (omega arith) (omega arith) in
         let all : S.done ≡ left h 0 0 = sym (append-nil S.done) ∙ ap (λ (k : List Slotted). S.done ++ k) (sym z) ∙ S.all in
         record {
           end = S.end ∙ ap (λ (k : List Slotted). 10 + length (join (map saved_record k))) all;

@@ -4,10 +4,10 @@ use Rattle.std.specs.Prelude.{◌≡◌, ℕ, ◌+◌, ◌*◌, ◌≤◌, List,
 use Rattle.courier_core.specs.declared.Refusal.{Refusal}
 use Rattle.octets.specs.Bytes.{splice, be}
 use Rattle.table.specs.Rows.{join}
-use Rattle.rows.specs.Rows.{carried_of, tombstone_of}
 use Rattle.model.specs.Calls.{Result as Outcome}
 use Rattle.model.specs.Lent.{refused_or}
 use Rattle.model.specs.Saved.{Slotted, carried_held, tombstone_held, saved_record}
+use Rattle.by_slot.specs.declared.held.Held.{Held}
 use Rattle.by_slot.specs.BySlot.{rows_left}
 use Rattle.saved.specs.declared.HeldRows.{HeldRows}
 use Rattle.saved.specs.declared.Turn.{Turn}
@@ -31,44 +31,40 @@ pub record Recorded (most : ℕ) (h : Slotted) (at : ℕ) (before : List ℕ) (r
 
 -- ---- the records, by slot
 
--- the file, of so many bytes, has room for the records of the n and m rows, and the next record goes to t's place
-pub record RoomFor (n m : ℕ) (t : Turn) (file : ℕ) : Type 0 where
-  pub size : 10 + (2122 * n + 49 * m) ≤ file
-  pub place : t.at ≤ 10 + (2122 * t.p + 49 * t.q)
+-- the file, of so many bytes, has room for the records of the rows, and the next record goes to t's place
+pub record RoomFor (h : Held) (t : Turn) (file : ℕ) : Type 0 where
+  pub size : 10 + (2122 * h.carried.count + 49 * h.tombstones.count) ≤ file
+  pub place : t.at ≤ 10 + (2122 * t.next.carried + 49 * t.next.tombstones)
 
 -- what is left to save of held rows: from carried row p and tombstone q on
 unfoldable pub left : HeldRows → (p q : ℕ) → List Slotted
-left h p q =
-    rows_left (λ (s : Slotted). s.slot) (λ (b : List ℕ). carried_held h.cells.now (carried_of b)) (λ (b : List ℕ). tombstone_held (tombstone_of b))
-    h.carried.now h.tombstones.now h.n h.m p q
+left h p q = rows_left (λ (s : Slotted). s.slot) (carried_held h.cells.now) tombstone_held h.rows p q
 
 -- one row more is saved
 pub record More (h : HeldRows) (t : Turn) (before : List ℕ) (r : Turn) (after : List ℕ) : Type 0 where
   pub row : Slotted
-  pub next : left h t.p t.q ≡ row ∷ left h r.p r.q
+  pub next : left h t.next.carried t.next.tombstones ≡ row ∷ left h r.next.carried r.next.tombstones
   pub area : after ≡ splice before t.at (saved_record row)
   pub end : r.at ≡ t.at + length (saved_record row)
-  pub on : r.p + r.q ≡ t.p + t.q + 1
-  pub within : r.p ≤ h.n
-  pub below : r.q ≤ h.m
-  pub room : r.at + (2122 * t.p + 49 * t.q) ≤ t.at + (2122 * r.p + 49 * r.q)
+  pub on : r.next.carried + r.next.tombstones ≡ t.next.carried + t.next.tombstones + 1
+  pub within : r.next.carried ≤ h.rows.carried.count
+  pub below : r.next.tombstones ≤ h.rows.tombstones.count
+  pub room : r.at + (2122 * t.next.carried + 49 * t.next.tombstones) ≤ t.at + (2122 * r.next.carried + 49 * r.next.tombstones)
 
 -- the rows done so far, in a file that was lent and is now area
 pub record Saving (h : HeldRows) (lent area : List ℕ) (t : Turn) : Type 0 where
   pub done : List Slotted
-  pub all : done ++ left h t.p t.q ≡ left h 0 0
+  pub all : done ++ left h t.next.carried t.next.tombstones ≡ left h 0 0
   pub bytes : area ≡ splice lent 10 (join (map saved_record done))
   pub end : t.at ≡ 10 + length (join (map saved_record done))
   pub size : length area ≡ length lent
-  pub within : t.p ≤ h.n
-  pub below : t.q ≤ h.m
-  pub room : t.at ≤ 10 + (2122 * t.p + 49 * t.q)
+  pub within : t.next.carried ≤ h.rows.carried.count
+  pub below : t.next.tombstones ≤ h.rows.tombstones.count
+  pub room : t.at ≤ 10 + (2122 * t.next.carried + 49 * t.next.tombstones)
 
--- the areas have n carried rows and m tombstones, and a file of so many bytes has room for their records
-pub record Rooms (h : HeldRows) (file : ℕ) : Type 0 where
-  pub rows : h.n * 57 ≤ length h.carried.now
-  pub tombs : h.m * 44 ≤ length h.tombstones.now
-  pub size : 10 + (2122 * h.n + 49 * h.m) ≤ file
+-- a file of so many bytes has room for the records of the rows
+abbrev pub Rooms : Held → (file : ℕ) → Type 0
+Rooms h file = 10 + (2122 * h.carried.count + 49 * h.tombstones.count) ≤ file
 
 -- the records of rows stand behind the first 10 bytes of a file, and end at r
 pub record Records (rows : List Slotted) (lent : List ℕ) (r : ℕ) (after : List ℕ) : Type 0 where

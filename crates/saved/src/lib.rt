@@ -2,10 +2,9 @@
 #![tactic(auto)]
 
 ghost use Rattle.std.specs.Prelude.{◌≡◌, ◌+◌, ◌*◌, ◌<◌, ◌≤◌, [], ◌∷◌, ◌++◌, length, nat_lt};
-ghost use Rattle.octets.specs.Bytes.{part, be};
+ghost use Rattle.octets.specs.Bytes.{be};
 ghost use Rattle.table.specs.Lists.{position};
 ghost use Rattle.table.specs.Rows.{rows, held};
-ghost use Rattle.rows.specs.Rows.{carried_of, tombstone_of};
 ghost use Rattle.model.specs.Calls.{row_blob, save as save_call};
 ghost use Rattle.model.specs.Cells.{cell_count};
 ghost use Rattle.model.specs.Lent.{Does, bytes_lent};
@@ -14,36 +13,33 @@ ghost use Rattle.saved.specs.Blobs.{has_slot, held_carried, held_tombstone, Blob
 ghost use Rattle.by_slot.specs.BySlot.{Reached};
 ghost use Rattle.saved.specs.Saving.{RecordPut, Recorded, RoomFor, More, left, Rooms, Records, Filled, save_says};
 
+use by_slot::{Cursor, Held};
 use courier_core::Refusal;
-use rows::{Carried, Device, Tombstone};
+use rows::{CARRIED_WIDTH, Carried, Device, Row as _, TOMBSTONE_WIDTH, Tombstone};
+use table::Table;
 
-// The held rows that are saved: n carried rows, whose ciphertexts lie in cells, and m tombstones.
+// The held rows that are saved, and the cells in which the ciphertexts of the carried ones lie.
 #[derive(Clone, Copy)]
 struct HeldRows<'a> {
-    carried: &'a [u8],
-    n: usize,
-    tombstones: &'a [u8],
-    m: usize,
+    rows: Held<'a>,
     cells: &'a [u8],
 }
 
-// How far a file is: the next carried row, the next tombstone, and where the next record goes.
+// How far a file is: the next row of each table, and where the next record goes.
 #[derive(Drop)]
 struct Turn {
-    p: usize,
-    q: usize,
+    next: Cursor,
     at: usize,
 }
 
 // ---- rows by slot
 
-// The first row of a table that has the slot, which is the first 8 bytes of every row. (Area and count: fixed memory of the host's.)
-fn slot_place(area: &[u8], width: usize, count: usize, slot: u64) -> Option<usize>
-    requires { 8 ≤ width }
-    ensures { result ≡ position (has_slot slot) (rows width (held (length area.now) width count) area.now) }
+// The first row of a table that has the slot, which is the first 8 bytes of every row.
+fn slot_place<const W: usize>(table: Table<W>, slot: u64) -> Option<usize>
+    requires { 8 ≤ W }
+    ensures { result ≡ position (has_slot slot) (rows W (held (length table.entry.area.now) W table.entry.count) table.entry.area.now) }
 {
-    let n = table::fit(area.len(), width, count);
-    table::position(area, width, n, |row| octets::get_u64(row, 0) == slot)
+    table.position(|row| octets::get_u64(row, 0) == slot)
 }
 
 // ---- a row, written to a blob area
@@ -70,22 +66,20 @@ fn held_tombstone(row: Tombstone) -> state::Tombstone
     }
 }
 
-// Carried row i: its bytes go to the front of the area, and how many they are is answered.
-fn carried_blob(carried: &[u8], i: usize, cells: &[u8], blob: &mut [u8]) -> usize
-    requires { (i * 57 + 57 ≤ length carried.now) × (2110 ≤ length blob.old) }
-    ensures { Blobbed 2110 (carried_held cells.now (carried_of (part carried.now (i * 57) 57))) blob.old result blob.new }
+// A carried row: its bytes go to the front of the area, and how many they are is answered.
+fn carried_blob(row: Carried, cells: &[u8], blob: &mut [u8]) -> usize
+    requires { 2110 ≤ length blob.old }
+    ensures { Blobbed 2110 (carried_held cells.now row) blob.old result blob.new }
 {
-    let row = rows::carried_at(carried, i * rows::CARRIED_WIDTH);
     let ct = fetch::cell_part(cells, row.cell, row.len);
     state::carried_row(held_carried(row), ct, blob).unwrap()
 }
 
-// The same, of tombstone i. (Two functions: all that they call differs by the kind of row, but for `unwrap`.)
-fn tombstone_blob(tombstones: &[u8], i: usize, blob: &mut [u8]) -> usize
-    requires { (i * 44 + 44 ≤ length tombstones.now) × (2110 ≤ length blob.old) }
-    ensures { Blobbed 37 (tombstone_held (tombstone_of (part tombstones.now (i * 44) 44))) blob.old result blob.new }
+// The same, of a tombstone, which has no ciphertext.
+fn tombstone_blob(row: Tombstone, blob: &mut [u8]) -> usize
+    requires { 2110 ≤ length blob.old }
+    ensures { Blobbed 37 (tombstone_held row) blob.old result blob.new }
 {
-    let row = rows::tombstone_at(tombstones, i * rows::TOMBSTONE_WIDTH);
     state::tombstone_row(held_tombstone(row), blob).unwrap()
 }
 
@@ -108,10 +102,24 @@ pub fn row_blob(
     if blob.len() < state::BLOB {
         return Err(Refusal::ShortArea);
     }
-    match slot_place(carried, rows::CARRIED_WIDTH, device.carried, slot) {
-        Some(i) => Ok(Some(carried_blob(carried, i, carried_cells, blob))),
-        None => match slot_place(tombstones, rows::TOMBSTONE_WIDTH, device.tombstones, slot) {
-            Some(i) => Ok(Some(tombstone_blob(tombstones, i, blob))),
+    let carried_rows = Table {
+        area: carried,
+        count: device.carried,
+    };
+    let tombstone_rows = Table {
+        area: tombstones,
+        count: device.tombstones,
+    };
+    match slot_place::<CARRIED_WIDTH>(carried_rows, slot) {
+        Some(i) => {
+            let row = Carried::read(carried, i * CARRIED_WIDTH);
+            Ok(Some(carried_blob(row, carried_cells, blob)))
+        }
+        None => match slot_place::<TOMBSTONE_WIDTH>(tombstone_rows, slot) {
+            Some(i) => {
+                let row = Tombstone::read(tombstones, i * TOMBSTONE_WIDTH);
+                Ok(Some(tombstone_blob(row, blob)))
+            }
             None => Ok(None),
         },
     }
@@ -129,7 +137,7 @@ fn marked(letter: u8, number: u64) -> [u8; 10]
     b
 }
 
-// Writes a record at a place, and answers where it ends.
+// Writes a record at a place, and answers where it ends. (The letter is that of its mark, as `marked` takes it.)
 fn put_record(file: &mut [u8], at: usize, letter: u8, slot: u64, row: &[u8]) -> usize
     requires { (at + 12 + length row.now ≤ length file.old) × (length row.now < 65536) }
     ensures { RecordPut letter slot row.now at file.old result file.new }
@@ -141,26 +149,24 @@ fn put_record(file: &mut [u8], at: usize, letter: u8, slot: u64, row: &[u8]) -> 
     at + 12 + row.len()
 }
 
-// Writes the record of carried row i, `HC`.
-fn save_carried(carried: &[u8], i: usize, cells: &[u8], file: &mut [u8], at: usize) -> usize
-    requires { (i * 57 + 57 ≤ length carried.now) × (at + 2122 ≤ length file.old) }
-    ensures { Recorded 2122 (carried_held cells.now (carried_of (part carried.now (i * 57) 57))) at file.old result file.new }
+// Writes the record of a carried row, `HC`.
+fn save_carried(row: Carried, cells: &[u8], file: &mut [u8], at: usize) -> usize
+    requires { at + 2122 ≤ length file.old }
+    ensures { Recorded 2122 (carried_held cells.now row) at file.old result file.new }
 {
     let mut blob = [0u8; 2110];
-    let n = carried_blob(carried, i, cells, &mut blob);
-    let slot = octets::get_u64(carried, i * rows::CARRIED_WIDTH);
-    put_record(file, at, b'C', slot, &blob[0..n])
+    let n = carried_blob(row, cells, &mut blob);
+    put_record(file, at, b'C', row.slot, &blob[0..n])
 }
 
-// Writes the record of tombstone i, `HT`. (Two functions, as of blobs; what they share is `put_record`.)
-fn save_tombstone(tombstones: &[u8], i: usize, file: &mut [u8], at: usize) -> usize
-    requires { (i * 44 + 44 ≤ length tombstones.now) × (at + 49 ≤ length file.old) }
-    ensures { Recorded 49 (tombstone_held (tombstone_of (part tombstones.now (i * 44) 44))) at file.old result file.new }
+// Writes the record of a tombstone, `HT`.
+fn save_tombstone(row: Tombstone, file: &mut [u8], at: usize) -> usize
+    requires { at + 49 ≤ length file.old }
+    ensures { Recorded 49 (tombstone_held row) at file.old result file.new }
 {
     let mut blob = [0u8; 2110];
-    let n = tombstone_blob(tombstones, i, &mut blob);
-    let slot = octets::get_u64(tombstones, i * rows::TOMBSTONE_WIDTH);
-    put_record(file, at, b'T', slot, &blob[0..n])
+    let n = tombstone_blob(row, &mut blob);
+    put_record(file, at, b'T', row.slot, &blob[0..n])
 }
 
 // ---- the records, by slot
@@ -168,25 +174,33 @@ fn save_tombstone(tombstones: &[u8], i: usize, file: &mut [u8], at: usize) -> us
 impl<'a> HeldRows<'a> {
     // Writes the record of the next row.
     fn save_next(self, t: &mut Turn, file: &mut [u8])
-        requires { Reached (length self.carried.now) (length self.tombstones.now) self.n self.m t.old.p t.old.q × RoomFor self.n self.m t.old (length file.old) }
+        requires { Reached self.rows t.old.next × RoomFor self.rows t.old (length file.old) }
         ensures { More self.entry t.old file.old t.new file.new }
     {
-        if by_slot::tombstone_first(self.carried, self.n, t.p, self.tombstones, self.m, t.q) {
-            t.at = save_tombstone(self.tombstones, t.q, file, t.at);
-            t.q += 1;
+        if self.rows.tombstone_first(t.next) {
+            let at = t.next.tombstones * TOMBSTONE_WIDTH;
+            let row = Tombstone::read(self.rows.tombstones.area, at);
+            t.at = save_tombstone(row, file, t.at);
+            t.next.tombstones += 1;
             return;
         }
-        t.at = save_carried(self.carried, t.p, self.cells, file, t.at);
-        t.p += 1;
+        let at = t.next.carried * CARRIED_WIDTH;
+        let row = Carried::read(self.rows.carried.area, at);
+        t.at = save_carried(row, self.cells, file, t.at);
+        t.next.carried += 1;
     }
 
     // Writes the records of all rows behind the first 10 bytes, and answers where they end.
     fn save_rows(self, file: &mut [u8]) -> usize
-        requires { Rooms self (length file.old) }
+        requires { Rooms self.rows (length file.old) }
         ensures { Records (left self.entry 0 0) file.old result file.new }
     {
-        let mut t = Turn { p: 0, q: 0, at: 10 };
-        for _row in 0..self.n + self.m {
+        let next = Cursor {
+            carried: 0,
+            tombstones: 0,
+        };
+        let mut t = Turn { next, at: 10 };
+        for _row in 0..self.rows.len() {
             self.save_next(&mut t, file);
         }
         t.at
@@ -194,7 +208,7 @@ impl<'a> HeldRows<'a> {
 
     // Writes the file: `HN` and the next slot, then the records.
     fn save_file(self, next: u64, file: &mut [u8]) -> usize
-        requires { Rooms self (length file.old) }
+        requires { Rooms self.rows (length file.old) }
         ensures { Filled (saved_file next (left self.entry 0 0)) file.old result file.new }
     {
         let head = marked(b'N', next);
@@ -238,15 +252,21 @@ pub fn save(
         (bytes_lent file.old) (bytes_lent file.new) }
 {
     let cells = cell_count(carried_cells.len());
-    let room = tombstones.len() / rows::TOMBSTONE_WIDTH;
+    let room = tombstones.len() / TOMBSTONE_WIDTH;
     if short_file(file.len(), cells, room) {
         return Err(Refusal::ShortArea);
     }
+    let carried_rows = Table {
+        area: carried,
+        count: device.carried.min(cells),
+    };
+    let tombstone_rows = Table {
+        area: tombstones,
+        count: device.tombstones,
+    };
+    let rows = Held::fit(carried_rows, tombstone_rows);
     let held = HeldRows {
-        carried,
-        n: table::fit_to(carried.len(), rows::CARRIED_WIDTH, device.carried, cells),
-        tombstones,
-        m: table::fit(tombstones.len(), rows::TOMBSTONE_WIDTH, device.tombstones),
+        rows,
         cells: carried_cells,
     };
     Ok(held.save_file(device.next_slot, file))

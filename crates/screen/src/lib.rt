@@ -7,11 +7,13 @@ ghost use Rattle.model.specs.Calls.{page as page_call};
 ghost use Rattle.model.specs.Lent.{Does, bytes_lent};
 ghost use Rattle.model.specs.Screen.{carried_row, tombstone_row, line_front, minutes_left, carried_end, screen_line, heading};
 ghost use Rattle.by_slot.specs.BySlot.{Reached};
-ghost use Rattle.screen.specs.Page.{InTables, Passed, RowPut, RowsFit, RowsPut, page_says, held_in};
+ghost use Rattle.screen.specs.Page.{Passed, RowPut, RowsFit, RowsPut, page_says, held_in};
 
+use by_slot::{Cursor, Held};
 use columns::{put_blanks, put_column, put_hex};
 use courier_core::{ContactId, Refusal};
-use rows::{Carried, Device, Tombstone};
+use rows::{CARRIED_WIDTH, Carried, Device, Row as _, TOMBSTONE_WIDTH, Tombstone};
+use table::Table;
 
 // A line, its end among its bytes; the most rows of a page; the area that is asked for: heading and rows.
 pub const LINE: usize = 81;
@@ -20,25 +22,9 @@ pub const PAGE_ROWS: usize = 19;
 
 pub const PAGE: usize = 1_620;
 
-// The tables that are shown: n carried rows and m tombstones.
-#[derive(Clone, Copy)]
-struct Tables<'a> {
-    carried: &'a [u8],
-    n: usize,
-    tombstones: &'a [u8],
-    m: usize,
-}
-
-// The next carried row and the next tombstone.
-#[derive(Drop)]
-struct Turn {
-    carried: usize,
-    tombstones: usize,
-}
-
 // ---- a line
 
-// Slot, kind and prefix, and a blank behind each.
+// Slot, kind and prefix, and a blank behind each. (The kind is the letter that the line has; an enum would only be turned into it.)
 fn put_front(area: &mut [u8], at: usize, slot: u64, kind: u8, tag: [u8; 16])
     requires { at + 40 ≤ length area.old }
     ensures { area.new ≡ splice area.old at (line_front slot kind tag) }
@@ -107,65 +93,49 @@ fn rows_before(total: usize, page: u64) -> usize
     PAGE_ROWS * page as usize
 }
 
-impl<'a> Tables<'a> {
-    // Passes k rows.
-    fn pass_rows(self, k: usize) -> Turn
-        requires { InTables self × (k ≤ self.n + self.m) }
-        ensures { Passed self.entry k result }
-    {
-        let mut t = Turn {
-            carried: 0,
-            tombstones: 0,
-        };
-        for _row in 0..k {
-            if by_slot::tombstone_first(
-                self.carried,
-                self.n,
-                t.carried,
-                self.tombstones,
-                self.m,
-                t.tombstones,
-            ) {
-                t.tombstones += 1;
-            } else {
-                t.carried += 1;
-            }
-        }
-        t
-    }
-
-    // Writes the line of the next row.
-    fn put_next(self, t: &mut Turn, minute: u32, area: &mut [u8], at: usize)
-        requires { Reached (length self.carried.now) (length self.tombstones.now) self.n self.m t.old.carried t.old.tombstones × (at + 81 ≤ length area.old) }
-        ensures { RowPut self.entry minute t.old at area.old t.new area.new }
-    {
-        if by_slot::tombstone_first(
-            self.carried,
-            self.n,
-            t.carried,
-            self.tombstones,
-            self.m,
-            t.tombstones,
-        ) {
-            let row = rows::tombstone_at(self.tombstones, t.tombstones * rows::TOMBSTONE_WIDTH);
-            put_tombstone(area, at, row, minute);
+// Passes k rows.
+fn pass_rows(rows: Held, k: usize) -> Cursor
+    requires { k ≤ rows.carried.count + rows.tombstones.count }
+    ensures { Passed rows.entry k result }
+{
+    let mut t = Cursor {
+        carried: 0,
+        tombstones: 0,
+    };
+    for _row in 0..k {
+        if rows.tombstone_first(t) {
             t.tombstones += 1;
-            return;
+        } else {
+            t.carried += 1;
         }
-        let row = rows::carried_at(self.carried, t.carried * rows::CARRIED_WIDTH);
-        put_carried(area, at, row, minute);
-        t.carried += 1;
     }
+    t
+}
 
-    // Writes the lines of so many rows from a place on, behind the heading's.
-    fn put_rows(self, from: Turn, count: usize, minute: u32, area: &mut [u8])
-        requires { RowsFit self from count (length area.old) }
-        ensures { RowsPut self.entry minute from count area.old area.new }
-    {
-        let mut t = from;
-        for j in 0..count {
-            self.put_next(&mut t, minute, area, LINE + LINE * j);
-        }
+// Writes the line of the next row.
+fn put_next(rows: Held, t: &mut Cursor, minute: u32, area: &mut [u8], at: usize)
+    requires { Reached rows t.old × (at + 81 ≤ length area.old) }
+    ensures { RowPut rows.entry minute t.old at area.old t.new area.new }
+{
+    if rows.tombstone_first(*t) {
+        let row = Tombstone::read(rows.tombstones.area, t.tombstones * TOMBSTONE_WIDTH);
+        put_tombstone(area, at, row, minute);
+        t.tombstones += 1;
+        return;
+    }
+    let row = Carried::read(rows.carried.area, t.carried * CARRIED_WIDTH);
+    put_carried(area, at, row, minute);
+    t.carried += 1;
+}
+
+// Writes the lines of so many rows from a place on, behind the heading's.
+fn put_rows(rows: Held, from: Cursor, count: usize, minute: u32, area: &mut [u8])
+    requires { RowsFit rows from count (length area.old) }
+    ensures { RowsPut rows.entry minute from count area.old area.new }
+{
+    let mut t = from;
+    for j in 0..count {
+        put_next(rows, &mut t, minute, area, LINE + LINE * j);
     }
 }
 
@@ -196,16 +166,20 @@ pub fn page(
     if area.len() < PAGE {
         return Err(Refusal::ShortArea);
     }
-    let shown = Tables {
-        carried,
-        n: table::fit(carried.len(), rows::CARRIED_WIDTH, device.carried),
-        tombstones,
-        m: table::fit(tombstones.len(), rows::TOMBSTONE_WIDTH, device.tombstones),
+    let carried_rows = Table {
+        area: carried,
+        count: device.carried,
     };
-    let k = rows_before(shown.n + shown.m, number);
-    let count = PAGE_ROWS.min(shown.n + shown.m - k);
-    let from = shown.pass_rows(k);
+    let tombstone_rows = Table {
+        area: tombstones,
+        count: device.tombstones,
+    };
+    let rows = Held::fit(carried_rows, tombstone_rows);
+    let total = rows.len();
+    let k = rows_before(total, number);
+    let count = PAGE_ROWS.min(total - k);
+    let from = pass_rows(rows, k);
     put_heading(area);
-    shown.put_rows(from, count, contacts::now_min(device.now_s), area);
+    put_rows(rows, from, count, contacts::now_min(device.now_s), area);
     Ok(LINE + LINE * count)
 }

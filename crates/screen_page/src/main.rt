@@ -2,7 +2,7 @@
 #![tactic(auto)]
 
 use courier_core::ContactId;
-use rows::{Carried, Device, Tombstone};
+use rows::{CARRIED_WIDTH, Carried, Device, Row, TOMBSTONE_WIDTH, Tombstone};
 use std::io;
 
 // What a post shows: its device and its two tables of held rows, with room for 40 tombstones.
@@ -34,21 +34,20 @@ impl Post {
     // One carried row more; the last one's place is taken where there is no room.
     fn carry(&mut self, row: Carried) {
         let n = self.device.carried.min(255);
-        let bytes = rows::carried_bytes(row);
-        octets::copy_in(&mut self.carried, n * rows::CARRIED_WIDTH, &bytes);
+        row.put(&mut self.carried, n * CARRIED_WIDTH);
         self.device.carried = n + 1;
     }
 
     // The same, of a tombstone.
     fn entomb(&mut self, slot: u64, tag: u8, expiry: u32) {
         let m = self.device.tombstones.min(39);
-        let bytes = rows::tombstone_bytes(Tombstone {
+        let row = Tombstone {
             slot,
             tag: [tag; 16],
             s: [0; 16],
             expiry_min: expiry,
-        });
-        octets::copy_in(&mut self.tombstones, m * rows::TOMBSTONE_WIDTH, &bytes);
+        };
+        row.put(&mut self.tombstones, m * TOMBSTONE_WIDTH);
         self.device.tombstones = m + 1;
     }
 
@@ -101,10 +100,7 @@ fn show(rt: &impl Print, what: &str, post: &Post, page: u64, size: usize) -> io:
     let area = &mut whole[..size.min(2000)];
     print!(rt; "{what}: page {page}, area {size}: ")?;
     match screen::page(post.device, page, &post.carried, &post.tombstones, area) {
-        Err(why) => {
-            let number = courier_core::refusal_number(why);
-            println!(rt; "refused {number}, left alone {}", left_alone(area))
-        }
+        Err(why) => println!(rt; "refused {}, left alone {}", why.number(), left_alone(area)),
         Ok(n) => {
             println!(rt; "bytes {n}, left alone {}", left_alone(area))?;
             rt.write_all(&area[..n.min(area.len())])

@@ -1,6 +1,7 @@
 -- What is built byte by byte: the padded end of a message, and the digest.
 -- Assumes nothing.
-use mathlib.Core.Path.{◌≡◌, sym, ap, ap₂, ◌∙◌}
+use mathlib.Core.Path.{◌≡◌, refl, sym, ap, ap₂, ◌∙◌}
+use Rattle.std.proofs.lemmas.Grind.{common_steps}
 use mathlib.Core.List.{List, [], ◌∷◌, ◌++◌, append_assoc, append-nil}
 use Prim.Native.Nat.{ℕ, suc, ◌+◌, ◌-◌, ◌*◌, ◌/◌, ◌%◌, ◌^◌, ◌≤◌, ◌<◌}
 use native.Mathlib.Numerals.{add-one}
@@ -11,7 +12,7 @@ use Rattle.octets.specs.Bytes.{splice, be}
 use Rattle.octets.proofs.Parts.{splice_zeros, splice_then, take_written}
 use Rattle.octets.proofs.Numbers.{length_be, be_append, be_mod}
 use Rattle.sha384.specs.Padding.{zero_bits, padding}
-use Rattle.sha384.specs.Sha384.{bytes}
+use Rattle.sha384.specs.Sha384.{bytes, digest}
 
 -- ---- the length of the message in bits
 
@@ -20,8 +21,7 @@ bits : (n : ℕ) → be 8 (n / 2 ^ 61) ++ be 8 (n * 2 ^ 3 % 2 ^ 64) ≡ be 16 (8
 bits n =
     let hi : n / 2 ^ 61 ≡ 8 * n / 2 ^ 64 = omega arith in
     let lo : n * 2 ^ 3 ≡ 8 * n = omega arith in
-    ap₂ (λ (p q : ℕ). be 8 p ++ be 8 (q % 2 ^ 64)) hi lo
-    ∙ ap (λ (l : List ℕ). be 8 (8 * n / 2 ^ 64) ++ l) (be_mod 8 0 (8 * n)) ∙ sym (be_append 8 8 (8 * n))
+    grind (arith, be_append 8 8 (8 * n), be_mod 8 0 (8 * n))
 
 -- ---- the padded end
 
@@ -66,13 +66,20 @@ padded_end m n e lm ee ex ey ew =
 bytes_snoc : (ws : List ℕ) (w : ℕ) → bytes (ws ++ (w ∷ [])) ≡ bytes ws ++ be 8 w
 unfolding bytes
 bytes_snoc [] w = append-nil (be 8 w)
-bytes_snoc (x ∷ ws) w = ap (λ (l : List ℕ). be 8 x ++ l) (bytes_snoc ws w) ∙ sym (append_assoc (be 8 x) (bytes ws) (be 8 w))
+bytes_snoc (x ∷ ws) w = grind (arith, bytes_snoc ws w, append_assoc)
+
+-- none yet
+pub bytes_none : bytes [] ≡ []
+unfolding bytes
+bytes_none = refl
 
 -- one word more
 pub digested : (h d : List ℕ) (i : ℕ) {e : List ℕ} → i < length h → 8 * i + 8 ≤ length d → take (8 * i) d ≡ bytes (take i h)
     → e ≡ splice d (8 * i) (be 8 (get_or h i 0)) → take (8 * (i + 1)) e ≡ bytes (take (i + 1) h)
 digested h d i li ld et ee =
     let v : List ℕ = be 8 (get_or h i 0) in
-    let end : 8 * (i + 1) ≡ 8 * i + length v = omega (arith, length_be 8 (get_or h i 0)) in
-    ap₂ take end ee ∙ take_written d (8 * i) v (omega arith) ∙ ap (λ (l : List ℕ). l ++ v) et ∙ sym (bytes_snoc (take i h) (get_or h i 0))
-    ∙ ap bytes (sym (take-suc h i 0 li)) ∙ ap (λ (k : ℕ). bytes (take k h)) (sym (add-one i))
+    grind (arith, take_written d (8 * i) v, length_be 8 (get_or h i 0), bytes_snoc (take i h) (get_or h i 0), take-suc h i 0 li, add-one)
+
+pub digest_is : (h d : List ℕ) (i : ℕ) → i ≡ 6 → length d ≡ 48 → take (8 * i) d ≡ bytes (take i h) → d ≡ digest h
+unfolding digest
+digest_is h d i ei ld e = grind (arith, common_steps)

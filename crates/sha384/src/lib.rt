@@ -9,6 +9,7 @@ use octets::{copy_in, put_u64};
 use sha_block::block;
 
 // 5.3.4: the initial hash value.
+#[tactic(auto, unfolding(crate::specs::Sha384::H0))]
 pub fn start() -> [u64; 8]
     ensures { result ≡ H0 }
 {
@@ -25,6 +26,7 @@ pub fn start() -> [u64; 8]
 }
 
 // The hash value after the whole blocks of m, from the hash value g.
+#[tactic(auto, unfolding(crate::specs::Sha384::hashed, crate::specs::Sha384::next, sha_block::specs::Loop::turns))]
 pub fn blocks(g: [u64; 8], m: &[u8]) -> [u64; 8]
     ensures { result ≡ hashed g m.now }
 {
@@ -58,6 +60,7 @@ fn padded_end(m: &[u8], n: usize, e: usize) -> [u8; 256]
 }
 
 // The hash value of a message that ends in m, from the hash value g of its blocks before m, p bytes in all.
+#[tactic(auto, using(crate::proofs::Whole::hashed_append))]
 pub fn hash_rest(g: [u64; 8], p: usize, m: &[u8]) -> [u64; 8]
     requires { (p % 128 ≡ 0) × (p + length m.now < 2 ^ 64) }
     ensures { result ≡ hashed g (m.now ++ padding (p + length m.now)) }
@@ -70,6 +73,7 @@ pub fn hash_rest(g: [u64; 8], p: usize, m: &[u8]) -> [u64; 8]
 }
 
 // 6.5: the digest.
+#[tactic(auto, using(crate::proofs::Ends::digested, crate::proofs::Ends::bytes_none))]
 pub fn digest_of(h: [u64; 8]) -> [u8; 48]
     ensures { result ≡ digest h }
 {
@@ -81,6 +85,7 @@ pub fn digest_of(h: [u64; 8]) -> [u8; 48]
 }
 
 // SHA-384.
+#[tactic(auto, using(crate::proofs::Whole::whole))]
 pub fn hash(m: &[u8]) -> [u8; 48]
     ensures { result ≡ sha384 m.now }
 {
@@ -88,6 +93,7 @@ pub fn hash(m: &[u8]) -> [u8; 48]
 }
 
 // SHA-384 of a block of 128 bytes with m after it, which HMAC asks for.
+#[tactic(auto, using(crate::proofs::Whole::after))]
 pub fn hash_after(first: &[u8; 128], m: &[u8]) -> [u8; 48]
     ensures { result ≡ sha384 (first.now ++ m.now) }
 {

@@ -3,6 +3,10 @@
 use Rattle.std.proofs.Common.{◌≡◌, ℕ, zero, suc, ◌+◌, ◌-◌, ◌<◌, ◌≤◌, List, sym, refl, ap, ◌∙◌, add-zero, arith}
 use Rattle.sha_block.specs.Loop.{turns}
 
+pub turns_none : (f : List ℕ → ℕ → List ℕ) (t : ℕ) (x : List ℕ) → turns f 0 t x ≡ x
+unfolding turns
+turns_none f t x = refl
+
 -- j turns, and n more
 pub turns_add : (f : List ℕ → ℕ → List ℕ) (j n t : ℕ) (x : List ℕ) → turns f (j + n) t x ≡ turns f n (t + j) (turns f j t x)
 unfolding turns

@@ -95,6 +95,7 @@ static TABLE: [u64; 80] = [
 ];
 
 // Step 1: the word t, from the words t - 2, t - 7, t - 15 and t - 16.
+#[tactic(auto, unfolding(crate::specs::Block::mixed))]
 fn mix(x: u64, y: u64, z: u64, v: u64) -> u64
     ensures { result ≡ mixed x y z v }
 {
@@ -128,6 +129,7 @@ fn extend(v: [u64; 80]) -> [u64; 80]
 }
 
 // Step 3: T1.
+#[tactic(auto, unfolding(crate::specs::Block::T1))]
 fn t1_of(e: u64, f: u64, g: u64, h: u64, k: u64, w: u64) -> u64
     ensures { result ≡ T1 e f g h k w }
 {
@@ -138,6 +140,7 @@ fn t1_of(e: u64, f: u64, g: u64, h: u64, k: u64, w: u64) -> u64
 }
 
 // Step 3: T2.
+#[tactic(auto, unfolding(crate::specs::Block::T2))]
 fn t2_of(a: u64, b: u64, c: u64) -> u64
     ensures { result ≡ T2 a b c }
 {
@@ -145,6 +148,7 @@ fn t2_of(a: u64, b: u64, c: u64) -> u64
 }
 
 // Step 3: one round, with the constant k and the word w.
+#[tactic(auto, unfolding(crate::specs::Block::turned))]
 fn turn(s: [u64; 8], k: u64, w: u64) -> [u64; 8]
     ensures { result ≡ turned s k w }
 {
@@ -155,6 +159,7 @@ fn turn(s: [u64; 8], k: u64, w: u64) -> [u64; 8]
 }
 
 // Step 3: round t.
+#[tactic(auto, unfolding(crate::specs::Block::round, crate::specs::Constants::K))]
 fn one(w: &[u64; 80], s: [u64; 8], t: usize) -> [u64; 8]
     requires { t < 80 }
     ensures { result ≡ round w.now s t }
@@ -163,6 +168,7 @@ fn one(w: &[u64; 80], s: [u64; 8], t: usize) -> [u64; 8]
 }
 
 // Step 3: four rounds, from t on. Four to a turn of the loop save the moves from variable to variable.
+#[tactic(auto, using(crate::proofs::Steps::four_rounds))]
 fn four(w: &[u64; 80], s: [u64; 8], t: usize) -> [u64; 8]
     requires { t + 4 ≤ 80 }
     ensures { result ≡ turns (round w.now) 4 t s }
@@ -174,6 +180,7 @@ fn four(w: &[u64; 80], s: [u64; 8], t: usize) -> [u64; 8]
 }
 
 // Step 3: the eighty rounds.
+#[tactic(auto, using(crate::proofs::Loop::turns_none))]
 fn rounds(w: &[u64; 80], h: [u64; 8]) -> [u64; 8]
     ensures { result ≡ turns (round w.now) 80 0 h }
 {
@@ -186,6 +193,7 @@ fn rounds(w: &[u64; 80], h: [u64; 8]) -> [u64; 8]
 }
 
 // Step 4.
+#[tactic(auto, unfolding(crate::specs::Block::summed))]
 fn add_to(s: [u64; 8], h: [u64; 8]) -> [u64; 8]
     ensures { result ≡ summed s h }
 {

@@ -5,6 +5,7 @@ ghost use Rattle.std.specs.Prelude.{◌≡◌, ◌<◌};
 ghost use Rattle.sha_word.specs.Word.{ROTR, Ch, Maj, Σ0, Σ1, σ0, σ1};
 
 // 3.2, 4: the bits of x moved right by n, those that fall off coming back on the left.
+#[tactic(auto, unfolding(crate::specs::Word::ROTR))]
 pub fn rotr(x: u64, n: u64) -> u64
     requires { (0 < n) × (n < 64) }
     ensures { result ≡ ROTR n x }
@@ -13,6 +14,7 @@ pub fn rotr(x: u64, n: u64) -> u64
 }
 
 // (4.8): each bit of x chooses between that of y and that of z.
+#[tactic(auto, unfolding(crate::specs::Word::Ch))]
 pub fn ch(x: u64, y: u64, z: u64) -> u64
     ensures { result ≡ Ch x y z }
 {
@@ -20,11 +22,15 @@ pub fn ch(x: u64, y: u64, z: u64) -> u64
 }
 
 // (4.9): the bit that two or three of x, y and z have.
+#[tactic(auto, unfolding(crate::specs::Word::Maj))]
 pub fn maj(x: u64, y: u64, z: u64) -> u64
     ensures { result ≡ Maj x y z }
 {
     (x & y) ^ (x & z) ^ (y & z)
 }
+
+// (4.10) to (4.13) are four functions by their numbers, as in the standard. One over the numbers would not be enough: the last term turns
+// in two of them and shifts in the others.
 
 // (4.10)
 pub fn big_sigma0(x: u64) -> u64

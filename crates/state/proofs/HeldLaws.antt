@@ -1,6 +1,6 @@
 -- Laws of held rows: what is read of a blob, a row written and read back, a row read and written again.
 -- Assumes nothing.
-use Rattle.std.proofs.Common.{◌≡◌, ℕ, suc, ◌+◌, ◌-◌, ◌^◌, ◌<◌, ◌≤◌, Bool, true, false, cond, ◌&&◌, eqb, leb, List, [], ◌∷◌, ◌++◌, length, get_or, take, drop, sym, refl, ap, ◌∙◌, ap₂, arith, length-append, length-drop, take-append-drop, take_all, drop_at, eq-eqb, ne_eqb, eqb-true, le-leb, leb-true, leb-false, true≢false}
+use Rattle.std.proofs.Common.{◌≡◌, ℕ, suc, ◌+◌, ◌-◌, ◌^◌, ◌<◌, ◌≤◌, Bool, true, false, cond, ◌&&◌, eqb, leb, List, [], ◌∷◌, ◌++◌, length, get_or, take, drop, sym, refl, ap, ◌∙◌, subst, ap₂, arith, length-append, length-drop, take-append-drop, take_all, drop_at, eq-eqb, ne_eqb, eqb-true, le-leb, leb-true, leb-false, true≢false}
 use Rattle.std.specs.Prelude.{Some, None}
 use Rattle.octets.specs.Bytes.{Bytes, part, num, be}
 use Rattle.octets.proofs.Parts.{part_left, part_whole, part_add, length_part}
@@ -80,71 +80,83 @@ module _ {r : Reader} {b : List ℕ} {k : ℕ} (p : StandsAt r b k) where
   pub stands : {A : Type 0} {x : A} (f : List ℕ → ℕ → A) → x ≡ f r.blob.now r.at → x ≡ f b k
   stands f e = e ∙ (λ i. f (p.blob i) (p.at i))
 
--- by the kind byte
-module _ (b : List ℕ) where
-  pub kind_short : None ≡ byte_at b 0 → None ≡ held_read (held_decode b)
-  kind_short e = ap held_read (sym (nothing b (omega (arith, take_none 1 b 0 num (sym e)))))
+-- by the kind byte, at the start of the blob
+module _ (b : List ℕ) {r : Reader} (p : StandsAt r b 0) where
+  pub kind_short : None ≡ byte_at r.blob.now r.at → None ≡ held_read (held_decode b)
+  kind_short e = ap held_read (sym (nothing b (omega (arith, take_none 1 b 0 num (sym (stands p byte_at e))))))
 
-  module _ {k : ℕ} (e : Some k ≡ byte_at b 0) where
+  module _ {k : ℕ} (e : Some k ≡ byte_at r.blob.now r.at) where
     first_byte : get_or b 0 0 ≡ k
-    first_byte = let p = take_some 1 b 0 num k (sym e) in sym (num_one b 0 (omega (arith, p.0))) ∙ p.1
+    first_byte = let q = take_some 1 b 0 num k (sym (stands p byte_at e)) in sym (num_one b 0 (omega (arith, q.0))) ∙ q.1
 
-    pub kind_carried : k ≡ 0 → held_read (carried_in b) ≡ held_read (held_decode b)
-    kind_carried z = ap held_read (sym (kind_0 b (first_byte ∙ z)))
+    pub kind_carried : {s : Reader} → k ≡ 0 → Steps r (Some k) 1 s → held_read (carried_in s.blob.now) ≡ held_read (held_decode b)
+    kind_carried z q = ap (λ (l : List ℕ). held_read (carried_in l)) (stepped p q).blob ∙ ap held_read (sym (kind_0 b (first_byte ∙ z)))
 
-    pub kind_tombstone : k ≡ 1 → held_read (tombstone_in b) ≡ held_read (held_decode b)
-    kind_tombstone z = ap held_read (sym (kind_1 b (first_byte ∙ z)))
+    pub kind_tombstone : {s : Reader} → k ≡ 1 → Steps r (Some k) 1 s → held_read (tombstone_in s.blob.now) ≡ held_read (held_decode b)
+    kind_tombstone z q = ap (λ (l : List ℕ). held_read (tombstone_in l)) (stepped p q).blob ∙ ap held_read (sym (kind_1 b (first_byte ∙ z)))
 
     pub kind_neither : (k ≡ 0 → ⊥) → (k ≡ 1 → ⊥) → None ≡ held_read (held_decode b)
     kind_neither f g = ap held_read (sym (kind_other b (λ z. f (sym first_byte ∙ z)) (λ z. g (sym first_byte ∙ z))))
 
--- a carried row
-module _ (b : List ℕ) where
-  pub depositor_short : None ≡ u64_at b 1 → None ≡ held_read (carried_in b)
-  depositor_short e = ap held_read (sym (carried_none b (λ h v. omega (arith, take_none 8 b 1 num (sym e)))))
+-- a carried row, whose kind was read
+module _ (b : List ℕ) {r : Reader} where
+  pub depositor_short : StandsAt r b 1 → None ≡ u64_at r.blob.now r.at → None ≡ held_read (carried_in b)
+  depositor_short p e = ap held_read (sym (carried_none b (λ h v. omega (arith, take_none 8 b 1 num (sym (stands p u64_at e))))))
 
-  pub envelope_short : None ≡ envelope_decode b 9 → None ≡ held_read (carried_in b)
-  envelope_short e = ap held_read (sym (carried_none b (λ h v. omega (arith, not_whole b 9 refl (sym e)))))
+  pub envelope_short : StandsAt r b 9 → None ≡ envelope_decode r.blob.now r.at → None ≡ held_read (carried_in b)
+  envelope_short p e = ap held_read (sym (carried_none b (λ h v. omega (arith, not_whole b 9 refl (sym (stands p envelope_decode e))))))
 
-  module _ {h : Header} (e : Some h ≡ envelope_decode b 9) where
-    pub envelope_whole : (46 ≤ length b) × (h ≡ header_of (part b 9 37))
-    envelope_whole = whole_header b 9 h refl (sym e)
+  module _ {h : Header} (p : StandsAt r b 9) (e : Some h ≡ envelope_decode r.blob.now r.at) where
+    whole : (46 ≤ length b) × (h ≡ header_of (part b 9 37))
+    whole = whole_header b 9 h refl (sym (stands p envelope_decode e))
 
-    module _ {t : Bool} (et : t ≡ envelope_valid (length b - 46) h.copies h.expiry_min 0) where
+    pub envelope_fits : 46 ≤ length r.blob.now
+    envelope_fits = subst (λ (l : List ℕ). 46 ≤ length l) (sym p.blob) whole.0
+
+    module _ {t : Bool} (et : t ≡ envelope_valid (length r.blob.now - 46) h.copies h.expiry_min 0) where
       passed : passes b ≡ t
       unfolding carried_of
-      passed = sym (et ∙ ap (λ (x : Header). envelope_valid (length b - 46) x.copies x.expiry_min 0) envelope_whole.1)
+      passed =
+          sym (et ∙ ap (λ (l : List ℕ). envelope_valid (length l - 46) h.copies h.expiry_min 0) p.blob
+          ∙ ap (λ (x : Header). envelope_valid (length b - 46) x.copies x.expiry_min 0) whole.1)
 
       pub envelope_invalid : t ≡ false → None ≡ held_read (carried_in b)
       envelope_invalid f = ap held_read (sym (carried_none b (λ k v. absurd (true≢false (sym v ∙ passed ∙ f)))))
 
-      pub carried_read : {d : ℕ} → t ≡ true → Some d ≡ u64_at b 1 → Some (row.Carried (record { depositor = record { 0 = d }; header = h })) ≡ held_read (carried_in b)
+      pub carried_read : {q : Reader} {d : ℕ} → t ≡ true → StandsAt q b 1 → Some d ≡ u64_at q.blob.now q.at
+          → Some (row.Carried (record { depositor = record { 0 = d }; header = h })) ≡ held_read (carried_in b)
       unfolding carried_of
-      carried_read {d} f ed =
+      carried_read {d = d} f z ed =
+          let number = take_some 8 b 1 num d (sym (stands z u64_at ed)) in
           let q : record { depositor = record { 0 = d }; header = h } ≡ carried_of b =
-          λ i. record { depositor = record { 0 = sym (take_some 8 b 1 num d (sym ed)).1 i }; header = envelope_whole.1 i } in
-          ap (λ (x : Carried). Some (row.Carried x)) q ∙ ap held_read (sym (carried_some b envelope_whole.0 (passed ∙ f)))
+          λ i. record { depositor = record { 0 = sym number.1 i }; header = whole.1 i } in
+          ap (λ (x : Carried). Some (row.Carried x)) q ∙ ap held_read (sym (carried_some b whole.0 (passed ∙ f)))
 
--- a tombstone
-module _ (b : List ℕ) where
-  pub tombstone_short : {A : Type 0} (n at : ℕ) (got : List ℕ → A) → at + n ≤ 37 → None ≡ take_at n b at got → None ≡ held_read (tombstone_in b)
-  tombstone_short n at got h e = ap held_read (sym (tombstone_none b (λ l. omega (arith, take_none n b at got (sym e)))))
+-- a tombstone, whose kind was read
+module _ (b : List ℕ) {r : Reader} where
+  pub tombstone_short : {A : Type 0} {k : ℕ} (n : ℕ) (got : List ℕ → A) → StandsAt r b k → None ≡ take_at n r.blob.now r.at got → k + n ≤ 37
+      → None ≡ held_read (tombstone_in b)
+  tombstone_short {k = k} n got p e h =
+      ap held_read (sym (tombstone_none b (λ l. omega (arith, take_none n b k got (sym (stands p (λ (s : List ℕ) (at : ℕ). take_at n s at got) e))))))
 
-  pub tombstone_long : {t : Bool} → t ≡ leb (length b) 37 → t ≡ false → None ≡ held_read (tombstone_in b)
-  tombstone_long e f = ap held_read (sym (tombstone_none b (λ l. omega (arith, leb-false (length b) 37 (sym e ∙ f)))))
+  module _ {t : Bool} (p : StandsAt r b 37) (e : t ≡ leb (length r.blob.now) r.at) where
+    ends : t ≡ leb (length b) 37
+    ends = stands p (λ (l : List ℕ) (k : ℕ). leb (length l) k) e
 
-  pub tombstone_read : {t : Bool} {x y : List ℕ} {v : ℕ} → t ≡ leb (length b) 37 → t ≡ true → Some x ≡ array_at 16 b 1 → Some y ≡ array_at 16 b 17 → Some v ≡ u32_at b 33
-      → Some (row.Tombstone (record { tag = x; s = y; expiry_min = v })) ≡ held_read (tombstone_in b)
-  unfolding tombstone_of
-  tombstone_read {x = x} {y = y} {v = v} e f ex ey ev =
-      let p = take_some 4 b 33 num v (sym ev) in
-      let q : record { tag = x; s = y; expiry_min = v } ≡ tombstone_of b =
-      λ i. record {
-        tag = sym (take_some 16 b 1 (λ (z : List ℕ). z) x (sym ex)).1 i;
-        s = sym (take_some 16 b 17 (λ (z : List ℕ). z) y (sym ey)).1 i;
-        expiry_min = sym p.1 i;
-      } in
-      ap (λ (z : Tombstone). Some (row.Tombstone z)) q ∙ ap held_read (sym (tombstone_some b (omega (arith, p.0, leb-true (length b) 37 (sym e ∙ f)))))
+    pub tombstone_long : t ≡ false → None ≡ held_read (tombstone_in b)
+    tombstone_long f = ap held_read (sym (tombstone_none b (λ l. omega (arith, leb-false (length b) 37 (sym ends ∙ f)))))
+
+    pub tombstone_read : {q₁ q₂ q₃ : Reader} {x y : List ℕ} {v : ℕ} → t ≡ true → StandsAt q₁ b 1 → Some x ≡ array_at 16 q₁.blob.now q₁.at
+        → StandsAt q₂ b 17 → Some y ≡ array_at 16 q₂.blob.now q₂.at → StandsAt q₃ b 33 → Some v ≡ u32_at q₃.blob.now q₃.at
+        → Some (row.Tombstone (record { tag = x; s = y; expiry_min = v })) ≡ held_read (tombstone_in b)
+    unfolding tombstone_of
+    tombstone_read {x = x} {y = y} {v = v} f z₁ ex z₂ ey z₃ ev =
+        let tag = take_some 16 b 1 (λ (z : List ℕ). z) x (sym (stands z₁ (array_at 16) ex)) in
+        let secret = take_some 16 b 17 (λ (z : List ℕ). z) y (sym (stands z₂ (array_at 16) ey)) in
+        let expiry = take_some 4 b 33 num v (sym (stands z₃ u32_at ev)) in
+        let q : record { tag = x; s = y; expiry_min = v } ≡ tombstone_of b =
+        λ i. record { tag = sym tag.1 i; s = sym secret.1 i; expiry_min = sym expiry.1 i } in
+        ap (λ (z : Tombstone). Some (row.Tombstone z)) q ∙ ap held_read (sym (tombstone_some b (omega (arith, expiry.0, leb-true (length b) 37 (sym ends ∙ f)))))
 
 -- ---- written and read back
 
@@ -213,7 +225,7 @@ module _ (r : Carried) (p : ProperCarried r) where
         → held_decode (held_row (carried r ct)) ≡ None
     carried_refused e =
         decode_row ∙ carried_none (held_row (carried r ct)) (λ h v. let z : true ≡ false = sym v ∙ passes_row ∙ e in
-        let w : ◌≡◌ {A = ℕ} 0 1 = cc in omega arith)
+        cc)
 
 module _ (t : Tombstone) (p : ProperTombstone t) where
   abbrev to_tag : List ℕ
@@ -291,9 +303,9 @@ module _ (b : List ℕ) (by : Bytes b) where
           let f = both (leb 46 (length b)) (passes b) ev in
           let q : x ≡ carried (carried_of b) (drop 46 b) = cc in
           ap held_row q ∙ again_carried (eqb-true (get_or b 0 0) 0 ek) (leb-true 46 (length b) f.0) f.1
-      go true ek l el false ev n en e = let z : ◌≡◌ {A = ℕ} 0 1 = cc in absurd (omega arith)
+      go true ek l el false ev n en e = cc
       go false ek true el v ev true en e =
           let q : x ≡ tombstone (tombstone_of b) = cc in
           ap held_row q ∙ again_tombstone (eqb-true (get_or b 0 0) 1 el) (eqb-true (length b) 37 en)
-      go false ek true el v ev false en e = let z : ◌≡◌ {A = ℕ} 0 1 = cc in absurd (omega arith)
-      go false ek false el v ev n en e = let z : ◌≡◌ {A = ℕ} 0 1 = cc in absurd (omega arith)
+      go false ek true el v ev false en e = cc
+      go false ek false el v ev n en e = cc

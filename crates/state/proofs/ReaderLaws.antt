@@ -1,13 +1,14 @@
 -- Laws of the reader's steps: bytes that are there, and bytes that are not.
 -- Assumes nothing.
-use Rattle.std.proofs.Common.{◌≡◌, ℕ, suc, ◌+◌, ◌-◌, ◌<◌, ◌≤◌, Bool, true, false, cond, leb, List, length, get_or, sym, refl, ap, ◌∙◌, le-leb, leb-false, leb-true}
+use Rattle.std.proofs.Common.{◌≡◌, ℕ, suc, ◌+◌, ◌-◌, ◌<◌, ◌≤◌, Bool, true, false, cond, leb, List, length, get_or, sym, refl, ap, ◌∙◌, arith, le-leb, leb-false, leb-true}
 use Rattle.std.specs.Prelude.{Some, None}
 use Rattle.std.specs.Int.{byte_worth, sum_through}
 use Rattle.std.proofs.lemmas.Option.{cond_some}
 use borrow.Author.Tests.{lt-leb}
 use Rattle.octets.specs.Bytes.{part, num}
-use Rattle.octets.proofs.Numbers.{num_read}
-use Rattle.state.specs.Reader.{take_at, array_at}
+use Rattle.octets.proofs.Parts.{part_one}
+use Rattle.octets.proofs.Numbers.{num_one, num_read}
+use Rattle.state.specs.Reader.{take_at, byte_at, array_at}
 
 module _ {A : Type 0} (n : ℕ) (s : List ℕ) (at : ℕ) (got : List ℕ → A) where
   pub take_whole : at + n ≤ length s → Some (got (part s at n)) ≡ take_at n s at got
@@ -29,6 +30,16 @@ module _ {A : Type 0} (n : ℕ) (s : List ℕ) (at : ℕ) (got : List ℕ → A)
       go : (b : Bool) → leb (at + n) (length s) ≡ b → cond b (Some (got (part s at n))) None ≡ None → length s < at + n
       go true p q = cc
       go false p q = leb-false (at + n) (length s) p
+
+pub array_inside : (n : ℕ) (s : List ℕ) (at : ℕ) {bs : List ℕ} → Some bs ≡ array_at n s at → at + n ≤ length s
+array_inside n s at {bs} e = (take_some n s at (λ b. b) bs (sym e)).0
+
+-- a byte, by what its array gave
+pub byte_some : (s : List ℕ) (at : ℕ) {bs : List ℕ} → Some bs ≡ array_at 1 s at → Some (get_or bs 0 0) ≡ byte_at s at
+byte_some s at {bs} e =
+    let p = take_some 1 s at (λ b. b) bs (sym e) in
+    let h : at < length s = omega (arith, p.0) in
+    ap Some (ap (λ (b : List ℕ). get_or b 0 0) (sym p.1 ∙ part_one s at h) ∙ sym (num_one s at h)) ∙ take_whole 1 s at num p.0
 
 -- a number of k + 1 bytes, by what its array gave
 module _ (k : ℕ) (s : List ℕ) (at : ℕ) where

@@ -32,18 +32,18 @@ head_made r h x y eh lh ex ey =
     y' ∙ splice_all z (k ++ d ++ h) (omega (arith, length-append (k ++ d) h)) ∙ ap (λ (l : List ℕ). k ++ d ++ l) eh
 
 -- a tombstone, written run by run over ones
-pub tombstone_made : (t : Tombstone) → ProperTombstone t → (x y w : List ℕ) → x ≡ splice (replicate 37 1) 1 t.tag → y ≡ splice x 17 t.s
+pub tombstone_made : (t : Tombstone) (x y w : List ℕ) → length t.tag ≡ 16 → length t.s ≡ 16 → x ≡ splice (replicate 37 1) 1 t.tag → y ≡ splice x 17 t.s
     → w ≡ splice y 33 (be 4 t.expiry_min) → w ≡ held_row (tombstone t)
 unfolding held_row splice
-tombstone_made t p x y w ex ey ew =
+tombstone_made t x y w lt ls ex ey ew =
     let z : List ℕ = replicate 37 1 in
     let k : List ℕ = 1 ∷ [] in
     let e : List ℕ = be 4 t.expiry_min in
     let le : length e ≡ 4 = length_be 4 t.expiry_min in
-    let l1 : length (k ++ t.tag) ≡ 17 = ap suc p.tag in
-    let l2 : length (k ++ t.tag ++ t.s) ≡ 33 = omega (arith, length-append (k ++ t.tag) t.s, p.s) in
-    let x' : x ≡ splice z 0 (k ++ t.tag) = splice_then z z x 0 1 k t.tag refl ex refl (omega (arith, p.tag)) in
-    let y' : y ≡ splice z 0 (k ++ t.tag ++ t.s) = splice_then z x y 0 17 (k ++ t.tag) t.s x' ey (omega arith) (omega (arith, p.s)) in
+    let l1 : length (k ++ t.tag) ≡ 17 = ap suc lt in
+    let l2 : length (k ++ t.tag ++ t.s) ≡ 33 = omega (arith, length-append (k ++ t.tag) t.s, ls) in
+    let x' : x ≡ splice z 0 (k ++ t.tag) = splice_then z z x 0 1 k t.tag refl ex refl (omega (arith, lt)) in
+    let y' : y ≡ splice z 0 (k ++ t.tag ++ t.s) = splice_then z x y 0 17 (k ++ t.tag) t.s x' ey (omega arith) (omega (arith, ls)) in
     let w' : w ≡ splice z 0 (k ++ t.tag ++ t.s ++ e) = splice_then z y w 0 33 (k ++ t.tag ++ t.s) e y' ew (omega arith) (omega arith) in
     w' ∙ splice_all z (k ++ t.tag ++ t.s ++ e) (omega (arith, length-append (k ++ t.tag ++ t.s) e))
 

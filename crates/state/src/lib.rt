@@ -83,6 +83,7 @@ pub const CARRIED_HEAD: usize = 46;
 pub const BLOB: usize = 2_110;
 
 // The bytes of a carried row before its ciphertext.
+#[tactic(auto, using(crate::proofs::RowLaws::head_made))]
 fn carried_head(row: Carried) -> [u8; 46]
     ensures { result ≡ carried_head row }
 {
@@ -92,6 +93,7 @@ fn carried_head(row: Carried) -> [u8; 46]
     b
 }
 
+#[tactic(auto, using(crate::proofs::RowLaws::tombstone_made))]
 fn tombstone_bytes(t: Tombstone) -> [u8; 37]
     ensures { result ≡ held_row (tombstone t) }
 {
@@ -152,12 +154,16 @@ pub fn byte_at(s: &[u8], at: usize) -> Option<u8>
     }
 }
 
+// A function for each type of number, here and in the reader, as in state.rs: `from_be_bytes` is a method of each, and no trait of
+// std has it. A sum over the bytes would be longer.
+#[tactic(auto, using(crate::proofs::ReaderLaws::number_none))]
 pub fn u32_at(s: &[u8], at: usize) -> Option<u32>
     ensures { result ≡ u32_at s.now at }
 {
     Some(u32::from_be_bytes(array_at(s, at)?))
 }
 
+#[tactic(auto, using(crate::proofs::ReaderLaws::number_none))]
 pub fn u64_at(s: &[u8], at: usize) -> Option<u64>
     ensures { result ≡ u64_at s.now at }
 {
@@ -174,7 +180,7 @@ pub fn end_at(s: &[u8], at: usize) -> bool
 // ---- the reader
 
 // state.rs's `Reader`: it refers to a blob and steps along it. A step goes past what it gives; where the bytes run out it gives
-// nothing and stays.
+// nothing and stays. `array` alone takes the step.
 #[derive(Drop)]
 struct Reader<'a> {
     blob: &'a [u8],
@@ -188,15 +194,15 @@ impl<'a> Reader<'a> {
         Reader { blob, at: 0 }
     }
 
+    #[tactic(auto, using(crate::proofs::ReaderLaws::number_none))]
     fn byte(&mut self) -> Option<u8>
         ensures gives { result ≡ byte_at self.old.blob.now self.old.at }
         ensures steps { Steps self.old result 1 self.new }
     {
-        let byte = byte_at(self.blob, self.at)?;
-        self.at += 1;
-        Some(byte)
+        Some(self.array::<1>()?[0])
     }
 
+    #[tactic(auto, using(crate::proofs::ReaderLaws::array_inside))]
     fn array<const N: usize>(&mut self) -> Option<[u8; N]>
         ensures gives { result ≡ array_at N self.old.blob.now self.old.at }
         ensures steps { Steps self.old result N self.new }
@@ -206,22 +212,20 @@ impl<'a> Reader<'a> {
         Some(bytes)
     }
 
+    #[tactic(auto, using(crate::proofs::ReaderLaws::number_none))]
     fn u32(&mut self) -> Option<u32>
         ensures gives { result ≡ u32_at self.old.blob.now self.old.at }
         ensures steps { Steps self.old result 4 self.new }
     {
-        let number = u32_at(self.blob, self.at)?;
-        self.at += 4;
-        Some(number)
+        Some(u32::from_be_bytes(self.array()?))
     }
 
+    #[tactic(auto, using(crate::proofs::ReaderLaws::number_none))]
     fn u64(&mut self) -> Option<u64>
         ensures gives { result ≡ u64_at self.old.blob.now self.old.at }
         ensures steps { Steps self.old result 8 self.new }
     {
-        let number = u64_at(self.blob, self.at)?;
-        self.at += 8;
-        Some(number)
+        Some(u64::from_be_bytes(self.array()?))
     }
 
     // Is nothing left?
@@ -242,6 +246,7 @@ pub enum Held {
 }
 
 // What follows the kind of a carried row: the depositor, and an envelope to the end.
+#[tactic(auto, using(crate::proofs::HeldLaws::standing, crate::proofs::HeldLaws::stepped, crate::proofs::HeldLaws::depositor_short, crate::proofs::HeldLaws::envelope_short, crate::proofs::HeldLaws::envelope_fits, crate::proofs::HeldLaws::envelope_invalid, crate::proofs::HeldLaws::carried_read))]
 fn decode_carried(mut r: Reader) -> Option<Held>
     requires { r.at ≡ 1 }
     ensures { result ≡ held_read (carried_in r.entry.blob.now) }
@@ -256,6 +261,7 @@ fn decode_carried(mut r: Reader) -> Option<Held>
 }
 
 // What follows the kind of a tombstone.
+#[tactic(auto, using(crate::proofs::HeldLaws::standing, crate::proofs::HeldLaws::stepped, crate::proofs::HeldLaws::tombstone_short, crate::proofs::HeldLaws::tombstone_long, crate::proofs::HeldLaws::tombstone_read))]
 fn decode_tombstone(mut r: Reader) -> Option<Held>
     requires { r.at ≡ 1 }
     ensures { result ≡ held_read (tombstone_in r.entry.blob.now) }
@@ -270,6 +276,7 @@ fn decode_tombstone(mut r: Reader) -> Option<Held>
 }
 
 // `Held::decode`, through a reader. Its own parameter is a plain slice, so that no caller has to hold a reader.
+#[tactic(auto, using(crate::proofs::HeldLaws::kind_short, crate::proofs::HeldLaws::kind_carried, crate::proofs::HeldLaws::kind_tombstone, crate::proofs::HeldLaws::kind_neither))]
 pub fn decode(blob: &[u8]) -> Option<Held>
     ensures { result ≡ held_read (held_decode blob.now) }
 {

@@ -264,17 +264,17 @@ fn tombstone_fronts(rt: &impl Print) -> io::Result<()> {
     println!(rt;)
 }
 
-// A tombstone's 37 bytes, at another kind.
-fn show_kind(rt: &impl Print, kind: u8) -> io::Result<()> {
+// A tombstone's 37 bytes with any byte in the place of its kind: two of the four that are shown are no kind.
+fn show_kind(rt: &impl Print, byte: u8) -> io::Result<()> {
     let mut blob = tombstone_blob();
-    blob[0] = kind;
-    print!(rt; "kind {kind}")?;
+    blob[0] = byte;
+    print!(rt; "kind {byte}")?;
     show_read(rt, &blob[0..37])
 }
 
 fn kinds(rt: &impl Print) -> io::Result<()> {
-    for kind in [1, 2, 255, 0] {
-        show_kind(rt, kind)?;
+    for byte in [1, 2, 255, 0] {
+        show_kind(rt, byte)?;
     }
     Ok(())
 }

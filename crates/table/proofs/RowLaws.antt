@@ -3,7 +3,7 @@
 use mathlib.Core.Path.{◌≡◌, refl, sym, ap, ap₂, ◌∙◌, subst}
 use mathlib.Core.List.{List, [], ◌∷◌, ◌++◌, append_assoc, append-nil}
 use Prim.Native.Nat.{ℕ, zero, suc, ◌+◌, ◌-◌, ◌*◌, ◌/◌, ◌≤◌, ◌<◌, min}
-use native.Mathlib.Nat.{add-zero, zero-add, zero-mul, suc-add, suc-mul, add-mul, one-mul, mul_comm, mul-sub, mul-le-mul_right, div-mul-le_self, mul-add-div_right, mul-div_cancel, le-div_iff_mul-le, min-eq_left, min-eq_right, min-le_left, min-le_right}
+use native.Mathlib.Nat.{add-zero, zero-add, zero-mul, suc-add, suc-mul, add-mul, one-mul, mul_comm, mul-sub, mul-le-mul_right, div-mul-le_self, mul-add-div_right, mul-div_cancel, le-div_iff_mul-le, min-eq_left, min-le_left, min-le_right}
 use native.Mathlib.Omega.{arith}
 use lib.ListN.{length, take, drop, get_or, length-append, length-drop, drop_of_length-le}
 use lib.Seq.{take-add, drop-drop, take_at, drop_at, take-append-le, drop-append-le, get_or-drop, length-take-le, drop-append-add}
@@ -52,13 +52,9 @@ held_all len w count hw h = min-eq_left ((le-div_iff_mul-le hw).1 h)
 pub held_held : (len w count n : ℕ) → 0 < w → n ≡ held len w count → n ≡ held len w n
 held_held len w count n z e = sym (held_all len w n z (omega (arith, ap (λ (k : ℕ). k * w) e, held_inside len w count)))
 
-pub fits_low : (len w count : ℕ) → count ≤ len / w → Fits len w count count
+pub fits : (len w count : ℕ) → Fits len w count (min count (len / w))
 unfolding held
-fits_low len w count h = record { is = sym (min-eq_left h); inside = omega (arith, mul_le {i = count} {n = len / w} w h, div-mul-le_self len w) }
-
-pub fits_high : (len w count : ℕ) → len / w ≤ count → Fits len w count (len / w)
-unfolding held
-fits_high len w count h = record { is = sym (min-eq_right h); inside = div-mul-le_self len w }
+fits len w count = record { is = refl; inside = omega (arith, mul_le {i = min count (len / w)} {n = len / w} w (min-le_right count (len / w)), div-mul-le_self len w) }
 
 pub fits_at : {len w k m r : ℕ} → k ≡ m → Fits len w k r → Fits len w m r
 fits_at {len} {w} e f = record { is = f.is ∙ ap (held len w) e; inside = f.inside }

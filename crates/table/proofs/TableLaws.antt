@@ -54,8 +54,12 @@ module _ {A : Type 0} (c : Codec A) (count n : ℕ) (a : List ℕ) (held-n : n �
   table_find =
       e ∙ position_map c.decode p q same 0 (rows c.width n a) ∙ ap (λ (k : ℕ). position q (map c.decode (rows c.width k a))) held-n
 
-  pub table_any : is_at f ≡ any q (table_of c count a)
-  table_any = ap is_at table_find ∙ position_any q 0 (table_of c count a)
+-- a test of the rows of bytes is the same test of the typed rows
+pub table_any : {A : Type 0} (c : Codec A) (count n : ℕ) (a : List ℕ) → n ≡ held (length a) c.width count → (p : List ℕ → Bool) (q : A → Bool)
+    → ((b : List ℕ) → p b ≡ q (c.decode b)) → (b : Bool) → b ≡ any p (rows c.width n a) → b ≡ any q (table_of c count a)
+table_any c count n a h p q same b e =
+    let R : List (List ℕ) = rows c.width n a in
+    e ∙ sym (position_any p 0 R) ∙ ap is_at (table_find c count n a h p q same (position p R) refl) ∙ position_any q 0 (table_of c count a)
 
 pub table_none : {A : Type 0} (c : Codec A) (a : List ℕ) → table_of c 0 a ≡ []
 unfolding table_of held rows

@@ -1,4 +1,5 @@
 pub mod Lists
 pub mod Rows
 pub mod Codec
+pub mod Tables
 pub mod Tests

@@ -2,32 +2,21 @@
 // A table's rows stand at the front of its area, in the order in which they are read; n says how many there are.
 #![tactic(auto)]
 
-ghost use Rattle.std.specs.Prelude.{◌≡◌, ℕ, Bool, List, [], ◌∷◌, ◌++◌, ◌+◌, ◌-◌, ◌*◌, ◌≤◌, ◌<◌, min, length};
+ghost use Rattle.std.specs.Prelude.{◌≡◌, ℕ, Bool, List, [], ◌∷◌, ◌++◌, ◌+◌, ◌-◌, ◌*◌, ◌≤◌, ◌<◌, length};
 ghost use Rattle.octets.specs.Bytes.{splice, part};
 ghost use Rattle.table.specs.Lists.{insert_at, remove_at, replace_at, position, any};
-ghost use Rattle.table.specs.Rows.{rows, has_key, Fits, RowsNow};
+ghost use Rattle.table.specs.Rows.{rows, held, has_key, Fits, RowsNow};
 ghost use Rattle.table.specs.Tests.{TakesRows, TestsRows};
 
 pub mod typed;
 
 // How many rows an area of len bytes has by a count that may be anything.
+#[tactic(auto, using(crate::proofs::RowLaws::fits))]
 pub fn fit(len: usize, width: usize, count: usize) -> usize
     requires { 0 < width }
     ensures { Fits len width count result }
 {
-    let room = len / width;
-    if count < room { count } else { room }
-}
-
-// The same, and no more than cap.
-pub fn fit_to(len: usize, width: usize, count: usize, cap: usize) -> usize
-    requires { 0 < width }
-    ensures { Fits len width (min count cap) result }
-{
-    if count < cap {
-        return fit(len, width, count);
-    }
-    fit(len, width, cap)
+    count.min(len / width)
 }
 
 // The first of the n rows of which the test holds.
@@ -80,6 +69,55 @@ pub fn scan(area: &[u8], width: usize, n: usize, offset: usize, key: &[u8]) -> O
         }
     }
     found
+}
+
+// A table that is read: rows of W bytes at the front of an area, by a count that may be anything.
+#[derive(Clone, Copy)]
+pub struct Table<'a, const W: usize> {
+    pub area: &'a [u8],
+    pub count: usize,
+    pub ghost wide: { 0 < W },
+}
+
+impl<'a, const W: usize> Table<'a, W> {
+    // How many rows it has: those that fit.
+    pub fn len(self) -> usize
+        ensures { Fits (length self.entry.area.now) W self.entry.count result }
+    {
+        fit(self.area.len(), W, self.count)
+    }
+
+    // The first row of which the test holds.
+    pub fn position<F: Fn(&[u8]) -> bool>(self, test: F) -> Option<usize>
+        requires { TakesRows F.Fn test W }
+        ensures { (p : List ℕ → Bool) → TestsRows F.Fn test W p → result ≡ position p (rows W (held (length self.entry.area.now) W self.entry.count) self.entry.area.now) }
+    {
+        position(self.area, W, self.len(), test)
+    }
+
+    // Does the test hold of a row?
+    pub fn any<F: Fn(&[u8]) -> bool>(self, test: F) -> bool
+        requires { TakesRows F.Fn test W }
+        ensures { (p : List ℕ → Bool) → TestsRows F.Fn test W p → result ≡ any p (rows W (held (length self.entry.area.now) W self.entry.count) self.entry.area.now) }
+    {
+        any(self.area, W, self.len(), test)
+    }
+
+    // The first row that has the key at the offset.
+    pub fn find(self, offset: usize, key: &[u8]) -> Option<usize>
+        requires { offset + length key.now ≤ W }
+        ensures { result ≡ position (has_key offset key.now) (rows W (held (length self.entry.area.now) W self.entry.count) self.entry.area.now) }
+    {
+        find(self.area, W, self.len(), offset, key)
+    }
+
+    // Has a row the key at the offset?
+    pub fn has(self, offset: usize, key: &[u8]) -> bool
+        requires { offset + length key.now ≤ W }
+        ensures { result ≡ any (has_key offset key.now) (rows W (held (length self.entry.area.now) W self.entry.count) self.entry.area.now) }
+    {
+        self.find(offset, key).is_some()
+    }
 }
 
 // Puts a row behind the last.

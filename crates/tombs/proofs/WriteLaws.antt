@@ -1,23 +1,21 @@
--- Laws of the rows that are written: a carried row turned tombstone, an own row ended, a bad tag added.
+-- Laws of the rows that are written: a carried row turned tombstone, an own row ended.
 -- Assumes nothing.
 use Rattle.std.proofs.Common.{◌≡◌, ℕ, ◌+◌, ◌*◌, ◌<◌, ◌≤◌, Bool, true, false, cond, List, [], ◌∷◌, ◌++◌, map, length, get_or, sym, refl, ap, ◌∙◌, subst, arith, Ok}
 use lib.ListN.{length-map}
 use Rattle.octets.specs.Bytes.{part, splice}
 use Rattle.octets.proofs.Parts.{splice_then}
 use Rattle.table.specs.Lists.{position, unwrap_or, insert_at, remove_at}
-use Rattle.table.specs.Rows.{held, rows, join, written, RowsNow}
+use Rattle.table.specs.Rows.{held, join, written}
 use Rattle.table.specs.Codec.{table_of, with_table, TableNow}
 use Rattle.table.proofs.ListLaws.{all_each, all_map}
 use Rattle.table.proofs.RowLaws.{length_join}
-use Rattle.table.proofs.TableLaws.{length_table, get_d_table, with_one, table_insert, table_remove}
+use Rattle.table.proofs.TableLaws.{length_table, get_d_table, with_one}
 use Rattle.rows.specs.declared.Device.{Device}
 use Rattle.rows.specs.declared.Own.{Own}
 use Rattle.rows.specs.declared.Carried.{Carried}
 use Rattle.rows.specs.declared.Tombstone.{Tombstone}
 use Rattle.rows.specs.declared.Action.{Action}
-use Rattle.rows.specs.Rows.{own_codec, own_of, carried_codec, carried_of, tombstone_codec, tombstone_bytes, action_codec, action_bytes}
-use Rattle.rows.specs.Proper.{ProperTombstone}
-use Rattle.rows.proofs.Laws.{own_laws, carried_laws, tombstone_laws}
+use Rattle.rows.specs.Rows.{own_codec, own_of, carried_codec, carried_of, tombstone_codec, action_codec, action_bytes}
 use Rattle.model.specs.State.{Change, nothing, own_now, carried_now, tombstones_now, next_slot_now, ◌and◌}
 use Rattle.model.specs.Calls.{Answer, Result as Outcome, result, done, put_courier, put_queued}
 use Rattle.model.specs.Exchange.{no_carried, no_own}
@@ -33,15 +31,16 @@ use Rattle.tombs.specs.declared.Said.TheVariants as said
 use Rattle.tombs.specs.Tombs.{higher, says, held_lent, own_lent}
 
 -- a tombstone among others by its slot
-pub by_slot_lem : (count n : ℕ) (a x : List ℕ) (m i : ℕ) (b : List ℕ) (t : Tombstone) → n ≡ held (length a) 44 count → ProperTombstone t → b ≡ tombstone_bytes t
-    → i ≡ unwrap_or (held (length a) 44 count) (position (higher t.slot) (table_of tombstone_codec count a)) → RowsNow 44 a (insert_at i b (rows 44 n a)) m x
+pub by_slot_lem : (count : ℕ) (a x : List ℕ) (m i : ℕ) (t : Tombstone)
+    → i ≡ unwrap_or (held (length a) 44 count) (position (higher t.slot) (table_of tombstone_codec count a))
+    → TableNow tombstone_codec a (insert_at i t (table_of tombstone_codec count a)) m x
     → TableNow tombstone_codec a (insert_by_slot t (table_of tombstone_codec count a)) m x
 unfolding insert_by_slot
-by_slot_lem count n a x m i b t en p eb ei N =
+by_slot_lem count a x m i t ei N =
     let T : List Tombstone = table_of tombstone_codec count a in
     let e : i ≡ unwrap_or (length T) (position (higher t.slot) T) =
     ei ∙ ap (λ (k : ℕ). unwrap_or k (position (higher t.slot) T)) (sym (length_table tombstone_codec count a)) in
-    subst (λ (k : ℕ). TableNow tombstone_codec a (insert_at k t T) m x) e (table_insert tombstone_laws count n a x m en b i t p eb N)
+    subst (λ (k : ℕ). TableNow tombstone_codec a (insert_at k t T) m x) e N
 
 -- a result that lists actions alone
 pub acted : (v : Answer) (acts : List Action) (c : Change) (ac y : List ℕ) → y ≡ with_table action_codec ac acts
@@ -68,12 +67,11 @@ module _ (d : Device) (i : ℕ) (tag secret carried to ac : List ℕ) (a : Areas
   listed r = put_courier r.slot ∷ []
 
   pub turns : {row : Carried} {t : Tombstone} {n m : ℕ} {x y z : List ℕ} → row ≡ carried_of (part carried (i * 57) 57) → t ≡ turned row tag secret
-      → TableNow tombstone_codec to (insert_by_slot t Tt) m x → RowsNow 57 carried (remove_at i (rows 57 (held (length carried) 57 d.carried) carried)) n y
+      → TableNow tombstone_codec to (insert_by_slot t Tt) m x → TableNow carried_codec carried (remove_at i Tc) n y
       → z ≡ splice ac 0 (action_bytes (put_courier row.slot))
       → Written says (turn (view B) i tag secret) (Ok (said.Done 1)) B (held_lent (record d { carried = n; tombstones = m }) y x a) (actions_lent ac) (actions_lent z)
   unfolding view turn store store_device store_session
-  turns {row} {t} er et N R ez =
-      let M = table_remove carried_laws _ _ _ _ _ refl i R in
+  turns {row} {t} er et N M ez =
       let k : get_or Tc i no_carried ≡ row = get_d_table carried_codec d.carried carried i no_carried inside ∙ sym er in
       answering_call (result done [] (listed row) (changed t))
       ((λ j. result done [] (listed (k j)) (changed (turned (k j) tag secret))) ∙ ap (λ (u : Tombstone). result done [] (listed row) (changed u)) (sym et)) refl
@@ -134,11 +132,10 @@ module _ (d : Device) (i : ℕ) (how : Storing) (tag secret own to ac : List ℕ
       (omega (arith, l, S.count, few)) ∙ with_actions ac (p ∷ acts)
 
   pub row_ends : how ≡ how_to_store (view O) tag → {row : Own} {r : Device} {k n : ℕ} {x y z w : List ℕ} → row ≡ own_of (part own (i * 54) 54)
-      → z ≡ splice ac 0 (action_bytes (put_queued row.contact row.msgno)) → RowsNow 54 own (remove_at i (rows 54 (held (length own) 54 d.own) own)) n y
+      → z ≡ splice ac 0 (action_bytes (put_queued row.contact row.msgno)) → TableNow own_codec own (remove_at i To) n y
       → Stores how (without n) tag secret row.expiry_min 13 to z r k x w → k ≤ 2
       → Written says (end_own (view O) i tag secret) (Ok (said.Done (1 + k))) O (own_lent r y x a) (actions_lent ac) (actions_lent w)
-  row_ends h {row} {k = k} er ez R S few =
-      let N = table_remove own_laws _ _ _ _ _ refl i R in
+  row_ends h {row} {k = k} er ez N S few =
       let D = S (view O) (reads _) h in
       let g : get_or To i no_own ≡ row = get_d_table own_codec d.own own i no_own inside ∙ sym er in
       let e : 1 + k ≡ length (put_queued row.contact row.msgno ∷ store_actions (view O) tag) = omega (arith, D.count) in

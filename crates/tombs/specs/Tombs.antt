@@ -4,7 +4,8 @@ use Rattle.std.specs.Prelude.{◌≡◌, ℕ, ◌<◌, Bool, Result, Ok, Err, Li
 use Rattle.courier_core.specs.declared.Refusal.{Refusal}
 use Rattle.courier_core.specs.declared.Refusal.TheVariants as refusal
 use Rattle.table.specs.Rows.{held}
-use Rattle.table.specs.Codec.{table_of}
+use Rattle.table.specs.declared.Table.{Table}
+use Rattle.table.specs.Tables.{rows_in}
 use Rattle.rows.specs.declared.Device.{Device}
 use Rattle.rows.specs.declared.Tombstone.{Tombstone}
 use Rattle.rows.specs.Rows.{own_width, own_codec, carried_width, carried_codec}
@@ -36,9 +37,9 @@ Inside (met.OwnAt i) own carried = i < own
 Inside met.Wrong own carried = Unit {0}
 Inside met.Unknown own carried = Unit {0}
 
-pub record Meets (d : Device) (own carried tag secret : List ℕ) (r : Met) : Type 0 where
-  pub is : met_of r ≡ model.meets (table_of own_codec d.own own) (table_of carried_codec d.carried carried) tag secret
-  pub inside : Inside r (held (length own) own_width d.own) (held (length carried) carried_width d.carried)
+pub record Meets (own : Table own_width) (carried : Table carried_width) (tag secret : List ℕ) (r : Met) : Type 0 where
+  pub is : met_of r ≡ model.meets (rows_in own_codec own) (rows_in carried_codec carried) tag secret
+  pub inside : Inside r (held (length own.area.now) own_width own.count) (held (length carried.area.now) carried_width carried.count)
 
 -- has a tombstone a higher slot
 abbrev pub higher : ℕ → Tombstone → Bool

@@ -2,9 +2,10 @@
 #![tactic(auto)]
 
 ghost use Rattle.std.specs.Prelude.{◌≡◌, ◌+◌, ◌*◌, ◌<◌, ◌≤◌, length};
-ghost use Rattle.table.specs.Lists.{position, unwrap_or, remove_at};
-ghost use Rattle.table.specs.Rows.{held, rows, RowsNow};
+ghost use Rattle.table.specs.Lists.{position, unwrap_or};
+ghost use Rattle.table.specs.Rows.{held};
 ghost use Rattle.table.specs.Codec.{table_of, TableNow};
+ghost use Rattle.table.specs.Tables.{rows_in};
 ghost use Rattle.rows.specs.Rows.{action_width, own_width, own_codec, carried_width, tombstone_width, tombstone_codec};
 ghost use Rattle.model.specs.Calls.{tomb};
 ghost use Rattle.model.specs.Custody.{own_of_tag};
@@ -17,24 +18,29 @@ ghost use Rattle.tombs.specs.Tombs.{Meets, higher, Ends, EndsBy, says, held_lent
 use answers::put_courier;
 use contacts::known;
 use courier_core::{ContactId, Refusal};
-use rows::{ACTION_WIDTH, CARRIED_WIDTH, Carried, Device, OWN_WIDTH, TOMBSTONE_WIDTH, Tombstone};
+use rows::{
+    ACTION_WIDTH, CARRIED_WIDTH, Carried, Device, OWN_WIDTH, Own, Row, TOMBSTONE_WIDTH, Tombstone,
+};
+use table::Table;
 use tombstones::{Storing, Tomb, short_actions, store_choice, store_tombstone};
 
 // Where an own row's tag stands.
 const OWN_TAG: usize = 12;
 
 // What the calls answer that are not refused: malformed, or how many actions are listed.
+// (Not `Option<usize>`: its `None` would not say malformed.)
 #[derive(Drop)]
 pub enum Said {
     Malformed,
     Done(usize),
 }
 
-// A table's area and its count stand apart: the host lends the area across the C interface, and the device has the count.
+// (Where a table is written, its area and its count stand apart: the host lends the area across the C interface, and the device has the count.)
 
 // ---- what a tomb meets
 
-// The right secret for a row at its place, a wrong one, or no such tag.
+// The right secret for a row at its place, a wrong one, or no such tag. (The model has these four cases. A `Result` of an `Option` would take
+// two more enums: one for the table that the place is in, one for a wrong secret.)
 #[derive(Drop)]
 pub enum Met {
     CarriedAt(usize),
@@ -44,30 +50,29 @@ pub enum Met {
 }
 
 // The first own row with the tag. Fetch has the same of carried rows: each is one search, and its contract names its own rows.
-pub fn own_of_tag(own: &[u8], count: usize, tag: [u8; 16]) -> Option<usize>
-    ensures { result ≡ position (own_of_tag tag) (table_of own_codec count own.now) }
+pub fn own_of_tag(own: Table<OWN_WIDTH>, tag: [u8; 16]) -> Option<usize>
+    ensures { result ≡ position (own_of_tag tag) (rows_in own_codec own.entry) }
 {
-    let n = table::fit(own.len(), OWN_WIDTH, count);
-    table::find(own, OWN_WIDTH, n, OWN_TAG, &tag)
+    own.find(OWN_TAG, &tag)
 }
 
 // A carried row goes first: a wrong secret there is malformed, even if an own row would match.
 // An own row has no commitment but that of its secret.
-fn meets(device: &Device, own: &[u8], carried: &[u8], tomb: Tomb) -> Met
-    ensures { Meets device.now own.now carried.now tomb.tag tomb.s result }
+fn meets(own: Table<OWN_WIDTH>, carried: Table<CARRIED_WIDTH>, tomb: Tomb) -> Met
+    ensures { Meets own.entry carried.entry tomb.tag tomb.s result }
 {
-    match fetch::carried_of_tag(carried, device.carried, tomb.tag) {
+    match fetch::carried_of_tag(carried, tomb.tag) {
         Some(i) => {
-            let row = rows::carried_at(carried, i * CARRIED_WIDTH);
+            let row = Carried::read(carried.area, i * CARRIED_WIDTH);
             if courier::tombstone_matches(row.c, tomb.s) {
                 Met::CarriedAt(i)
             } else {
                 Met::Wrong
             }
         }
-        None => match own_of_tag(own, device.own, tomb.tag) {
+        None => match own_of_tag(own, tomb.tag) {
             Some(i) => {
-                let row = rows::own_at(own, i * OWN_WIDTH);
+                let row = Own::read(own.area, i * OWN_WIDTH);
                 if courier::tombstone_matches(courier::commitment(row.s), tomb.s) {
                     Met::OwnAt(i)
                 } else {
@@ -79,29 +84,15 @@ fn meets(device: &Device, own: &[u8], carried: &[u8], tomb: Tomb) -> Met
     }
 }
 
-// ---- rows that go, and a row by its slot
-
-// Takes row i of a table out; answers how many are left.
-fn remove_row(area: &mut [u8], width: usize, count: usize, i: usize) -> usize
-    requires { (0 < width) × (i < held (length area.old) width count) }
-    ensures { RowsNow width area.old (remove_at i (rows width (held (length area.old) width count) area.old)) result area.new }
-{
-    let n = table::fit(area.len(), width, count);
-    table::remove(area, width, n, i)
-}
+// ---- a tombstone by its slot
 
 // The first tombstone of a higher slot, or the end.
-fn place_by_slot(tombstones: &[u8], count: usize, slot: u64) -> usize
-    ensures { result ≡ unwrap_or (held (length tombstones.now) tombstone_width count) (position (higher slot) (table_of tombstone_codec count tombstones.now)) }
+fn place_by_slot(tombstones: Table<TOMBSTONE_WIDTH>, slot: u64) -> usize
+    ensures { result ≡ unwrap_or (held (length tombstones.entry.area.now) tombstone_width tombstones.entry.count) (position (higher slot) (rows_in tombstone_codec tombstones.entry)) }
 {
-    let n = table::fit(tombstones.len(), TOMBSTONE_WIDTH, count);
-    table::position(
-        tombstones,
-        TOMBSTONE_WIDTH,
-        n,
-        |row| slot < octets::get_u64(row, 0),
-    )
-    .unwrap_or(n)
+    tombstones
+        .position(|row| slot < octets::get_u64(row, 0))
+        .unwrap_or(tombstones.len())
 }
 
 // Puts a tombstone among the others by its slot; answers how many there are.
@@ -109,13 +100,16 @@ fn insert_by_slot(tombstones: &mut [u8], count: usize, row: Tombstone) -> usize
     requires { held (length tombstones.old) tombstone_width count * tombstone_width + tombstone_width ≤ length tombstones.old }
     ensures { TableNow tombstone_codec tombstones.old (insert_by_slot row (table_of tombstone_codec count tombstones.old)) result tombstones.new }
 {
-    let n = table::fit(tombstones.len(), TOMBSTONE_WIDTH, count);
-    let i = place_by_slot(tombstones, count, row.slot);
-    let b = rows::tombstone_bytes(row);
-    table::insert(tombstones, TOMBSTONE_WIDTH, n, i, &b)
+    let table = Table {
+        area: tombstones,
+        count,
+    };
+    let i = place_by_slot(table, row.slot);
+    Tombstone::insert(tombstones, count, i, row)
 }
 
 // The tombstone that a carried row turns into: it retains its slot and expiry.
+#[tactic(auto, unfolding(model::specs::Tombs::turned))]
 fn turned(row: Carried, tomb: Tomb) -> Tombstone
     ensures { result ≡ turned_of row tomb.tag tomb.s }
 {
@@ -141,9 +135,9 @@ fn turn(
     if tombstones.len() / TOMBSTONE_WIDTH <= count {
         return Err(Refusal::NoTombstoneRow);
     }
-    let row = rows::carried_at(carried, i * CARRIED_WIDTH);
+    let row = Carried::read(carried, i * CARRIED_WIDTH);
     device.tombstones = insert_by_slot(tombstones, device.tombstones, turned(row, tomb));
-    device.carried = remove_row(carried, CARRIED_WIDTH, device.carried, i);
+    device.carried = Carried::remove(carried, device.carried, i);
     put_courier(actions, 0, row.slot);
     Ok(Said::Done(1))
 }
@@ -162,9 +156,9 @@ fn end_row(
     ensures { EndsBy how i tomb.tag tomb.s (Ok (Done result)) (own_lent device.old own.old tombstones.old)
         (own_lent device.new own.new tombstones.new) (actions_lent actions.old) (actions_lent actions.new) }
 {
-    let row = rows::own_at(own, i * OWN_WIDTH);
+    let row = Own::read(own, i * OWN_WIDTH);
     answers::put_queued(actions, 0, row.contact, row.msgno);
-    device.own = remove_row(own, OWN_WIDTH, device.own, i);
+    device.own = Own::remove(own, device.own, i);
     1 + store_tombstone(
         device,
         how,
@@ -194,6 +188,7 @@ fn end_own(
 }
 
 // A tomb: the carried row with its tag turns into a tombstone, or else the own row ends; an unknown tag changes nothing.
+// (As the C interface lends them, each area is a parameter.)
 pub fn receive_tomb(
     device: &mut Device,
     peer: ContactId,
@@ -213,11 +208,23 @@ pub fn receive_tomb(
     if short_actions(actions.len(), tombstones.len()) {
         return Err(Refusal::ShortArea);
     }
-    if !known(contacts, device.contacts, peer) {
+    let contacts = Table {
+        area: contacts,
+        count: device.contacts,
+    };
+    if !known(contacts, peer) {
         return Err(Refusal::UnknownContact);
     }
     let tomb = Tomb { tag, s };
-    match meets(device, own, carried, tomb) {
+    let own_rows = Table {
+        area: own,
+        count: device.own,
+    };
+    let carried_rows = Table {
+        area: carried,
+        count: device.carried,
+    };
+    match meets(own_rows, carried_rows, tomb) {
         Met::CarriedAt(i) => turn(device, i, tomb, carried, tombstones, actions),
         Met::OwnAt(i) => end_own(device, i, tomb, own, tombstones, actions),
         Met::Wrong => Ok(Said::Malformed),

@@ -1,32 +1,14 @@
 -- Laws of the searches through the tombstones.
 -- Assumes nothing.
-use Rattle.std.proofs.Common.{◌≡◌, ℕ, suc, ◌+◌, ◌*◌, ◌<◌, ◌≤◌, Bool, true, false, cond, ltb, List, length, drop, sym, ap, ◌∙◌, ap₂, add-one, arith, drop_of_length-le, le-ltb, lt-ltb, refl, Option, Some, None, is_some}
-use Rattle.octets.specs.Bytes.{part, num, same_bytes}
+use Rattle.std.proofs.Common.{◌≡◌, ℕ, suc, ◌+◌, ◌*◌, ◌<◌, ◌≤◌, Bool, true, false, cond, ltb, List, length, drop, sym, ap, ◌∙◌, ap₂, add-one, arith, drop_of_length-le, le-ltb, lt-ltb}
+use Rattle.octets.specs.Bytes.{part, num}
 use Rattle.octets.proofs.Parts.{part_part}
-use Rattle.table.specs.Lists.{position, is_at}
-use Rattle.table.specs.Rows.{held, rows, has_key}
+use Rattle.table.specs.Rows.{held}
 use Rattle.table.specs.Codec.{table_of}
-use Rattle.table.proofs.TableLaws.{length_table, table_next, table_any}
+use Rattle.table.proofs.TableLaws.{length_table, table_next}
 use Rattle.rows.specs.declared.Tombstone.{Tombstone}
 use Rattle.rows.specs.Rows.{tombstone_of, tombstone_codec}
-use Rattle.model.specs.Custody.{tombstone_of_tag}
-use Rattle.model.specs.Tombs.{tombstoned, least_from}
-
--- ---- a tag among the tombstones
-
-same_tag : (tag b : List ℕ) → length tag ≡ 16 → has_key 8 tag b ≡ tombstone_of_tag tag (tombstone_of b)
-unfolding has_key tombstone_of
-same_tag tag b l = ap (λ (k : ℕ). same_bytes (part b 8 k) tag) l
-
-some_at : (f : Option ℕ) → is_some f ≡ is_at f
-some_at (Some i) = refl
-some_at None = refl
-
-pub tag_found : (tag : List ℕ) (count n : ℕ) (a : List ℕ) (f : Option ℕ) → length tag ≡ 16 → n ≡ held (length a) 44 count
-    → f ≡ position (has_key 8 tag) (rows 44 n a) → is_some f ≡ tombstoned (table_of tombstone_codec count a) tag
-unfolding tombstoned
-tag_found tag count n a f l en e =
-    some_at f ∙ table_any tombstone_codec count n a en (has_key 8 tag) (tombstone_of_tag tag) (λ b. same_tag tag b l) f e
+use Rattle.model.specs.Tombs.{least_from}
 
 -- ---- the least expiry
 

@@ -107,7 +107,7 @@ module _ (d : Device) (tag secret : List ℕ) (expiry at : ℕ) (to ac : List �
         → StoredAs s d tag secret expiry at to ac r 1 x y
     unfolding store_device device_after join
     stores_one e g u =
-        stored_as way.Append e (grown T g).device (grown T g).area (u ∙ ap (splice ac at) (sym (append-nil (action_bytes (put_courier d.next_slot))))) refl
+        stored_as way.Append e (grown T g).device (grown T g).table.area (u ∙ ap (splice ac at) (sym (append-nil (action_bytes (put_courier d.next_slot))))) refl
 
     pub stores_moved : (i slot : ℕ) (z : List ℕ) → at + 26 ≤ length ac → h ≡ way.Evict i → Grown d r to x (remove_at i T ++ (t ∷ []))
         → slot ≡ (get_or T i no_tombstone).slot → z ≡ splice ac at (action_bytes (delete_courier slot)) → y ≡ splice z (at + 13) (action_bytes (put_courier d.next_slot))
@@ -116,7 +116,7 @@ module _ (d : Device) (tag secret : List ℕ) (expiry at : ℕ) (to ac : List �
     stores_moved i slot z l e g q hz hy =
         let D : Action = delete_courier (get_or T i no_tombstone).slot in
         let P : Action = put_courier d.next_slot in
-        stored_as (way.Evict i) e (grown (remove_at i T) g).device (grown (remove_at i T) g).area
+        stored_as (way.Evict i) e (grown (remove_at i T) g).device (grown (remove_at i T) g).table.area
         (splice_then ac z y at (at + 13) (action_bytes D) (action_bytes P) (hz ∙ ap (λ (k : ℕ). splice ac at (action_bytes (delete_courier k))) q) hy
         (omega (arith, length_action D)) (omega (arith, length_action P))
         ∙ ap (λ (b : List ℕ). splice ac at (action_bytes D ++ b)) (sym (append-nil (action_bytes P)))) refl

@@ -1,16 +1,15 @@
 -- What the functions say of the tombstones, by the model's definitions.
 -- Assumes nothing.
-use Rattle.std.specs.Prelude.{◌≡◌, ℕ, ◌+◌, ◌-◌, ◌*◌, ◌/◌, ◌<◌, ◌≤◌, Bool, cond, Result, Ok, Err, List, [], ◌∷◌, ◌++◌, map, length, nat_le}
+use Rattle.std.specs.Prelude.{◌≡◌, ℕ, ◌+◌, ◌-◌, ◌*◌, ◌/◌, ◌<◌, ◌≤◌, Bool, cond, Result, Ok, Err, List, [], ◌∷◌, map, length, nat_le}
 use Rattle.courier_core.specs.Core.{first_of}
 use Rattle.courier_core.specs.declared.Refusal.{Refusal}
 use Rattle.courier_core.specs.declared.Refusal.TheVariants as refusal
-use Rattle.octets.specs.Bytes.{Bytes, splice}
+use Rattle.octets.specs.Bytes.{splice}
 use Rattle.table.specs.Rows.{held, join}
-use Rattle.table.specs.Codec.{table_of, with_table, TableNow}
+use Rattle.table.specs.Codec.{table_of, TableNow}
 use Rattle.rows.specs.declared.Device.{Device}
 use Rattle.rows.specs.declared.Tombstone.{Tombstone}
 use Rattle.rows.specs.Rows.{tombstone_width, tombstone_codec, action_bytes}
-use Rattle.rows.specs.Proper.{ProperTombstone}
 use Rattle.model.specs.State.{State}
 use Rattle.model.specs.Calls.{Result as Outcome}
 use Rattle.model.specs.Tombs.{tombstoned, least_expiry, max_tombstones, no_row_to_store, no_slot_to_store, store_tombstone, store_actions}
@@ -77,13 +76,6 @@ RoomFor (Ok how) d area = Room how d area
 
 -- ---- what the writes leave
 
--- a tombstone behind the n that were there
-pub record Pushed (n : ℕ) (a : List ℕ) (t : Tombstone) (r : ℕ) (x : List ℕ) : Type 0 where
-  pub more : r ≡ n + 1
-  pub table : TableNow tombstone_codec a (table_of tombstone_codec n a ++ (t ∷ [])) r x
-  pub bytes : Bytes a
-  pub proper : ProperTombstone t
-
 -- one tombstone more was stored: so many are held now, and the next slot is taken
 unfoldable pub device_after : Device → ℕ → Device
 device_after d n = record d { tombstones = n; next_slot = d.next_slot + 1 }
@@ -94,7 +86,7 @@ new_tombstone d tag secret expiry = record { slot = d.next_slot; tag = tag; s = 
 
 -- the tombstones are now ts
 pub record Grown (d r : Device) (a x : List ℕ) (ts : List Tombstone) : Type 0 where
-  pub area : x ≡ with_table tombstone_codec a ts
+  pub table : TableNow tombstone_codec a ts r.tombstones x
   pub device : r ≡ device_after d (length ts)
 
 -- a tombstone was stored from the state s: the device d is now r, the tombstones to are now x, and of the actions ac, now y, n are listed from at on

@@ -6,14 +6,16 @@ ghost use Rattle.octets.specs.Bytes.{part, num};
 ghost use Rattle.table.specs.Lists.{remove_at};
 ghost use Rattle.table.specs.Rows.{held};
 ghost use Rattle.table.specs.Codec.{table_of};
+ghost use Rattle.table.specs.Tables.{rows_in};
 ghost use Rattle.rows.specs.Rows.{action_width, tombstone_width, tombstone_codec};
 ghost use Rattle.model.specs.Calls.{stored_tombstone};
 ghost use Rattle.model.specs.Tombs.{tombstoned as some_tombstone, no_tombstone};
 ghost use Rattle.model.specs.Lent.{Does, actions_lent};
-ghost use Rattle.tombstones.specs.Tombstones.{Least, ChoiceOf, RoomFor, Room, Space, space_for, spare_at, Pushed, device_after, Grown, Stores, says_stored, tombstones_lent};
+ghost use Rattle.tombstones.specs.Tombstones.{Least, ChoiceOf, RoomFor, Room, space_for, spare_at, Grown, Stores, says_stored, tombstones_lent};
 
 use courier_core::Refusal;
-use rows::{ACTION_WIDTH, Device, TOMBSTONE_WIDTH, Tombstone};
+use rows::{ACTION_WIDTH, Device, Row, TOMBSTONE_WIDTH, Tombstone};
+use table::Table;
 
 // At so many tombstones, one goes before another is stored.
 const MAX_TOMBSTONES: usize = 1024;
@@ -52,6 +54,7 @@ impl Tomb {
 }
 
 // What storing a tombstone does: nothing if its tag has one, and the one at a place goes first if there are too many.
+// (Not `Option<Option<usize>>`: it would not say which of the three is meant.)
 #[derive(Drop)]
 pub enum Storing {
     Nothing,
@@ -59,14 +62,11 @@ pub enum Storing {
     Evict(usize),
 }
 
-// A table's area and its count stand apart: the host lends the area across the C interface, and the device has the count.
-
 // Has one of the tombstones the tag?
-pub fn tombstoned(tombstones: &[u8], count: usize, tag: [u8; 16]) -> bool
-    ensures { result ≡ some_tombstone (table_of tombstone_codec count tombstones.now) tag }
+pub fn tombstoned(tombstones: Table<TOMBSTONE_WIDTH>, tag: [u8; 16]) -> bool
+    ensures { result ≡ some_tombstone (rows_in tombstone_codec tombstones.entry) tag }
 {
-    let n = table::fit(tombstones.len(), TOMBSTONE_WIDTH, count);
-    table::find(tombstones, TOMBSTONE_WIDTH, n, TAG_AT, &tag).is_some()
+    tombstones.has(TAG_AT, &tag)
 }
 
 // The expiry of the tombstone whose bytes start at a place.
@@ -78,14 +78,13 @@ fn expiry_at(tombstones: &[u8], at: usize) -> u64
 }
 
 // The tombstone of least expiry, the first among equals: the table has them by slot.
-pub fn least_expiry(tombstones: &[u8], count: usize) -> usize
-    ensures { Least (table_of tombstone_codec count tombstones.now) result }
+pub fn least_expiry(tombstones: Table<TOMBSTONE_WIDTH>) -> usize
+    ensures { Least (rows_in tombstone_codec tombstones.entry) result }
 {
-    let n = table::fit(tombstones.len(), TOMBSTONE_WIDTH, count);
     let mut best = 0;
     let mut low = NO_EXPIRY;
-    for i in 0..n {
-        let e = expiry_at(tombstones, i * TOMBSTONE_WIDTH);
+    for i in 0..tombstones.len() {
+        let e = expiry_at(tombstones.area, i * TOMBSTONE_WIDTH);
         if e < low {
             best = i;
             low = e;
@@ -105,10 +104,14 @@ pub fn short_actions(actions: usize, tombstones: usize) -> bool
 pub fn store_choice(device: Device, tag: [u8; 16], tombstones: &[u8]) -> Result<Storing, Refusal>
     ensures { ChoiceOf device tombstones.now tag result × RoomFor result device tombstones.now }
 {
-    if tombstoned(tombstones, device.tombstones, tag) {
+    let table = Table {
+        area: tombstones,
+        count: device.tombstones,
+    };
+    if tombstoned(table, tag) {
         return Ok(Storing::Nothing);
     }
-    let n = table::fit(tombstones.len(), TOMBSTONE_WIDTH, device.tombstones);
+    let n = table.len();
     if n < MAX_TOMBSTONES && tombstones.len() / TOMBSTONE_WIDTH <= n {
         return Err(Refusal::NoTombstoneRow);
     }
@@ -118,26 +121,16 @@ pub fn store_choice(device: Device, tag: [u8; 16], tombstones: &[u8]) -> Result<
     if n < MAX_TOMBSTONES {
         return Ok(Storing::Append);
     }
-    Ok(Storing::Evict(least_expiry(tombstones, device.tombstones)))
+    Ok(Storing::Evict(least_expiry(table)))
 }
 
-// Puts a tombstone behind the n that are there, and takes the next slot.
-fn push_tombstone(device: &mut Device, n: usize, row: Tombstone, tombstones: &mut [u8])
-    requires { Space n (length tombstones.old) device.old.next_slot }
-    ensures { Pushed n tombstones.old row device.new.tombstones tombstones.new × (device.new ≡ device_after device.old device.new.tombstones) }
-{
-    let b = rows::tombstone_bytes(row);
-    device.tombstones = table::push(tombstones, TOMBSTONE_WIDTH, n, &b);
-    device.next_slot += 1;
-}
-
-// Adds a tombstone.
+// Adds a tombstone behind the others, and takes the next slot.
 fn append(device: &mut Device, row: Tombstone, tombstones: &mut [u8])
     requires { space_for device.old tombstones.old }
     ensures { Grown device.old device.new tombstones.old tombstones.new (table_of tombstone_codec device.old.tombstones tombstones.old ++ (row ∷ [])) }
 {
-    let n = table::fit(tombstones.len(), TOMBSTONE_WIDTH, device.tombstones);
-    push_tombstone(device, n, row, tombstones);
+    device.tombstones = Tombstone::push(tombstones, device.tombstones, row);
+    device.next_slot += 1;
 }
 
 // Takes the tombstone at i out, and adds one.
@@ -145,17 +138,16 @@ fn evict(device: &mut Device, i: usize, row: Tombstone, tombstones: &mut [u8])
     requires { spare_at i device.old tombstones.old }
     ensures { Grown device.old device.new tombstones.old tombstones.new (remove_at i (table_of tombstone_codec device.old.tombstones tombstones.old) ++ (row ∷ [])) }
 {
-    let n = table::fit(tombstones.len(), TOMBSTONE_WIDTH, device.tombstones);
-    let left = table::remove(tombstones, TOMBSTONE_WIDTH, n, i);
-    push_tombstone(device, left, row, tombstones);
+    device.tombstones = Tombstone::remove(tombstones, device.tombstones, i);
+    append(device, row, tombstones);
 }
 
 // The slot of the tombstone at i.
-fn slot_at(tombstones: &[u8], count: usize, i: usize) -> u64
-    requires { (i < held (length tombstones.now) tombstone_width count) × (held (length tombstones.now) tombstone_width count * tombstone_width ≤ length tombstones.now) }
-    ensures { result ≡ (slice_index_or (table_of tombstone_codec count tombstones.now) i no_tombstone).slot }
+fn slot_at(tombstones: Table<TOMBSTONE_WIDTH>, i: usize) -> u64
+    requires { (i < held (length tombstones.area.now) tombstone_width tombstones.count) × (held (length tombstones.area.now) tombstone_width tombstones.count * tombstone_width ≤ length tombstones.area.now) }
+    ensures { result ≡ (slice_index_or (rows_in tombstone_codec tombstones.entry) i no_tombstone).slot }
 {
-    octets::get_u64(tombstones, i * TOMBSTONE_WIDTH)
+    octets::get_u64(tombstones.area, i * TOMBSTONE_WIDTH)
 }
 
 // Stores a tombstone as it was chosen, at the next slot; its actions are listed from a place on, and how many is answered.
@@ -181,7 +173,11 @@ pub fn store_tombstone(
             1
         }
         Storing::Evict(i) => {
-            let gone = slot_at(tombstones, device.tombstones, i);
+            let table = Table {
+                area: tombstones,
+                count: device.tombstones,
+            };
+            let gone = slot_at(table, i);
             evict(device, i, row, tombstones);
             answers::delete_courier(actions, at, gone);
             answers::put_courier(actions, at + ACTION_WIDTH, slot);

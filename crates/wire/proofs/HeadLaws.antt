@@ -1,11 +1,12 @@
 -- Laws of a record's head. Assumes nothing.
-use Rattle.std.proofs.Common.{◌≡◌, ℕ, ◌+◌, ◌-◌, ◌<◌, ◌≤◌, Bool, true, false, cond, ltb, leb, List, length, sym, refl, ap, ◌∙◌, subst, true≢false, arith, ltb-false, ltb-true, le-ltb, eqb-true, le-leb, leb-false, leb-true}
+use Rattle.std.proofs.Common.{◌≡◌, ℕ, ◌+◌, ◌-◌, ◌<◌, ◌≤◌, Bool, true, false, cond, ltb, leb, List, length, sym, refl, ap, ◌∙◌, subst, true≢false, arith, ltb-false, ltb-true, le-ltb, eqb-true, le-leb, leb-false, leb-true, Ok, Err, Some, None}
 use Rattle.courier.proofs.Laws.{both}
+use Rattle.courier_core.specs.declared.Refusal.{Refusal}
+use Rattle.courier_core.specs.declared.Refusal.TheVariants as refusal
 use Rattle.wire.specs.declared.Mark.{Mark}
 use Rattle.wire.specs.declared.Mark.TheVariants as mark
 use Rattle.wire.specs.declared.Head.{Head}
-use Rattle.wire.specs.declared.Head.TheVariants as head
-use Rattle.wire.specs.Log.{shaped, fits, mark_at, size_at, head_of}
+use Rattle.wire.specs.Log.{ReadHead, whole, shaped, fits, mark_at, size_at, head_of}
 
 -- how many bytes a body has at least that fits its mark
 abbrev pub least_size : Mark → ℕ
@@ -54,37 +55,40 @@ module _ (s : List ℕ) where
     told : fits (mark_at s) (size_at s) ≡ t
     told = sym (et ∙ ap (λ (x : Mark). fits x n) em ∙ ap (λ (x : ℕ). fits (mark_at s) x) en)
 
-    pub head_wrong : t ≡ false → head.Wrong ≡ head_of s
+    pub head_wrong : t ≡ false → Err refusal.LogRecord ≡ head_of s
     unfolding head_of
     head_wrong e = rw (le-ltb (length s) 4 room, told ∙ e)
 
-    pub head_whole : t ≡ true → n ≤ length s - 4 → head.Whole m n ≡ head_of s
+    pub head_whole : t ≡ true → n ≤ length s - 4 → whole m n ≡ head_of s
     unfolding head_of
-    head_whole e h = rw (le-ltb (length s) 4 room, told ∙ e, le-leb (size_at s) (length s - 4) (omega (arith, en))) (λ i. head.Whole (em i) (en i))
+    head_whole e h = rw (le-ltb (length s) 4 room, told ∙ e, le-leb (size_at s) (length s - 4) (omega (arith, en))) (λ i. whole (em i) (en i))
 
--- ---- what a head says of the bytes: a whole record is among them, and one that is not all there is less than the longest
+-- ---- what a head says of the bytes: a whole record is among them, one that is not all there is less than the longest, and a wrong head is number 13
 
-abbrev pub Sound : Head → ℕ → Type 0
-Sound (head.Whole m n) k = 4 + n ≤ k
-Sound head.More k = k < 8196
-Sound head.Wrong k = Unit {0}
+abbrev pub Sound : ReadHead → ℕ → Type 0
+Sound (Ok (Some h)) k = 4 + h.len ≤ k
+Sound (Ok None) k = k < 8196
+Sound (Err why) k = why ≡ refusal.LogRecord
 
-sound_cond : (t : Bool) (x y : Head) (k : ℕ) → (t ≡ true → Sound x k) → (t ≡ false → Sound y k) → Sound (cond t x y) k
+sound_cond : (t : Bool) (x y : ReadHead) (k : ℕ) → (t ≡ true → Sound x k) → (t ≡ false → Sound y k) → Sound (cond t x y) k
 sound_cond true x y k hx hy = hx refl
 sound_cond false x y k hx hy = hy refl
 
 sound : (s : List ℕ) → Sound (head_of s) (length s)
 unfolding head_of
 sound s =
-    sound_cond (ltb (length s) 4) head.More _ (length s) (λ e. omega (arith, ltb-true (length s) 4 e))
-    (λ e. sound_cond (fits (mark_at s) (size_at s)) _ head.Wrong (length s)
-    (λ f. sound_cond (leb (size_at s) (length s - 4)) (head.Whole (mark_at s) (size_at s)) head.More (length s)
+    sound_cond (ltb (length s) 4) (Ok None) _ (length s) (λ e. omega (arith, ltb-true (length s) 4 e))
+    (λ e. sound_cond (fits (mark_at s) (size_at s)) _ (Err refusal.LogRecord) (length s)
+    (λ f. sound_cond (leb (size_at s) (length s - 4)) (whole (mark_at s) (size_at s)) (Ok None) (length s)
     (λ g. omega (arith, leb-true (size_at s) (length s - 4) g, ltb-false (length s) 4 e))
     (λ g. omega (arith, leb-false (size_at s) (length s - 4) g, fit_most (mark_at s) (size_at s) f)))
-    (λ f. tt))
+    (λ f. refl))
 
-pub of_whole : {r : Head} {m : Mark} {n : ℕ} (s : List ℕ) → r ≡ head_of s → r ≡ head.Whole m n → 4 + n ≤ length s
-of_whole s e w = subst (λ (x : Head). Sound x (length s)) (sym e ∙ w) (sound s)
+pub of_whole : {r : ReadHead} {h : Head} (s : List ℕ) → r ≡ head_of s → r ≡ Ok (Some h) → 4 + h.len ≤ length s
+of_whole s e w = subst (λ (x : ReadHead). Sound x (length s)) (sym e ∙ w) (sound s)
 
-pub of_more : {r : Head} (s : List ℕ) → r ≡ head_of s → r ≡ head.More → length s < 8196
-of_more s e w = subst (λ (x : Head). Sound x (length s)) (sym e ∙ w) (sound s)
+pub of_more : {r : ReadHead} (s : List ℕ) → r ≡ head_of s → r ≡ Ok None → length s < 8196
+of_more s e w = subst (λ (x : ReadHead). Sound x (length s)) (sym e ∙ w) (sound s)
+
+pub of_wrong : {r : ReadHead} {why : Refusal} (s : List ℕ) → r ≡ head_of s → r ≡ Err why → why ≡ refusal.LogRecord
+of_wrong s e w = subst (λ (x : ReadHead). Sound x (length s)) (sym e ∙ w) (sound s)

@@ -1,8 +1,10 @@
 -- The log's grammar (document 01, "Drill program" and number 13): a record is a mark of two letters, two bytes of body length, a body.
 -- Assumes nothing.
-use Rattle.std.specs.Prelude.{ℕ, ◌-◌, ◌%◌, Bool, true, false, cond, ◌&&◌, List, length, drop, ◌==◌, nat_le, nat_lt, Option, Some, None}
+use Rattle.std.specs.Prelude.{ℕ, ◌-◌, ◌%◌, Bool, true, false, cond, ◌&&◌, List, length, drop, ◌==◌, nat_le, nat_lt, Option, Some, None, Result, Ok, Err}
 use Rattle.octets.specs.Bytes.{part, num}
 use Rattle.courier_core.specs.declared.ContactId.{ContactId}
+use Rattle.courier_core.specs.declared.Refusal.{Refusal}
+use Rattle.courier_core.specs.declared.Refusal.TheVariants as refusal
 use Rattle.courier_core.specs.declared.Verification.{Verification}
 use Rattle.courier_core.specs.Core.{verification_from}
 use Rattle.courier.specs.declared.Header.{Header}
@@ -11,7 +13,6 @@ use Rattle.courier.specs.Courier.{header_of, from_code}
 use Rattle.wire.specs.declared.Mark.{Mark}
 use Rattle.wire.specs.declared.Mark.TheVariants as mark
 use Rattle.wire.specs.declared.Head.{Head}
-use Rattle.wire.specs.declared.Head.TheVariants as head
 
 pub data Record : Type 0 where
   clock : (seconds : ℕ) → Record
@@ -64,11 +65,18 @@ mark_at s = mark_of (num (part s 0 2))
 abbrev pub size_at : List ℕ → ℕ
 size_at s = num (part s 2 2)
 
+-- What is read of a head: none where the bytes end before its record does.
+abbrev pub ReadHead : Type 0
+ReadHead = Result (Option Head) Refusal
+
+abbrev pub whole : Mark → ℕ → ReadHead
+whole m n = Ok (Some (record { mark = m; len = n }))
+
 -- What stands at the front of the bytes s: a head that is wrong is so before its body is there.
-unfoldable pub head_of : List ℕ → Head
+unfoldable pub head_of : List ℕ → ReadHead
 head_of s =
-    cond (nat_lt (length s) 4) head.More
-    (cond (fits (mark_at s) (size_at s)) (cond (nat_le (size_at s) (length s - 4)) (head.Whole (mark_at s) (size_at s)) head.More) head.Wrong)
+    cond (nat_lt (length s) 4) (Ok None)
+    (cond (fits (mark_at s) (size_at s)) (cond (nat_le (size_at s) (length s - 4)) (whole (mark_at s) (size_at s)) (Ok None)) (Err refusal.LogRecord))
 
 -- ---- the body
 

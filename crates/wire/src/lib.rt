@@ -8,11 +8,11 @@ ghost use Rattle.wire.specs.Log.{mark_of, shaped, fits, head_of, peer_in, values
 ghost use Rattle.wire.specs.Read.{read_as, Told};
 
 use courier::Custody;
-use courier_core::{ContactId, Verification};
+use courier_core::{ContactId, Refusal, Verification};
 
 // ---- the head
 
-// A record's mark. `Unknown` is one of them and not an Option's None: no body has its shape, so that a head is asked one question.
+// A record's mark. `Unknown` is one of them and not an Option's None: no body has its shape, so that what refuses a wrong shape refuses it too.
 #[derive(Clone, Copy, PartialEq, Eq)]
 pub enum Mark {
     Clock,
@@ -28,13 +28,11 @@ pub enum Mark {
     Unknown,
 }
 
-// What stands at the front of some bytes: a record with its mark and the length of its body, one that is not all there, or one
-// that is wrong.
-#[derive(Drop)]
-pub enum Head {
-    Whole { mark: Mark, len: usize },
-    More,
-    Wrong,
+// A record's mark, and the length of its body.
+#[derive(Clone, Copy)]
+pub struct Head {
+    pub mark: Mark,
+    pub len: usize,
 }
 
 // The bytes of a record before its body, and of the longest body.
@@ -42,23 +40,25 @@ pub const HEAD: usize = 4;
 
 pub const BODY_MAX: usize = 8_192;
 
-// The mark that two letters spell.
-#[tactic(auto, unfolding(crate::specs::Log::mark_of))]
-pub fn mark_of(m: u16) -> Mark
-    ensures { result ≡ mark_of m }
-{
-    match m {
-        0x434B => Mark::Clock,
-        0x5054 => Mark::Contact,
-        0x5353 => Mark::Session,
-        0x454E => Mark::Envelope,
-        0x4956 => Mark::Inventory,
-        0x4645 => Mark::Fetch,
-        0x4355 => Mark::Custody,
-        0x5442 => Mark::Tomb,
-        0x4D54 => Mark::Maintenance,
-        0x4346 => Mark::Setting,
-        _ => Mark::Unknown,
+impl From<u16> for Mark {
+    ghost from_gives = { λ letters mark. mark ≡ mark_of letters };
+
+    // The mark that two letters spell.
+    #[tactic(auto, unfolding(crate::specs::Log::mark_of))]
+    fn from(letters: u16) -> Mark {
+        match letters {
+            0x434B => Mark::Clock,
+            0x5054 => Mark::Contact,
+            0x5353 => Mark::Session,
+            0x454E => Mark::Envelope,
+            0x4956 => Mark::Inventory,
+            0x4645 => Mark::Fetch,
+            0x4355 => Mark::Custody,
+            0x5442 => Mark::Tomb,
+            0x4D54 => Mark::Maintenance,
+            0x4346 => Mark::Setting,
+            _ => Mark::Unknown,
+        }
     }
 }
 
@@ -89,23 +89,23 @@ fn is_fit(mark: Mark, n: usize) -> bool
     n <= BODY_MAX && is_shaped(mark, n)
 }
 
-// The head is told right or wrong before the body is there.
+// The head at the front of some bytes, or None where they end before the record does. It is refused before its body is there.
 #[tactic(auto, unfolding(crate::specs::Log::head_of))]
-pub fn read_head(s: &[u8]) -> Head
+pub fn read_head(s: &[u8]) -> Result<Option<Head>, Refusal>
     ensures { result ≡ head_of s.now }
 {
     if s.len() < HEAD {
-        return Head::More;
+        return Ok(None);
     }
-    let mark = mark_of(octets::get_u16(s, 0));
+    let mark = Mark::from(octets::get_u16(s, 0));
     let len = octets::get_u16(s, 2) as usize;
-    if is_fit(mark, len) {
-        if len <= s.len() - HEAD {
-            return Head::Whole { mark, len };
-        }
-        return Head::More;
+    if !is_fit(mark, len) {
+        return Err(Refusal::LogRecord);
     }
-    Head::Wrong
+    if len <= s.len() - HEAD {
+        return Ok(Some(Head { mark, len }));
+    }
+    Ok(None)
 }
 
 // ---- the body
@@ -155,30 +155,6 @@ fn peer_in(body: &[u8]) -> ContactId
 }
 
 #[tactic(auto, using(crate::proofs::BodyLaws::read_some, crate::proofs::BodyLaws::read_none), unfolding(crate::specs::Log::values_of))]
-fn contact_in(body: &[u8]) -> Option<Body>
-    requires { 9 ≤ length body.now }
-    ensures { result ≡ read_as (values_of mark.Contact body.now) }
-{
-    let verification = Verification::from_byte(octets::get_u8(body, 8))?;
-    Some(Body::Contact {
-        id: peer_in(body),
-        verification,
-    })
-}
-
-#[tactic(auto, using(crate::proofs::BodyLaws::read_some, crate::proofs::BodyLaws::read_none), unfolding(crate::specs::Log::values_of))]
-fn custody_in(body: &[u8]) -> Option<Body>
-    requires { 25 ≤ length body.now }
-    ensures { result ≡ read_as (values_of mark.Custody body.now) }
-{
-    let code = Custody::from_code(octets::get_u8(body, 24))?;
-    Some(Body::Custody {
-        peer: peer_in(body),
-        code,
-    })
-}
-
-#[tactic(auto, using(crate::proofs::BodyLaws::read_some, crate::proofs::BodyLaws::read_none), unfolding(crate::specs::Log::values_of))]
 fn setting_in(body: &[u8]) -> Option<Body>
     requires { 4 ≤ length body.now }
     ensures { result ≡ read_as (values_of mark.Setting body.now) }
@@ -203,7 +179,7 @@ fn enabled_of(byte: u8) -> Option<bool>
 }
 
 // A body that has its mark's shape.
-#[tactic(auto, using(crate::proofs::BodyLaws::as_mark), unfolding(crate::specs::Log::values_of))]
+#[tactic(auto, using(crate::proofs::BodyLaws::as_mark, crate::proofs::BodyLaws::read_some, crate::proofs::BodyLaws::read_none), unfolding(crate::specs::Log::values_of))]
 fn values_of(mark: Mark, body: &[u8]) -> Option<Body>
     requires { fits mark (length body.now) ≡ true }
     ensures { result ≡ read_as (values_of mark body.now) }
@@ -212,7 +188,10 @@ fn values_of(mark: Mark, body: &[u8]) -> Option<Body>
         Mark::Clock => Some(Body::Clock {
             seconds: octets::get_u64(body, 0),
         }),
-        Mark::Contact => contact_in(body),
+        Mark::Contact => Some(Body::Contact {
+            id: peer_in(body),
+            verification: Verification::from_byte(octets::get_u8(body, 8))?,
+        }),
         Mark::Session => Some(Body::Session {
             peer: peer_in(body),
         }),
@@ -225,7 +204,10 @@ fn values_of(mark: Mark, body: &[u8]) -> Option<Body>
         Mark::Fetch => Some(Body::Fetch {
             peer: peer_in(body),
         }),
-        Mark::Custody => custody_in(body),
+        Mark::Custody => Some(Body::Custody {
+            peer: peer_in(body),
+            code: Custody::from_code(octets::get_u8(body, 24))?,
+        }),
         Mark::Tomb => Some(Body::Tomb {
             peer: peer_in(body),
         }),

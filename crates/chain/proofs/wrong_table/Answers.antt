@@ -1,11 +1,7 @@
-use Rattle.std.proofs.Common.{le-ltb, lt-ltb, rules}
+use Rattle.std.proofs.Common.{le-ltb, rules}
 use Rattle.table.specs.Rows.{all_rows, ragged}
 use Rattle.chain.specs.Chain.{wrong_dir, wrong_table}
 use Rattle.chain.proofs.wrong_table.Goals as goal
-
-pub returns-then-area-width-gt0 : goal.returns-then-area-width-gt0
-unfolding wrong_table ragged
-returns-then-area-width-gt0 c = simp (lt-ltb _ _ c.if-area-width-gt0.true)
 
 pub returns-else-area-width-gt0 : goal.returns-else-area-width-gt0
 unfolding wrong_table ragged all_rows

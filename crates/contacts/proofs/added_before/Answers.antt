@@ -4,4 +4,4 @@ use Rattle.contacts.proofs.FindLaws.{before_it}
 use Rattle.contacts.proofs.added_before.Goals as goal
 
 pub returns : goal.returns
-returns c = c.unwrap_or.ensures ∙ before_it _ _ _ _ c.contact_place.ensures _ c.contact_count.ensures.is
+returns c = c.unwrap_or.ensures ∙ before_it _ _ _ _ c.contact_place.ensures _ c.len.ensures.is

@@ -7,12 +7,12 @@ use Rattle.contacts.proofs.contact.Goals as goal
 pub replace-device-requires : goal.replace-device-requires
 replace-device-requires c = place_inside _ _ _ _ (sym c.in-Some.is ∙ c.contact_place.ensures)
 
-pub returns-then-contact_count-ge-MAX_CONTACTS : goal.returns-then-contact_count-ge-MAX_CONTACTS
-returns-then-contact_count-ge-MAX_CONTACTS c = λ a. full _ _ _ _ a (sym c.in-None.is ∙ c.contact_place.ensures) c.contact_count.ensures.is (omega arith)
+pub returns-then-len-ge-MAX_CONTACTS : goal.returns-then-len-ge-MAX_CONTACTS
+returns-then-len-ge-MAX_CONTACTS c = λ a. full _ _ _ _ a (sym c.in-None.is ∙ c.contact_place.ensures) c.len.ensures.is (omega arith)
 
 pub returns-in-Some : goal.returns-in-Some
 returns-in-Some c = λ a. altered _ _ _ _ a c.byte.ensures (sym c.in-Some.is ∙ c.contact_place.ensures) c.replace-device.ensures
 
-pub returns-else-contact_count-ge-MAX_CONTACTS : goal.returns-else-contact_count-ge-MAX_CONTACTS
-returns-else-contact_count-ge-MAX_CONTACTS c =
-    λ a. added _ _ _ _ a c.byte.ensures (sym c.in-None.is ∙ c.contact_place.ensures) c.contact_count.ensures.is (omega arith) c.push-device.ensures
+pub returns-else-len-ge-MAX_CONTACTS : goal.returns-else-len-ge-MAX_CONTACTS
+returns-else-len-ge-MAX_CONTACTS c =
+    λ a. added _ _ _ _ a c.byte.ensures (sym c.in-None.is ∙ c.contact_place.ensures) c.len.ensures.is (omega arith) c.push-device.ensures

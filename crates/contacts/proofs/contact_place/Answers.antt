@@ -8,4 +8,4 @@ use Rattle.contacts.proofs.contact_place.Goals as goal
 pub returns : goal.returns
 unfolding contact_place contact_of
 returns c =
-    table_find contact_codec _ _ _ c.contact_count-n.ensures.is _ (is_contact c.args.id) (λ b. refl) _ (c.position.ensures _ (λ row b h e. search rules))
+    table_find contact_codec _ _ _ refl _ (is_contact c.args.id) (λ b. refl) _ (c.position.ensures _ (λ row b h e. search rules))

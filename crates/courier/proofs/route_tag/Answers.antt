@@ -4,12 +4,6 @@ use Rattle.std.proofs.Common.{◌+◌, sym, ◌∙◌, arith, length-take}
 use Rattle.courier.proofs.TagLaws.{index_fits, route_made, route_sent}
 use Rattle.courier.proofs.route_tag.Goals as goal
 
-pub overflow_add-input : goal.overflow_add-input
-overflow_add-input c = omega (arith, index_fits c.args.idx _ c.leb128-index.ensures)
-
-pub slice_bounds-input-end : goal.slice_bounds-input-end
-slice_bounds-input-end c = omega (arith, index_fits c.args.idx _ c.leb128-index.ensures)
-
 pub slice_bounds-mac-end-3 : goal.slice_bounds-mac-end-3
 slice_bounds-mac-end-3 c =
     omega (arith, length-take (2 + c.leb128-index.result.len) c.put_array.new.area, index_fits c.args.idx _ c.leb128-index.ensures)

@@ -8,4 +8,4 @@ use Rattle.custody.proofs.free_carried_cell.Goals as goal
 pub returns : goal.returns
 unfolding carried_of
 returns c =
-    free_table carried_codec (λ (r : Carried). r.cell) 55 c.args.size c.args.count c.args.carried.now _ (λ b. refl) c.free_cell.ensures
+    free_table carried_codec (λ (r : Carried). r.cell) 55 c.args.size c.args.carried.count c.args.carried.area.now _ (λ b. refl) c.free_cell.ensures

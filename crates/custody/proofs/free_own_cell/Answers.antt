@@ -8,4 +8,4 @@ use Rattle.custody.proofs.free_own_cell.Goals as goal
 pub returns : goal.returns
 unfolding own_of
 returns c =
-    free_table own_codec (λ (r : Own). r.cell) 52 c.args.size c.args.count c.args.own.now _ (λ b. refl) c.free_cell.ensures
+    free_table own_codec (λ (r : Own). r.cell) 52 c.args.size c.args.own.count c.args.own.area.now _ (λ b. refl) c.free_cell.ensures

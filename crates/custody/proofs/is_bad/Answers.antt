@@ -2,9 +2,9 @@
 use Rattle.std.proofs.Common.{refl, rules}
 use Rattle.rows.specs.Rows.{bad_tag_codec, bad_tag_of}
 use Rattle.model.specs.Window.{is_bad}
-use Rattle.custody.proofs.Laws.{any_row}
+use Rattle.table.proofs.TableLaws.{table_any}
 use Rattle.custody.proofs.is_bad.Goals as goal
 
 pub returns : goal.returns
 unfolding is_bad bad_tag_of
-returns c = any_row bad_tag_codec _ _ _ c.fit-n.ensures.is _ _ (λ b. refl) _ (c.any.ensures _ (λ row b h e. search rules))
+returns c = table_any bad_tag_codec _ _ _ refl _ _ (λ b. refl) _ (c.any.ensures _ (λ row b h e. search rules))

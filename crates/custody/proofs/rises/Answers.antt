@@ -4,4 +4,4 @@ use Rattle.model.specs.Window.{key_below}
 use Rattle.custody.proofs.rises.Goals as goal
 
 pub returns : goal.returns
-returns c = c.key_below.ensures ∙ ap₂ key_below c.reachable_at.ensures c.reachable_at-2.ensures
+returns c = c.key_below.ensures ∙ ap₂ key_below c.read.ensures c.read-2.ensures

@@ -8,7 +8,7 @@ use Rattle.drill.proofs.WrittenLaws.{takes_text}
 use Rattle.drill.proofs.tell.Goals as goal
 
 pub returns : goal.returns
-unfolding told_of
+unfolding told_of part
 returns c =
     takes_text (omega arith) c.message_at-n.ensures
     (λ i. message_of (c.further-number.ensures i) (c.further-byte.ensures i) (reason_of (part c.args.input.now c.args.turn.from (c.args.turn.have - c.args.turn.from))))

@@ -1,6 +1,5 @@
--- The tag is the body's, and the call is the record's.
+-- The call is the record's.
 use Rattle.std.proofs.Common.{◌≡◌, length, rules}
-use Rattle.octets.specs.Bytes.{part}
 use Rattle.model.specs.Calls as calls
 use Rattle.wire.specs.Log as log
 use Rattle.drill_calls.specs.Asking.{fetch_told, tables_in}
@@ -12,5 +11,5 @@ use Rattle.drill_calls.proofs.fetch_tagged.Goals as goal
 pub returns : goal.returns
 returns c =
     let l : length c.args.tables.now.replies ≡ 61440 = search rules in
-    asked fetch_told (log.fetch c.args.peer (part c.args.body.now 8 16)) (λ i. calls.fetch (l i) c.args.peer (c.tag_in.ensures i))
+    asked fetch_told (log.fetch c.args.peer c.args.tag) (λ i. calls.fetch (l i) c.args.peer c.args.tag)
     (λ s. fetch_told_lem s _ _ _ _ _) (on_replies _ (tables_in c.args.device c.args.exchange c.args.tables.now) _ c.fetch.ensures) c.fetched.ensures

@@ -1,6 +1,5 @@
--- The tag is the body's, and the call is the record's.
+-- The call is the record's.
 use Rattle.std.proofs.Common.{◌≡◌, length, rules}
-use Rattle.octets.specs.Bytes.{part}
 use Rattle.model.specs.Calls as calls
 use Rattle.wire.specs.Log as log
 use Rattle.drill_calls.specs.Asking.{acted_told, tables_in}
@@ -12,5 +11,5 @@ use Rattle.drill_calls.proofs.receive_custody.Goals as goal
 pub returns : goal.returns
 returns c =
     let k : length c.args.tables.now.actions ≡ 19968 = search rules in
-    asked acted_told (log.custody c.args.peer (part c.args.body.now 8 16) c.args.code) (λ i. calls.custody_answer (k i) c.args.peer (c.tag_in.ensures i) c.args.code)
+    asked acted_told (log.custody c.args.peer c.args.tag c.args.code) (λ i. calls.custody_answer (k i) c.args.peer c.args.tag c.args.code)
     (λ s. custody_told_lem s _ _ _ _) (on_actions _ (tables_in c.args.device.now c.args.exchange.now c.args.tables.now) _ c.handed_over.ensures.does) c.acted.ensures

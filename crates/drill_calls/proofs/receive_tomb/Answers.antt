@@ -1,6 +1,5 @@
--- The tag and the secret are the body's, and the call is the record's.
+-- The call is the record's.
 use Rattle.std.proofs.Common.{◌≡◌, length, rules}
-use Rattle.octets.specs.Bytes.{part}
 use Rattle.model.specs.Calls as calls
 use Rattle.wire.specs.Log as log
 use Rattle.drill_calls.specs.Asking.{tomb_told, tables_in}
@@ -12,6 +11,6 @@ use Rattle.drill_calls.proofs.receive_tomb.Goals as goal
 pub returns : goal.returns
 returns c =
     let k : length c.args.tables.now.actions ≡ 19968 = search rules in
-    asked tomb_told (log.tomb c.args.peer (part c.args.body.now 8 16) (part c.args.body.now 24 16))
-    (λ i. calls.tomb (k i) c.args.peer (c.tag_in.ensures i) (c.get_array-s.ensures i))
+    asked tomb_told (log.tomb c.args.peer c.args.tag c.args.s)
+    (λ i. calls.tomb (k i) c.args.peer c.args.tag c.args.s)
     (λ s. tomb_told_lem s _ _ _ _) (on_actions _ (tables_in c.args.device.now c.args.exchange c.args.tables.now) _ c.receive_tomb.ensures) c.met.ensures

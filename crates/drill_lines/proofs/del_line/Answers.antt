@@ -5,4 +5,4 @@ use Rattle.drill_lines.proofs.del_line.Goals as goal
 
 pub returns : goal.returns
 unfolding del_line
-returns c = line3 c.requires c.put_run-p.ensures c.put_spaced-p.ensures c.put_run.ensures (omega arith)
+returns c = line3 (omega arith) c.put_run-p.ensures c.put_spaced-p.ensures c.put_run.ensures (omega arith)

@@ -5,4 +5,4 @@ use Rattle.drill_lines.proofs.envelope_line.Goals as goal
 
 pub returns : goal.returns
 unfolding envelope_line
-returns c = line4 c.requires c.put_tagged-p.ensures c.put_spaced-p.ensures c.put_spaced-p-2.ensures c.put_run.ensures (omega arith)
+returns c = line4 (omega arith) c.put_tagged-p.ensures c.put_spaced-p.ensures c.put_spaced-p-2.ensures c.put_run.ensures (omega arith)

@@ -1,20 +1,8 @@
-use Rattle.std.proofs.Common.{◌≡◌, length, ap, ◌∙◌, arith, rules}
+use Rattle.std.proofs.Common.{ap, ◌∙◌, arith, rules}
 use Rattle.drill_lines.specs.Lines.{envelope_line, custody_line, tomb_line}
 use Rattle.text.proofs.TextLaws.{puts_within, puts_none}
 use Rattle.drill_lines.proofs.LineLaws.{puts_as, line_envelope, line_custody, line_tomb, line_fetch}
 use Rattle.drill_lines.proofs.reply_line.Goals as goal
-
-pub get_array-tag-requires : goal.get_array-tag-requires
-get_array-tag-requires c = omega (arith, (let h : length c.args.row.body ≡ 37 = search rules in h))
-
-pub get_u32-requires : goal.get_u32-requires
-get_u32-requires c = omega (arith, (let h : length c.args.row.body ≡ 37 = search rules in h))
-
-pub get_u8-requires : goal.get_u8-requires
-get_u8-requires c = omega (arith, (let h : length c.args.row.body ≡ 37 = search rules in h))
-
-pub get_u8-requires-in-2 : goal.get_u8-requires-in-2
-get_u8-requires-in-2 c = omega (arith, (let h : length c.args.row.body ≡ 37 = search rules in h))
 
 pub returns-in-1 : goal.returns-in-1
 returns-in-1 c = puts_as ((λ i. envelope_line (c.get_array-tag.ensures i) (c.get_u32.ensures i) (c.get_u8.ensures i)) ∙ line_envelope c.args.row c.in-1.is) c.envelope_line.ensures

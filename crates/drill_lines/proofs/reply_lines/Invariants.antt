@@ -8,4 +8,4 @@ use Rattle.drill_lines.proofs.reply_lines.Given as goal
 
 abbrev pub invariant-loop-i : goal.invariant-loop-i
 invariant-loop-i l =
-    (length l.out ≡ length l.initial.out) × Puts (l.i * 96) l.initial.out l.at (flat_map reply_line (take l.i (table_of reply_codec l.count l.replies))) l.p l.out
+    (length l.out ≡ length l.initial.out) × Puts (l.i * 96) l.initial.out l.at (flat_map reply_line (take l.i (table_of reply_codec l.replies.count l.replies.area.now))) l.p l.out

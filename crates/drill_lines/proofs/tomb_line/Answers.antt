@@ -5,4 +5,4 @@ use Rattle.drill_lines.proofs.tomb_line.Goals as goal
 
 pub returns : goal.returns
 unfolding tomb_line
-returns c = line2 c.requires c.put_tagged-p.ensures c.put_run.ensures (omega arith)
+returns c = line2 (omega arith) c.put_tagged-p.ensures c.put_run.ensures (omega arith)

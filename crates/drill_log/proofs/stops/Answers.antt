@@ -3,5 +3,5 @@ use Rattle.std.proofs.Common.{ℕ, eqb, sym, ap, ◌∙◌}
 use Rattle.drill_lines.specs.Lines.{stops_at}
 use Rattle.drill_log.proofs.stops.Goals as goal
 
-pub returns-in-Refused : goal.returns-in-Refused
-returns-in-Refused c = ap (λ (n : ℕ). eqb n 13) c.number.ensures ∙ ap stops_at (sym c.in-Refused.is)
+pub returns-in-Err : goal.returns-in-Err
+returns-in-Err c = ap (λ (n : ℕ). eqb n 13) c.number.ensures ∙ ap stops_at (sym c.in-Err.is)

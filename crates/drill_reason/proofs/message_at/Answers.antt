@@ -7,5 +7,5 @@ use Rattle.drill_reason.proofs.message_at.Goals as goal
 pub returns : goal.returns
 unfolding message_of
 returns c =
-    texts3 c.put_place-p.ensures c.put_run-p.ensures (words_put _ (c.words.ensures ∙ ap words_of c.reason_at-reason.ensures) c.put_run.ensures) (omega arith)
-    c.requires.longest_message_in_bounds
+    texts3 c.put_place-p.ensures c.put_run-p.ensures (words_put _ (c.words.ensures ∙ ap words_of c.reason_of-reason.ensures) c.put_run.ensures) (omega arith)
+    c.requires

@@ -4,5 +4,5 @@ use Rattle.fetch.proofs.give_carried.Goals as goal
 
 pub returns : goal.returns
 returns c =
-    given_carried _ _ _ _ _ _ _ _ c.carried_at-row.ensures c.carried_cell.ensures c.carried_header.ensures
+    given_carried _ _ _ _ _ _ _ _ c.read-row.ensures c.carried_cell.ensures c.carried_header.ensures
     c.put_envelope.ensures c.cell_part.ensures

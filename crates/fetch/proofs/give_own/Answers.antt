@@ -4,5 +4,5 @@ use Rattle.fetch.proofs.give_own.Goals as goal
 
 pub returns : goal.returns
 returns c =
-    given_own _ _ _ _ _ _ _ _ c.own_at-row.ensures c.own_cell.ensures c.own_header.ensures
+    given_own _ _ _ _ _ _ _ _ c.read-row.ensures c.own_cell.ensures c.own_header.ensures
     c.put_envelope.ensures c.cell_part.ensures

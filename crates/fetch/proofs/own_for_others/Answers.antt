@@ -10,7 +10,7 @@ use Rattle.fetch.proofs.own_for_others.Goals as goal
 pub returns : goal.returns
 unfolding own_of
 returns c =
-    table_find own_codec _ _ _ c.fit-n.ensures.is _ (for_others c.args.peer c.args.tag) (λ b. refl) _
+    table_find own_codec _ _ _ refl _ (for_others c.args.peer c.args.tag) (λ b. refl) _
     (c.position.ensures (λ b. for_others c.args.peer c.args.tag (own_of b)) (λ row b h e.
     let other = not (eqb (num (part row.now 0 8)) c.args.peer.0) in
     let s : b ≡ (other && same_bytes (part row.now 12 16) (part c.args.tag 0 16)) = search rules in

@@ -2,11 +2,10 @@
 use Rattle.rows.specs.Rows.{offer_codec, offer_of}
 use Rattle.table.proofs.TableLaws.{table_find}
 use Rattle.table.proofs.FindLaws.{key_run}
-use Rattle.handover.proofs.HandLaws.{offers_held}
-use Rattle.std.proofs.Common.{rules}
+use Rattle.std.proofs.Common.{refl, rules}
 use Rattle.handover.proofs.offer_of_tag.Goals as goal
 
 pub returns : goal.returns
 unfolding offer_of
 returns c =
-    table_find offer_codec _ _ _ (offers_held _ _ c.fit_to-n.ensures.is) _ _ (λ b. key_run 0 16 _ b (search rules)) _ c.find.ensures
+    table_find offer_codec _ _ _ refl _ _ (λ b. key_run 0 16 _ b (search rules)) _ c.find.ensures

@@ -1,6 +1,6 @@
 -- The offer goes, whatever the code; copies are taken off where it is Accepted.
 use Rattle.std.proofs.Common.{min, length, refl, arith}
-use Rattle.tombs.proofs.MeetLaws.{row_within}
+use Rattle.fetch.proofs.SearchLaws.{row_within}
 use Rattle.handover.proofs.CallLaws.{other_code, not_accepted, accepted}
 use Rattle.handover.proofs.settle.Goals as goal
 

@@ -2,7 +2,7 @@
 use Rattle.std.proofs.Common.{ℕ, length, ap, arith}
 use Rattle.rows.specs.Rows.{own_codec}
 use Rattle.model.specs.Exchange.{no_own, own_lowered}
-use Rattle.tombs.proofs.MeetLaws.{row_within}
+use Rattle.fetch.proofs.SearchLaws.{row_within}
 use Rattle.handover.specs.Handing.{put_of_own}
 use Rattle.handover.proofs.HandLaws.{takes_off}
 use Rattle.handover.proofs.take_off_own.Goals as goal

@@ -1,6 +1,7 @@
 -- Each way out is one row of the model's tests.
-use Rattle.std.proofs.Common.{refl, sym, ◌∙◌}
-use Rattle.inventory.proofs.TestLaws.{same_peer, is_short, is_wrong, is_unknown, is_other_lem, is_passed}
+use Rattle.std.proofs.Common.{not, refl, sym, ap, ◌∙◌}
+use Rattle.contacts.proofs.FindLaws.{same_peer}
+use Rattle.inventory.proofs.TestLaws.{is_short, is_wrong, is_unknown, is_other_lem, is_passed}
 use Rattle.inventory.proofs.tested.Goals as goal
 
 pub returns-then-too_short : goal.returns-then-too_short
@@ -18,10 +19,10 @@ pub returns-then-ne : goal.returns-then-ne
 returns-then-ne c = λ s r.
     is_other_lem _ _ _ _ _ _ _ _ _ s r (sym c.too_short.ensures ∙ c.if-too_short.false)
     (sym c.wrong_rows.ensures ∙ c.if-wrong_rows.false) (sym c.unknown.ensures ∙ c.if-unknown.false)
-    (same_peer _ _ c.args.to (λ p. refl) ∙ sym c.ne.ensures ∙ c.if-ne.true)
+    (ap not (sym (same_peer _ _ (λ p. refl) c.args.to)) ∙ sym c.ne.ensures ∙ c.if-ne.true)
 
 pub returns : goal.returns
 returns c = λ s r.
     is_passed _ _ _ _ _ _ _ _ _ s r (sym c.too_short.ensures ∙ c.if-too_short.false)
     (sym c.wrong_rows.ensures ∙ c.if-wrong_rows.false) (sym c.unknown.ensures ∙ c.if-unknown.false)
-    (same_peer _ _ c.args.to (λ p. refl) ∙ sym c.ne.ensures ∙ c.if-ne.false)
+    (ap not (sym (same_peer _ _ (λ p. refl) c.args.to)) ∙ sym c.ne.ensures ∙ c.if-ne.false)

@@ -1,26 +1,15 @@
 -- `load_record`: by what `decode` says of the blob; it says none of no record that was tested. Assumes nothing.
 use Rattle.std.proofs.Common.{Some, ap, ◌∙◌, arith, rules}
-use Rattle.octets.proofs.Numbers.{bytes_of}
-use Rattle.rows.specs.Proper.{ProperTombstone}
 use Rattle.rows.proofs.Laws.{tombstone_laws}
-use Rattle.load_tests.proofs.BlobLaws.{kind_long, read_lent}
+use Rattle.load_tests.proofs.BlobLaws.{read_lent}
 use Rattle.load.specs.Load.{tombstone_slot}
 use Rattle.load.proofs.InsertLaws.{inserted_by, tombstone_starts}
 use Rattle.load.proofs.LoadLaws.{some_kind, carried_room, loads_carried, tombstone_room, loads_tombstone}
 use Rattle.load.proofs.load_record.Goals as goal
 
-pub slice_bounds-decode-count : goal.slice_bounds-decode-count
-slice_bounds-decode-count c = omega (arith, kind_long _ c.requires.kind)
-
-pub slice_bounds-decode-start : goal.slice_bounds-decode-start
-slice_bounds-decode-start c = let k = kind_long _ c.requires.kind in search rules
-
 pub load_carried-have-requires : goal.load_carried-have-requires
 load_carried-have-requires c =
     carried_room _ _ _ _ _ c.requires (read_lent _ c.decode.ensures (c.in-Some-Carried.is ∙ ap Some c.in-Some-Carried.field-0-is))
-
-pub get_u64-requires : goal.get_u64-requires
-get_u64-requires c = omega (arith, kind_long _ c.requires.kind)
 
 pub insert_row-have-requires : goal.insert_row-have-requires
 insert_row-have-requires c =
@@ -37,13 +26,7 @@ returns-in-Some-Carried c =
 
 pub returns-in-Some-Tombstone : goal.returns-in-Some-Tombstone
 returns-in-Some-Tombstone c =
-    let h : ProperTombstone c.tombstone_of-new.result = record {
-      slot = search rules;
-      tag = record { size = search rules; bytes = bytes_of _ (λ i. search rules) };
-      s = record { size = search rules; bytes = bytes_of _ (λ i. search rules) };
-      expiry_min = search rules;
-    } in
     let q = read_lent _ c.decode.ensures (c.in-Some-Tombstone.is ∙ ap Some c.in-Some-Tombstone.field-0-is) in
     loads_tombstone _ _ _ _ _ c.requires q _ _ _ _ c.get_u64.ensures c.tombstone_of-new.ensures
-    (inserted_by tombstone_laws tombstone_slot tombstone_starts _ _ _ _ _ _ (tombstone_room _ _ _ _ _ c.requires q).0 h c.tombstone_bytes.ensures
+    (inserted_by tombstone_laws tombstone_slot tombstone_starts _ _ _ _ _ _ (tombstone_room _ _ _ _ _ c.requires q).0 c.bytes.ensures.proper c.bytes.ensures.value
     c.insert_row-have.ensures) (search rules)

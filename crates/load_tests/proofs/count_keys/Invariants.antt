@@ -4,4 +4,4 @@ use Rattle.load_tests.proofs.KeyLaws.{Tally}
 use Rattle.load_tests.proofs.count_keys.Given as goal
 
 abbrev pub invariant-loop-i : goal.invariant-loop-i
-invariant-loop-i l = Tally (has_key l.offset l.key) l.keys l.k l.i l.found
+invariant-loop-i l = Tally (has_key l.offset l.key) l.keys.area.now l.keys.count l.i l.found

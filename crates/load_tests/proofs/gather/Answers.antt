@@ -16,17 +16,17 @@ unfolding part
 push-k-requires c =
     let l = row_long c.loop-record.invariant.left c.in-Some.ensures.steps in (
       omega arith,
-      (gather_room c.loop-record.invariant.left c.in-Some.ensures.steps c.has_mark.ensures c.if-has_mark.true, length_part c.in-Some.record.now 13 24 (omega arith)),
+      (gather_room c.loop-record.invariant.left c.in-Some.ensures.steps c.has_key.ensures c.if-has_key.true, length_part c.in-Some.record.now 13 24 (omega arith)),
     )
 
 pub loop-record-preserved : goal.loop-record-preserved
 loop-record-preserved c =
-    record { can = tt; finite = tt; left = gather_past c.loop-record.invariant.left c.in-Some.ensures.steps c.has_mark.ensures c.if-has_mark.false }
+    record { can = tt; finite = tt; left = gather_past c.loop-record.invariant.left c.in-Some.ensures.steps c.has_key.ensures c.if-has_key.false }
 
-pub loop-record-preserved-then-has_mark : goal.loop-record-preserved-then-has_mark
+pub loop-record-preserved-then-has_key : goal.loop-record-preserved-then-has_key
 unfolding part
-loop-record-preserved-then-has_mark c =
-    record { can = tt; finite = tt; left = gather_next c.loop-record.invariant.left c.in-Some.ensures.steps c.has_mark.ensures c.if-has_mark.true c.push-k.ensures }
+loop-record-preserved-then-has_key c =
+    record { can = tt; finite = tt; left = gather_next c.loop-record.invariant.left c.in-Some.ensures.steps c.has_key.ensures c.if-has_key.true c.push-k.ensures }
 
 pub returns : goal.returns
 returns c = gathering_end c.loop-record.invariant.left c.in-None.ensures.steps.0

@@ -5,11 +5,11 @@ use Rattle.load_tests.proofs.test_file.Goals as goal
 pub returns-then-wrong_file : goal.returns-then-wrong_file
 returns-then-wrong_file c = tested_wrong _ _ _ _ c.wrong_file.ensures c.if-wrong_file.true
 
-pub returns-then-min-marked : goal.returns-then-min-marked
-returns-then-min-marked c = tested_cells _ _ _ _ c.wrong_file.ensures c.if-wrong_file.false c.min.ensures c.marked.ensures c.if-min-marked.true
+pub returns-then-min-count : goal.returns-then-min-count
+returns-then-min-count c = tested_cells _ _ _ _ c.wrong_file.ensures c.if-wrong_file.false c.min.ensures c.count.ensures c.if-min-count.true
 
-pub returns-then-room-marked : goal.returns-then-room-marked
-returns-then-room-marked c = tested_rooms _ _ _ _ c.wrong_file.ensures c.if-wrong_file.false c.min.ensures c.marked.ensures c.if-min-marked.false c.marked-2.ensures c.if-room-marked.true
+pub returns-then-room-count : goal.returns-then-room-count
+returns-then-room-count c = tested_rooms _ _ _ _ c.wrong_file.ensures c.if-wrong_file.false c.min.ensures c.count.ensures c.if-min-count.false c.count-2.ensures c.if-room-count.true
 
 pub returns : goal.returns
-returns c = tested_fine _ _ _ _ c.wrong_file.ensures c.if-wrong_file.false c.min.ensures c.marked.ensures c.if-min-marked.false c.marked-2.ensures c.if-room-marked.false
+returns c = tested_fine _ _ _ _ c.wrong_file.ensures c.if-wrong_file.false c.min.ensures c.count.ensures c.if-min-count.false c.count-2.ensures c.if-room-count.false

@@ -13,12 +13,12 @@ returns-then-not-same c = file_mark _ _ _ (omega arith) refl c.same.ensures c.if
 pub returns-then-cut_short : goal.returns-then-cut_short
 returns-then-cut_short c = file_cut _ _ _ (omega arith) c.same.ensures c.if-not-same.false refl (sym c.if-cut_short.true ∙ c.cut_short.ensures)
 
-pub returns-then-marked-gt256 : goal.returns-then-marked-gt256
-returns-then-marked-gt256 c = file_over _ _ _ (omega arith) c.same.ensures c.if-not-same.false (sym c.if-cut_short.false ∙ c.cut_short.ensures) c.marked.ensures refl c.if-marked-gt256.true
+pub returns-then-count-gt256 : goal.returns-then-count-gt256
+returns-then-count-gt256 c = file_over _ _ _ (omega arith) c.same.ensures c.if-not-same.false (sym c.if-cut_short.false ∙ c.cut_short.ensures) c.count.ensures refl c.if-count-gt256.true
 
 pub wrong_records-requires : goal.wrong_records-requires
 unfolding is_carried
-wrong_records-requires c = omega (arith, c.marked.ensures, c.if-marked-gt256.false)
+wrong_records-requires c = omega (arith, c.count.ensures, c.if-count-gt256.false)
 
 pub returns : goal.returns
-returns c = file_records _ _ _ (omega arith) c.same.ensures c.if-not-same.false (sym c.if-cut_short.false ∙ c.cut_short.ensures) c.marked.ensures c.if-marked-gt256.false (by_next _ _ c.get_u64-next.ensures c.wrong_records.ensures)
+returns c = file_records _ _ _ (omega arith) c.same.ensures c.if-not-same.false (sym c.if-cut_short.false ∙ c.cut_short.ensures) c.count.ensures c.if-count-gt256.false (by_next _ _ c.get_u64-next.ensures c.wrong_records.ensures)

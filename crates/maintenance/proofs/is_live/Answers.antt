@@ -3,4 +3,4 @@ use Rattle.maintenance.proofs.TestLaws.{live_row_lem}
 use Rattle.maintenance.proofs.is_live.Goals as goal
 
 pub returns : goal.returns
-returns c = live_row_lem _ _ _ _ c.args.minute c.requires.1 c.get_u32.ensures
+returns c = live_row_lem _ _ c.args.minute c.get_u32.ensures

@@ -12,16 +12,16 @@ loop-i-init c = (putting_start _ _ _ _ _ _, refl)
 pub loop-i-preserved : goal.loop-i-preserved
 loop-i-preserved c = elim c.if-row-minute.branch [
   | then-row-minute w ↦ (
-    putting_put own_codec _ _ _ _ _ _ _ _ c.loop-i.invariant.0 (omega (arith, c.fit-n.ensures.is)) c.own_at-row.ensures _ _ (le-leb _ _ w.if-row-minute.true) w.k-is
-        (omega (arith, c.loop-i.invariant.0.below, c.fit-n.ensures.is, w.k-is, c.requires)) (w.actions-is ∙ w.put_queued.ensures),
+    putting_put own_codec _ _ _ _ _ _ _ _ c.loop-i.invariant.0 (omega (arith, c.len-n.ensures.is)) c.read-row.ensures _ _ (le-leb _ _ w.if-row-minute.true) w.k-is
+        (omega (arith, c.loop-i.invariant.0.below, c.len-n.ensures.is, w.k-is, c.requires)) (w.actions-is ∙ w.put_queued.ensures),
     c.if-row-minute.auto.actions ∙ c.loop-i.auto.actions,
   )
   | else-row-minute w ↦ (
-    putting_pass own_codec _ _ _ _ _ _ _ _ c.loop-i.invariant.0 (omega (arith, c.fit-n.ensures.is)) c.own_at-row.ensures _ _ (lt-leb _ _ w.if-row-minute.false) w.k-is w.actions-is,
+    putting_pass own_codec _ _ _ _ _ _ _ _ c.loop-i.invariant.0 (omega (arith, c.len-n.ensures.is)) c.read-row.ensures _ _ (lt-leb _ _ w.if-row-minute.false) w.k-is w.actions-is,
     c.if-row-minute.auto.actions ∙ c.loop-i.auto.actions,
   )
 ]
 
 pub returns : goal.returns
 unfolding own_puts
-returns c = putting_end own_codec _ _ _ _ _ _ _ _ c.loop-i.invariant.0 (omega (arith, c.fit-n.ensures.is))
+returns c = putting_end own_codec _ _ _ _ _ _ _ _ c.loop-i.invariant.0 (omega (arith, c.len-n.ensures.is))

@@ -14,10 +14,10 @@ loop-i-init c = rewrite_start own_laws _ _ (λ r. renewed_proper c.args.minute r
 pub loop-i-preserved : goal.loop-i-preserved
 loop-i-preserved c = elim c.if-stays.branch [
   | then-stays w ↦ rewrite_keep own_laws _ _ (λ r. renewed_proper c.args.minute r (search rules) (search rules)) _ _ (bytes_of _ (λ i. search rules)) _ _ _ c.loop-i.invariant
-      (omega (arith, c.fit-n.ensures.is)) c.own_at-row.ensures _ _ _ (sym c.stays.ensures ∙ w.if-stays.true) w.k-is
-      (w.own_bytes-b.ensures ∙ ap own_bytes w.renew_expired.ensures) (w.own-is ∙ w.copy_in.ensures)
+      (omega (arith, c.fit-n.ensures.is)) c.read-row.ensures _ _ _ (sym c.stays.ensures ∙ w.if-stays.true) w.k-is
+      (ap own_bytes w.renew_expired.ensures) (w.own-is ∙ w.put.ensures)
   | else-stays w ↦ rewrite_drop own_laws _ _ (λ r. renewed_proper c.args.minute r (search rules) (search rules)) _ _ (bytes_of _ (λ i. search rules)) _ _ _ c.loop-i.invariant
-      (omega (arith, c.fit-n.ensures.is)) c.own_at-row.ensures _ _ (sym c.stays.ensures ∙ w.if-stays.false) w.k-is w.own-is
+      (omega (arith, c.fit-n.ensures.is)) c.read-row.ensures _ _ (sym c.stays.ensures ∙ w.if-stays.false) w.k-is w.own-is
 ]
 
 pub returns : goal.returns

@@ -1,12 +1,12 @@
--- What stands in the lent part is all of src.
-use mathlib.Core.Path.{ap, ◌∙◌}
-use native.Mathlib.Omega.{arith}
-use lib.ListN.{length}
-use Rattle.octets.specs.Bytes.{splice}
-use Rattle.octets.proofs.Parts.{lent_splice}
+use Rattle.std.proofs.Common.{arith}
+use Rattle.octets.proofs.Parts.{copied_more, splice_nil, part_nil, part_whole}
 use Rattle.octets.proofs.copy_in.Goals as goal
 
+pub loop-k-init : goal.loop-k-init
+loop-k-init c = grind (arith, part_nil c.args.src.now 0, splice_nil c.args.dst.now c.args.at)
+
+pub loop-k-preserved : goal.loop-k-preserved
+loop-k-preserved c = grind (arith, c.loop-k.invariant, copied_more c.args.dst.now c.args.src.now c.args.at 0 c.loop-k.k (omega (arith, c.requires, c.loop-k-test.true)) (omega (arith, c.loop-k-test.true)))
+
 pub returns : goal.returns
-returns c =
-    lent_splice c.args.dst.now c.copy_from_slice.new.self c.args.at _ (omega (arith, ap length c.copy_from_slice.ensures.after))
-    ∙ ap (splice c.args.dst.now c.args.at) c.copy_from_slice.ensures.after
+returns c = grind (arith, c.loop-k.invariant, part_whole c.args.src.now c.loop-k.k (omega arith))

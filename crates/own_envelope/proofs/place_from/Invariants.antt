@@ -3,4 +3,4 @@ use Rattle.std.proofs.Common.{◌*◌, ◌≤◌, length}
 use Rattle.own_envelope.proofs.place_from.Given as goal
 
 abbrev pub invariant-loop-k : goal.invariant-loop-k
-invariant-loop-k l = l.n * 9 ≤ length l.contacts
+invariant-loop-k l = l.n * 9 ≤ length l.contacts.area.now

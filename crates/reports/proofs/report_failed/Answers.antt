@@ -12,8 +12,8 @@ returns-then-is_bad c a =
 
 pub returns-then-bad_tags-count : goal.returns-then-bad_tags-count
 returns-then-bad_tags-count c a =
-    failed_full _ _ _ _ _ a c.if-not-known.ensures c.if-is_bad.ensures c.fit-count.ensures.is (omega arith)
+    failed_full _ _ _ _ _ a c.if-not-known.ensures c.if-is_bad.ensures c.len-count.ensures.is (omega arith)
 
 pub returns : goal.returns
 returns c a =
-    failed_added _ _ _ _ _ a c.if-not-known.ensures c.if-is_bad.ensures c.fit-count.ensures.is (omega arith) c.add_bad-device.ensures
+    failed_added _ _ _ _ _ a c.if-not-known.ensures c.if-is_bad.ensures c.len-count.ensures.is (omega arith) c.push-device.ensures

@@ -1,7 +1,7 @@
 -- The tests in order, and then the choice.
-use Rattle.std.proofs.Common.{length, min, ap, ◌∙◌, arith}
+use Rattle.std.proofs.Common.{min, ap, ◌∙◌}
 use Rattle.std.proofs.lemmas.Result.{err_from_is_err_and}
-use Rattle.reports.proofs.CallLaws.{answers_long, opened_short, opened_stranger, opened_refused, opened_stored}
+use Rattle.reports.proofs.CallLaws.{opened_short, opened_stranger, opened_refused, opened_stored}
 use Rattle.reports.proofs.report_opened.Goals as goal
 
 pub returns-then-short_answers : goal.returns-then-short_answers
@@ -10,14 +10,6 @@ returns-then-short_answers c a = opened_short _ _ _ _ _ _ _ _ _ a c.if-short_ans
 pub returns-then-not-known : goal.returns-then-not-known
 returns-then-not-known c a =
     opened_stranger _ _ _ _ _ _ _ _ _ a c.if-short_answers.ensures c.if-not-known.ensures
-
-pub put_tomb-requires : goal.put_tomb-requires
-put_tomb-requires c =
-    omega (arith, (answers_long (length c.args.replies.now) (length c.args.actions.now) (length c.args.tombstones.now) c.if-short_answers.ensures).0)
-
-pub store_tombstone-requires : goal.store_tombstone-requires
-store_tombstone-requires c =
-    (c.in_ok-how.ensures.1, omega (arith, (answers_long (length c.args.replies.now) (length c.args.actions.now) (length c.args.tombstones.now) c.if-short_answers.ensures).1))
 
 pub returns-in_err-how : goal.returns-in_err-how
 returns-in_err-how c a =

@@ -1,5 +1,5 @@
 -- The area is too short, or the file is the model's.
-use Rattle.std.proofs.Common.{sym, ◌∙◌, rules}
+use Rattle.std.proofs.Common.{refl, sym, ◌∙◌, arith}
 use Rattle.saved.proofs.SaveLaws.{says_no_room, rooms, says_saved}
 use Rattle.saved.proofs.save.Goals as goal
 
@@ -9,10 +9,8 @@ returns-then-short_file c a =
 
 pub save_file-requires : goal.save_file-requires
 save_file-requires c =
-    rooms _ _ _ _ _ (search rules) (sym c.short_file.ensures ∙ c.if-short_file.false) c.fit_to.ensures.is
-    c.fit_to.ensures.inside c.fit.ensures.is c.fit.ensures.inside
+    rooms c.fit-rows.ensures _ _ (omega (arith, c.min.ensures)) (sym c.short_file.ensures ∙ c.if-short_file.false)
 
 pub returns : goal.returns
 returns c a =
-    says_saved _ _ _ a _ c.cell_count-cells.ensures.0 (sym c.short_file.ensures ∙ c.if-short_file.false)
-    (search rules) c.fit_to.ensures.is c.fit.ensures.is _ _ c.save_file.ensures
+    says_saved _ _ _ a _ c.cell_count-cells.ensures.0 c.fit-rows.ensures c.min.ensures refl (sym c.short_file.ensures ∙ c.if-short_file.false) _ _ c.save_file.ensures

@@ -1,18 +1,9 @@
-use mathlib.Core.Path.{sym}
-use native.Mathlib.Nat.{sub-zero}
-use native.Mathlib.Omega.{arith}
-use Rattle.sha_block.proofs.Loop.{again, done}
+use Rattle.std.proofs.Common.{arith}
 use Rattle.sha_block.specs.Loop.{turns}
-use Rattle.sha384.specs.Sha384.{next, hashed}
+use Rattle.sha_block.proofs.Loop.{turns_add}
+use Rattle.sha384.specs.Sha384.{next}
 use Rattle.sha384.proofs.blocks.Goals as goal
-
-pub loop-i-init : goal.loop-i-init
-unfolding hashed
-loop-i-init c = rw sub-zero
 
 pub loop-i-preserved : goal.loop-i-preserved
 unfolding turns next
-loop-i-preserved c = again _ _ c.loop-i.i _ c.loop-i.invariant 1 (omega arith) c.block-next.ensures
-
-pub returns : goal.returns
-returns c = sym (done _ _ c.loop-i.i _ c.loop-i.invariant (omega arith))
+loop-i-preserved c = grind (arith, turns_add (next c.args.m.now) c.loop-i.i 1 0 c.args.g)

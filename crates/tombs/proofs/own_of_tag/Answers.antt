@@ -2,10 +2,10 @@
 use Rattle.rows.specs.Rows.{own_codec, own_of}
 use Rattle.table.proofs.TableLaws.{table_find}
 use Rattle.table.proofs.FindLaws.{key_run}
-use Rattle.std.proofs.Common.{rules}
+use Rattle.std.proofs.Common.{refl, rules}
 use Rattle.tombs.proofs.own_of_tag.Goals as goal
 
 pub returns : goal.returns
 unfolding own_of
 returns c =
-    table_find own_codec _ _ _ c.fit-n.ensures.is _ _ (λ b. key_run 12 16 _ b (search rules)) _ c.find.ensures
+    table_find own_codec _ _ _ refl _ _ (λ b. key_run 12 16 _ b (search rules)) _ c.find.ensures

@@ -6,4 +6,4 @@ use Rattle.tombs.proofs.place_by_slot.Goals as goal
 
 pub returns : goal.returns
 returns c =
-    c.unwrap_or.ensures ∙ place_found _ _ _ c.fit-n.ensures.is (c.position.ensures (λ b. ltb c.args.slot (num (part b 0 8))) (λ row b h e. search rules))
+    c.unwrap_or.ensures ∙ place_found _ _ _ c.len.ensures.is (c.position.ensures (λ b. ltb c.args.slot (num (part b 0 8))) (λ row b h e. search rules))

@@ -1,8 +1,6 @@
 -- The tests in order, and then one match on what is met.
-use Rattle.std.proofs.Common.{length, sym, ap, ◌∙◌, arith}
-use Rattle.tombstones.proofs.ChoiceLaws.{rows_listed}
+use Rattle.std.proofs.Common.{sym, ap, ◌∙◌}
 use Rattle.tombs.specs.Tombs.{met_of}
-use Rattle.tombs.proofs.MeetLaws.{inside_carried, inside_own}
 use Rattle.tombs.proofs.CallLaws.{tomb_short, tomb_stranger, tomb_turned, tomb_ended, tomb_wrong, tomb_unknown}
 use Rattle.tombs.proofs.receive_tomb.Goals as goal
 
@@ -12,14 +10,6 @@ returns-then-short_actions c a = tomb_short _ _ _ _ _ _ _ _ _ a c.if-short_actio
 pub returns-then-not-known : goal.returns-then-not-known
 returns-then-not-known c a =
     tomb_stranger _ _ _ _ _ _ _ _ _ a c.if-short_actions.ensures c.if-not-known.ensures
-
-pub turn-requires : goal.turn-requires
-turn-requires c =
-    (inside_carried _ _ _ c.in-CarriedAt.is c.meets.ensures.inside, omega (arith, rows_listed (length c.args.actions.now) (length c.args.tombstones.now) c.if-short_actions.ensures))
-
-pub end_own-requires : goal.end_own-requires
-end_own-requires c =
-    (inside_own _ _ _ c.in-OwnAt.is c.meets.ensures.inside, omega (arith, rows_listed (length c.args.actions.now) (length c.args.tombstones.now) c.if-short_actions.ensures))
 
 pub returns-in-CarriedAt : goal.returns-in-CarriedAt
 returns-in-CarriedAt c a =

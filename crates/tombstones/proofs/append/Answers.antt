@@ -1,7 +1,8 @@
--- The rows that fit, and one more.
-use Rattle.tombstones.proofs.WriteLaws.{grown_added}
+-- One row more, and the next slot taken.
+use Rattle.std.proofs.Common.{ap}
+use Rattle.tombstones.specs.Tombstones.{device_after}
 use Rattle.tombstones.proofs.append.Goals as goal
 
 pub returns : goal.returns
-returns c =
-    grown_added _ _ _ _ _ _ _ c.fit-n.ensures.is c.push_tombstone.ensures.1 c.push_tombstone.ensures.0
+unfolding device_after
+returns c = record { table = c.push-device.ensures; device = ap (device_after c.args.device.now) c.push-device.ensures.count }

@@ -11,24 +11,24 @@ returns-then-tombstoned c = (choose _ _ _ _ refl true _ _ _ (sym c.tombstoned.en
 
 pub returns-then-tombstones-n : goal.returns-then-tombstones-n
 returns-then-tombstones-n c =
-    (choose _ _ _ _ c.fit-n.ensures.is false true _ _ (sym c.tombstoned.ensures ∙ c.if-tombstoned.false) (grind (arith, nat_tests)) refl refl refl, tt)
+    (choose _ _ _ _ c.len-n.ensures.is false true _ _ (sym c.tombstoned.ensures ∙ c.if-tombstoned.false) (grind (arith, nat_tests)) refl refl refl, tt)
 
 pub returns-then-device-eq18446744073709551615 : goal.returns-then-device-eq18446744073709551615
 returns-then-device-eq18446744073709551615 c =
-    (choose _ _ _ _ c.fit-n.ensures.is false false true _ (sym c.tombstoned.ensures ∙ c.if-tombstoned.false) (grind (arith, nat_tests)) (grind (arith, nat_tests)) refl refl, tt)
+    (choose _ _ _ _ c.len-n.ensures.is false false true _ (sym c.tombstoned.ensures ∙ c.if-tombstoned.false) (grind (arith, nat_tests)) (grind (arith, nat_tests)) refl refl, tt)
 
 pub returns-then-n-lt-MAX_TOMBSTONES-2 : goal.returns-then-n-lt-MAX_TOMBSTONES-2
 returns-then-n-lt-MAX_TOMBSTONES-2 c = (
-  choose _ _ _ _ c.fit-n.ensures.is false false false false (sym c.tombstoned.ensures ∙ c.if-tombstoned.false) (grind (arith, nat_tests)) (grind (arith, nat_tests)) (grind (arith, nat_tests)) refl,
-  record { rows = omega (arith, c.fit-n.ensures.is); slot = omega arith },
+  choose _ _ _ _ c.len-n.ensures.is false false false false (sym c.tombstoned.ensures ∙ c.if-tombstoned.false) (grind (arith, nat_tests)) (grind (arith, nat_tests)) (grind (arith, nat_tests)) refl,
+  record { rows = omega (arith, c.len-n.ensures.is); slot = omega arith },
 )
 
 pub returns : goal.returns
 returns c = (
-  choose _ _ _ _ c.fit-n.ensures.is false false false true (sym c.tombstoned.ensures ∙ c.if-tombstoned.false) (grind (arith, nat_tests)) (grind (arith, nat_tests)) (grind (arith, nat_tests)) c.least_expiry.ensures.is,
+  choose _ _ _ _ c.len-n.ensures.is false false false true (sym c.tombstoned.ensures ∙ c.if-tombstoned.false) (grind (arith, nat_tests)) (grind (arith, nat_tests)) (grind (arith, nat_tests)) c.least_expiry.ensures.is,
   record {
-    row = omega (arith, c.least_expiry.ensures.inside, c.fit-n.ensures.is, length_table tombstone_codec c.args.device.tombstones c.args.tombstones.now);
-    rows = omega (arith, c.fit-n.ensures.is, c.fit-n.ensures.inside);
+    row = omega (arith, c.least_expiry.ensures.inside, c.len-n.ensures.is, length_table tombstone_codec c.args.device.tombstones c.args.tombstones.now);
+    rows = omega (arith, c.len-n.ensures.is, c.len-n.ensures.inside);
     slot = omega arith;
   },
 )

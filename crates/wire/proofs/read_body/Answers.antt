@@ -1,9 +1,6 @@
-use Rattle.std.proofs.Common.{sym, refl, ◌∙◌}
+use Rattle.std.proofs.Common.{refl}
 use Rattle.wire.proofs.BodyLaws.{told_fit, told_unfit}
 use Rattle.wire.proofs.read_body.Goals as goal
-
-pub values_of-requires : goal.values_of-requires
-values_of-requires c = sym c.is_fit.ensures ∙ c.if-is_fit.true
 
 pub returns-then-is_fit : goal.returns-then-is_fit
 returns-then-is_fit c = told_fit _ _ _ c.is_fit.ensures c.if-is_fit.true c.values_of.ensures

@@ -1,3 +1,4 @@
+-- A body that fits its mark has the mark's least size. Assumes nothing.
 use Rattle.std.proofs.Common.{arith}
 use Rattle.wire.proofs.HeadLaws.{size_of}
 use Rattle.wire.specs.declared.Mark.TheVariants as mark
@@ -6,11 +7,14 @@ use Rattle.wire.proofs.values_of.Goals as goal
 pub get_u64-requires : goal.get_u64-requires
 get_u64-requires c = size_of _ mark.Clock c.in-Clock.is c.requires
 
-pub contact_in-requires : goal.contact_in-requires
-contact_in-requires c = size_of _ mark.Contact c.in-Contact.is c.requires
-
 pub peer_in-requires : goal.peer_in-requires
-peer_in-requires c = size_of _ mark.Session c.in-Session.is c.requires
+peer_in-requires c = omega (arith, size_of _ mark.Contact c.in-Contact.is c.requires)
+
+pub get_u8-requires : goal.get_u8-requires
+get_u8-requires c = size_of _ mark.Contact c.in-Contact.is c.requires
+
+pub peer_in-requires-in-Session : goal.peer_in-requires-in-Session
+peer_in-requires-in-Session c = size_of _ mark.Session c.in-Session.is c.requires
 
 pub peer_in-requires-in-Envelope : goal.peer_in-requires-in-Envelope
 peer_in-requires-in-Envelope c = omega (arith, size_of _ mark.Envelope c.in-Envelope.is c.requires)
@@ -21,8 +25,11 @@ peer_in-requires-in-Inventory c = size_of _ mark.Inventory c.in-Inventory.is c.r
 pub peer_in-requires-in-Fetch : goal.peer_in-requires-in-Fetch
 peer_in-requires-in-Fetch c = omega (arith, size_of _ mark.Fetch c.in-Fetch.is c.requires)
 
-pub custody_in-requires : goal.custody_in-requires
-custody_in-requires c = size_of _ mark.Custody c.in-Custody.is c.requires
+pub peer_in-requires-in-Custody : goal.peer_in-requires-in-Custody
+peer_in-requires-in-Custody c = omega (arith, size_of _ mark.Custody c.in-Custody.is c.requires)
+
+pub get_u8-requires-in-Custody : goal.get_u8-requires-in-Custody
+get_u8-requires-in-Custody c = size_of _ mark.Custody c.in-Custody.is c.requires
 
 pub peer_in-requires-in-Tomb : goal.peer_in-requires-in-Tomb
 peer_in-requires-in-Tomb c = omega (arith, size_of _ mark.Tomb c.in-Tomb.is c.requires)

@@ -1,23 +1,30 @@
 -- `Tables::duplicate`: the first of the three tables that has the tag decides. Assumes nothing.
-use Rattle.std.proofs.Common.{true, false, sym, refl, ◌∙◌}
-use Rattle.custody.proofs.Laws.{clash, duplicate_of}
+use Rattle.std.proofs.Common.{◌≡◌, true, false, length, sym, refl, ◌∙◌, rules}
+use Rattle.rows.specs.Rows.{own_codec, own_of, carried_codec, carried_of}
+use Rattle.custody.proofs.Laws.{clash, tagged, duplicate_of}
 use Rattle.custody.proofs.Tables.duplicate.Goals as goal
-use Rattle.custody.proofs.Tables.duplicate.Goals.{then-own_tagged, else-own_tagged}
+use Rattle.custody.proofs.Tables.duplicate.Goals.{then-has, else-has}
 
-pub returns-then-carried_tagged : goal.returns-then-carried_tagged
-returns-then-carried_tagged c = λ a ed eo ec et.
-    elim c.if-own_tagged.branch [
-      | then-own_tagged w ↦ c.if-carried_tagged.true ∙ sym (duplicate_of _ a ed eo ec et true _ _ (sym c.own_tagged.ensures ∙ w.if-own_tagged.true) refl refl)
-      | else-own_tagged w ↦
-          c.if-carried_tagged.true ∙ sym (duplicate_of _ a ed eo ec et false true _ (sym c.own_tagged.ensures ∙ w.if-own_tagged.false)
-          (sym w.carried_tagged.ensures ∙ sym w.value-is ∙ c.if-carried_tagged.true) refl)
+pub returns-then-has-2 : goal.returns-then-has-2
+unfolding own_of carried_of
+returns-then-has-2 c = λ a ed eo ec et.
+    let l : length c.args.tag ≡ 16 = search rules in
+    let o = tagged own_codec (λ r. r.tag) 12 (λ b. refl) _ _ _ _ l c.has.ensures in
+    elim c.if-has.branch [
+      | then-has w ↦ c.if-has-2.true ∙ sym (duplicate_of _ a ed eo ec et true _ _ (o ∙ w.if-has.true) refl refl)
+      | else-has w ↦
+          c.if-has-2.true ∙ sym (duplicate_of _ a ed eo ec et false true _ (o ∙ w.if-has.false)
+          (tagged carried_codec (λ r. r.tag) 16 (λ b. refl) _ _ _ _ l w.has-else-has.ensures ∙ sym w.value-is ∙ c.if-has-2.true) refl)
     ]
 
-pub returns-else-carried_tagged : goal.returns-else-carried_tagged
-returns-else-carried_tagged c = λ a ed eo ec et.
-    elim c.if-own_tagged.branch [
-      | then-own_tagged w ↦ clash _ (w.value-is ∙ w.if-own_tagged.true) c.if-carried_tagged.false
-      | else-own_tagged w ↦
-          sym (duplicate_of _ a ed eo ec et false false _ (sym c.own_tagged.ensures ∙ w.if-own_tagged.false)
-          (sym w.carried_tagged.ensures ∙ sym w.value-is ∙ c.if-carried_tagged.false) (sym c.tombstoned.ensures))
+pub returns-else-has-2 : goal.returns-else-has-2
+unfolding own_of carried_of
+returns-else-has-2 c = λ a ed eo ec et.
+    let l : length c.args.tag ≡ 16 = search rules in
+    let o = tagged own_codec (λ r. r.tag) 12 (λ b. refl) _ _ _ _ l c.has.ensures in
+    elim c.if-has.branch [
+      | then-has w ↦ clash _ (w.value-is ∙ w.if-has.true) c.if-has-2.false
+      | else-has w ↦
+          sym (duplicate_of _ a ed eo ec et false false _ (o ∙ w.if-has.false)
+          (tagged carried_codec (λ r. r.tag) 16 (λ b. refl) _ _ _ _ l w.has-else-has.ensures ∙ sym w.value-is ∙ c.if-has-2.false) (sym c.tombstoned.ensures))
     ]

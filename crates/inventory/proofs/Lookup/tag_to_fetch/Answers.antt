@@ -4,26 +4,26 @@ use Rattle.inventory.proofs.ListedLaws.{window_row_lem, fetch_none, fetch_bad, f
 use Rattle.inventory.proofs.Lookup.tag_to_fetch.Goals as goal
 
 pub overflow_mul-i : goal.overflow_mul-i
-overflow_mul-i c = omega (arith, window_row_lem _ _ _ (sym c.in_ok-i.was ∙ c.lookup.ensures))
+overflow_mul-i c = omega (arith, window_row_lem _ _ _ (sym c.in_ok-i.was ∙ c.lookup_prefix.ensures))
 
 pub overflow_add-i : goal.overflow_add-i
-overflow_add-i c = omega (arith, window_row_lem _ _ _ (sym c.in_ok-i.was ∙ c.lookup.ensures))
+overflow_add-i c = omega (arith, window_row_lem _ _ _ (sym c.in_ok-i.was ∙ c.lookup_prefix.ensures))
 
 pub get_array-tag-requires : goal.get_array-tag-requires
-get_array-tag-requires c = omega (arith, window_row_lem _ _ _ (sym c.in_ok-i.was ∙ c.lookup.ensures))
+get_array-tag-requires c = omega (arith, window_row_lem _ _ _ (sym c.in_ok-i.was ∙ c.lookup_prefix.ensures))
 
 pub returns-in_err-i : goal.returns-in_err-i
-returns-in_err-i c = rw c.from_residual.ensures (fetch_none _ _ _ _ _ (sym c.in_err-i.was ∙ c.lookup.ensures))
+returns-in_err-i c = rw c.from_residual.ensures (fetch_none _ _ _ _ _ (sym c.in_err-i.was ∙ c.lookup_prefix.ensures))
 
 pub returns-then-is_bad : goal.returns-then-is_bad
-returns-then-is_bad c = fetch_bad _ _ _ _ _ _ (sym c.in_ok-i.was ∙ c.lookup.ensures) _ c.get_array-tag.ensures (sym c.is_bad.ensures ∙ c.if-is_bad.true)
+returns-then-is_bad c = fetch_bad _ _ _ _ _ _ (sym c.in_ok-i.was ∙ c.lookup_prefix.ensures) _ c.get_array-tag.ensures (sym c.is_bad.ensures ∙ c.if-is_bad.true)
 
 pub returns-then-tombstoned : goal.returns-then-tombstoned
 returns-then-tombstoned c =
-    fetch_tombstoned _ _ _ _ _ _ (sym c.in_ok-i.was ∙ c.lookup.ensures) _ c.get_array-tag.ensures (sym c.is_bad.ensures ∙ c.if-is_bad.false)
+    fetch_tombstoned _ _ _ _ _ _ (sym c.in_ok-i.was ∙ c.lookup_prefix.ensures) _ c.get_array-tag.ensures (sym c.is_bad.ensures ∙ c.if-is_bad.false)
     (sym c.tombstoned.ensures ∙ c.if-tombstoned.true)
 
 pub returns : goal.returns
 returns c =
-    fetch_tag _ _ _ _ _ _ (sym c.in_ok-i.was ∙ c.lookup.ensures) _ c.get_array-tag.ensures (sym c.is_bad.ensures ∙ c.if-is_bad.false)
+    fetch_tag _ _ _ _ _ _ (sym c.in_ok-i.was ∙ c.lookup_prefix.ensures) _ c.get_array-tag.ensures (sym c.is_bad.ensures ∙ c.if-is_bad.false)
     (sym c.tombstoned.ensures ∙ c.if-tombstoned.false)

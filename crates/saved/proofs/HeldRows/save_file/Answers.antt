@@ -5,4 +5,4 @@ use Rattle.saved.proofs.HeldRows.save_file.Goals as goal
 
 pub returns : goal.returns
 returns c =
-    file_filled _ _ _ _ _ _ _ (omega (arith, c.requires.size)) c.marked-head.ensures c.copy_in.ensures c.save_rows.ensures
+    file_filled _ _ _ _ _ _ _ (omega (arith, c.requires)) c.marked-head.ensures c.copy_in.ensures c.save_rows.ensures

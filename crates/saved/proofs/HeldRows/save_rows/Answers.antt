@@ -7,8 +7,7 @@ loop-row-init c = (omega arith, saving_start _ _)
 
 pub loop-row-preserved : goal.loop-row-preserved
 loop-row-preserved c =
-    (omega (arith, c.save_next.ensures.on), saving_more _ _ c.requires.size _ _ c.loop-row.invariant.1 _ _ c.save_next.ensures)
+    (omega (arith, c.save_next.ensures.on), saving_more _ _ c.requires _ _ c.loop-row.invariant.1 _ _ c.save_next.ensures)
 
 pub returns : goal.returns
-returns c =
-    saving_end _ _ c.requires.size _ _ c.loop-row.invariant.1 (omega arith)
+returns c = saving_end _ _ c.requires _ _ c.loop-row.invariant.1 (omega arith)

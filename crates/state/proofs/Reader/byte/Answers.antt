@@ -1,7 +1,5 @@
-use Rattle.std.proofs.Common.{arith, sym}
-use Rattle.state.proofs.ReaderLaws.{take_some}
-use Rattle.octets.specs.Bytes.{num}
+use Rattle.state.proofs.ReaderLaws.{byte_some}
 use Rattle.state.proofs.Reader.byte.Goals as goal
 
-pub overflow_add-self : goal.overflow_add-self
-overflow_add-self c = omega (arith, (take_some 1 c.args.self.now.blob.now c.args.self.now.at num _ (sym c.in_ok-byte.ensures)).0)
+pub returns-clause-gives : goal.returns-clause-gives
+returns-clause-gives c = byte_some c.args.self.now.blob.now c.args.self.now.at c.in_ok-array.ensures.gives

@@ -1,0 +1,16 @@
+// The held rows of a device, in two tables.
+#![tactic(auto)]
+
+ghost use Rattle.std.specs.Prelude.{◌*◌, ◌≤◌, length};
+
+use rows::{CARRIED_WIDTH, TOMBSTONE_WIDTH};
+use table::Table;
+
+// Carried rows and tombstones: each table has as many rows as its count says.
+#[derive(Clone, Copy)]
+pub struct Held<'a> {
+    pub carried: Table<'a, CARRIED_WIDTH>,
+    pub tombstones: Table<'a, TOMBSTONE_WIDTH>,
+    pub ghost carried_fit: { carried.count * 57 ≤ length carried.area.now },
+    pub ghost tombstones_fit: { tombstones.count * 44 ≤ length tombstones.area.now },
+}
