@@ -285,7 +285,7 @@ goosetable_answer goosetable_fresh_exchange(
  * a put of its slot. 4 and 6 come only where the code would be Accepted.
  * Writes: device, carried, carried_cells, replies, actions.
  * Refused by: 1 (replies, actions), 12, 2, 4, 6.
- * Stack: 548 bytes.
+ * Stack: 556 bytes.
  */
 goosetable_answer goosetable_envelope(
     uint8_t device[GOOSETABLE_DEVICE_SIZE],
@@ -365,7 +365,7 @@ goosetable_answer goosetable_own_envelope(
  * tombstoned too, copies of any number. The host sends them in lists of at most 500, and an empty one last.
  * Writes: prefixes.
  * Refused by: 1 (prefixes), 2.
- * Stack: 32 bytes.
+ * Stack: 64 bytes.
  */
 goosetable_answer goosetable_inventory_of_ours(
     const uint8_t device[GOOSETABLE_DEVICE_SIZE],
@@ -388,7 +388,7 @@ goosetable_answer goosetable_inventory_of_ours(
  * list after the terminator.
  * Writes: exchange, prefixes, offers, replies.
  * Refused by: 1 (replies, prefixes, offers), 12, 2, 3.
- * Stack: 5,128 bytes.
+ * Stack: 5,160 bytes.
  */
 goosetable_answer goosetable_inventory(
     const uint8_t device[GOOSETABLE_DEVICE_SIZE],
@@ -417,7 +417,7 @@ goosetable_answer goosetable_inventory(
  * copies off, stopping at 0, of the carried row with the tag or else of the own row, and lists its put or own put.
  * Writes: device, exchange, own, carried, offers, actions.
  * Refused by: 13, 1 (prefixes, offers, actions), 2, 3.
- * Stack: 232 bytes.
+ * Stack: 264 bytes.
  */
 goosetable_answer goosetable_custody_code(
     uint8_t device[GOOSETABLE_DEVICE_SIZE],
@@ -580,7 +580,7 @@ goosetable_answer goosetable_save(
  * The area needs 1,620 bytes for the shortest page too, and what is behind the page stays. goosetable_device_pages says how many pages have rows.
  * Writes: area.
  * Refused by: 1 (area).
- * Stack: 200 bytes.
+ * Stack: 216 bytes.
  */
 goosetable_answer goosetable_page(
     const uint8_t device[GOOSETABLE_DEVICE_SIZE],
@@ -600,7 +600,7 @@ goosetable_answer goosetable_page(
  * number of rows (1,024 tombstones: about a hundred times as long). Of areas that calls left, goosetable_save writes no file whose slots do not rise.
  * Writes: device, carried, tombstones, carried_cells.
  * Refused by: 8, 4, 5.
- * Stack: 6,564 bytes.
+ * Stack: 6,612 bytes.
  */
 goosetable_answer goosetable_load(
     uint8_t device[GOOSETABLE_DEVICE_SIZE],
@@ -623,7 +623,7 @@ goosetable_answer goosetable_load(
  * their first 14 bytes (contact, direction, generation, index) as memcmp compares them, and keeps one of each key.
  * Writes: answer.
  * Refused by: 1 (answer), 12.
- * Stack: 80 bytes.
+ * Stack: 104 bytes.
  */
 goosetable_answer goosetable_window(
     const uint8_t *skipped,

@@ -1,15 +1,18 @@
 // The rows of the reply and action areas: what is in them, and functions that write one row at a place.
 #![tactic(auto)]
 
-ghost use Rattle.std.specs.Prelude.{◌≡◌, ◌+◌, ◌≤◌, ◌++◌, length, drop, replicate};
+ghost use Rattle.std.specs.Prelude.{◌≡◌, ◌+◌, ◌*◌, ◌/◌, ◌≤◌, ◌++◌, length, drop, replicate, nat_lt};
 ghost use Rattle.octets.specs.Bytes.{splice};
-ghost use Rattle.rows.specs.Rows.{action_bytes, reply_bytes};
+ghost use Rattle.rows.specs.Rows.{action_width, tombstone_width, action_bytes, reply_bytes};
 ghost use Rattle.model.specs.Exchange.{own_envelope_of, carried_envelope_of};
-ghost use Rattle.model.specs.Calls.{of_own, of_carried, cell_from, reply_cell, put_courier, delete_courier, put_queued, fetch_reply, envelope_row, custody_reply, tomb_reply};
+ghost use Rattle.model.specs.Calls.{short_replies, of_own, of_carried, cell_from, reply_cell, put_courier, delete_courier, put_queued, fetch_reply, envelope_row, custody_reply, tomb_reply};
 
 use courier::{Custody, Header};
 use courier_core::ContactId;
-use rows::{Action, Carried, Own, Reply, Row};
+use rows::{
+    ACTION_WIDTH, Action, Carried, LISTED_ACTIONS, MAX_CELLS, Own, REPLY_AREA, REPLY_BODY, Reply,
+    Row, TOMBSTONE_WIDTH,
+};
 
 // ---- the header of a row's envelope, and its cell as a reply says it
 
@@ -42,21 +45,19 @@ pub fn carried_header(row: Carried) -> Header
     }
 }
 
-// In a reply, the cell of a row that names one past the 256 that count: it has no ciphertext.
+// In a reply, the cell of a row that names one past those that count: it has no ciphertext. (A number and no Option: it goes into the two bytes that a
+// reply has for it, and C reads it there.)
 pub const NO_CELL: u16 = 65535;
 
 // The first number of a carried cell: those before it are of own cells.
-const FIRST_CARRIED: u16 = 256;
-
-// The cells of an area that count, at most.
-const MAX_CELLS: u16 = 256;
+pub const FIRST_CARRIED: u16 = MAX_CELLS as u16;
 
 // A cell that counts, from the first number of its kind on.
 fn cell_from(first: u16, cell: u16) -> u16
     requires { first ≤ 256 }
     ensures { result ≡ cell_from first cell }
 {
-    if cell < MAX_CELLS {
+    if usize::from(cell) < MAX_CELLS {
         first + cell
     } else {
         NO_CELL
@@ -75,26 +76,35 @@ pub fn carried_cell(cell: u16) -> u16
     cell_from(FIRST_CARRIED, cell)
 }
 
+// ---- areas that are too short for what a call may list
+
+pub fn short_replies(replies: usize) -> bool
+    ensures { result ≡ short_replies replies }
+{
+    replies < REPLY_AREA
+}
+
+// An action area has room for LISTED_ACTIONS rows, and for one more for each row of the tombstones' area, which has so many bytes.
+pub fn short_actions(actions: usize, tombstones: usize) -> bool
+    ensures { result ≡ nat_lt actions (action_width * (512 + tombstones / tombstone_width)) }
+{
+    actions < ACTION_WIDTH * (LISTED_ACTIONS + tombstones / TOMBSTONE_WIDTH)
+}
+
 // ---- rows that are written
 
-// Each function from here on writes one action or one reply at a place: its kind and its fields are all that differs. (They ask room for the row
-// at that place. Given a part of the area in place of the area and the place, every caller would cut it, and owe the same.)
+// Each public function from here on writes one action or one reply at a place. (One over the kind would make each call name the kind, and an action's number and
+// message number, which the name of a function here says. They ask room for the row at that place: given a part of the area, every caller would cut it,
+// and owe the same.)
 
 // ---- actions
-
-// The kind of an action, as its row has it.
-const PUT: u8 = 0;
-
-const DELETE: u8 = 1;
-
-const PUT_QUEUED: u8 = 2;
 
 pub fn put_courier(actions: &mut [u8], at: usize, slot: u64)
     requires { at + 13 ≤ length actions.old }
     ensures { actions.new ≡ splice actions.old at (action_bytes (put_courier slot)) }
 {
     let row = Action {
-        kind: PUT,
+        kind: Action::PUT,
         number: slot,
         msgno: 0,
     };
@@ -106,7 +116,7 @@ pub fn delete_courier(actions: &mut [u8], at: usize, slot: u64)
     ensures { actions.new ≡ splice actions.old at (action_bytes (delete_courier slot)) }
 {
     let row = Action {
-        kind: DELETE,
+        kind: Action::DELETE,
         number: slot,
         msgno: 0,
     };
@@ -118,7 +128,7 @@ pub fn put_queued(actions: &mut [u8], at: usize, id: ContactId, msgno: u32)
     ensures { actions.new ≡ splice actions.old at (action_bytes (put_queued id msgno)) }
 {
     let row = Action {
-        kind: PUT_QUEUED,
+        kind: Action::PUT_QUEUED,
         number: id.0,
         msgno,
     };
@@ -127,23 +137,14 @@ pub fn put_queued(actions: &mut [u8], at: usize, id: ContactId, msgno: u32)
 
 // ---- replies
 
-// The kind of a reply, as its row has it.
-const FETCH: u8 = 0;
-
-const ENVELOPE: u8 = 1;
-
-const CUSTODY: u8 = 2;
-
-const TOMB: u8 = 3;
-
 // The body of a reply: a tag, what follows it, and zeros.
-fn body_of(tag: [u8; 16], more: &[u8]) -> [u8; 37]
+fn body_of(tag: [u8; 16], more: &[u8]) -> [u8; REPLY_BODY]
     requires { length more.now ≤ 21 }
     ensures { result ≡ tag ++ (more.now ++ drop (length more.now) (replicate 21 0)) }
 {
-    let mut body = [0; 37];
+    let mut body = [0; REPLY_BODY];
     octets::copy_in(&mut body, 0, &tag);
-    octets::copy_in(&mut body, 16, more);
+    octets::copy_in(&mut body, tag.len(), more);
     body
 }
 
@@ -152,9 +153,9 @@ pub fn put_fetch(replies: &mut [u8], at: usize, tag: [u8; 16])
     ensures { replies.new ≡ splice replies.old at (reply_bytes (fetch_reply tag)) }
 {
     let row = Reply {
-        kind: FETCH,
+        kind: Reply::FETCH,
         cell: 0,
-        body: body_of(tag, &tag[..0]),
+        body: body_of(tag, b""),
     };
     row.put(replies, at);
 }
@@ -165,7 +166,7 @@ pub fn put_envelope(replies: &mut [u8], at: usize, cell: u16, head: Header)
     ensures { replies.new ≡ splice replies.old at (reply_bytes (envelope_row cell head)) }
 {
     let row = Reply {
-        kind: ENVELOPE,
+        kind: Reply::ENVELOPE,
         cell,
         body: courier::header_bytes(head),
     };
@@ -177,7 +178,7 @@ pub fn put_custody(replies: &mut [u8], at: usize, tag: [u8; 16], code: Custody)
     ensures { replies.new ≡ splice replies.old at (reply_bytes (custody_reply tag code)) }
 {
     let row = Reply {
-        kind: CUSTODY,
+        kind: Reply::CUSTODY,
         cell: 0,
         body: body_of(tag, &[code.code()]),
     };
@@ -189,7 +190,7 @@ pub fn put_tomb(replies: &mut [u8], at: usize, tag: [u8; 16], s: [u8; 16])
     ensures { replies.new ≡ splice replies.old at (reply_bytes (tomb_reply tag s)) }
 {
     let row = Reply {
-        kind: TOMB,
+        kind: Reply::TOMB,
         cell: 0,
         body: body_of(tag, &s),
     };

@@ -1,5 +1,8 @@
 // What goes by value in a call lies in small areas at a host of another language: the device in 60 bytes, an exchange in 26, numbers
 // with the highest byte first. A flag is on unless its byte is 0. What a call leaves as it is keeps its bytes, whatever they are.
+// (Sizes and offsets are those of the C header, and numbers: include/check reads them off `device_of` and `exchange_of`. Each offset stands once
+// more where the field is written, and those of flags and peer where what was there is kept; the proof refuses any other there: a name for
+// each of the fifteen would say no more.)
 #![tactic(auto)]
 
 ghost use Rattle.std.specs.Prelude.{◌≡◌, ◌+◌, ◌≤◌, length};
@@ -18,7 +21,9 @@ fn is_on(byte: u8) -> bool
     byte != 0
 }
 
-// The byte of a flag in an area, all of whose elements are bytes.
+// The byte of a flag in an area, all of whose elements are bytes. (The proof that an area stays as it is where what it holds
+// already is put into it needs that; said by `octets::get_u8`, it would stand in each of its other callers' proofs.)
+#[tactic(auto, using(octets::proofs::Numbers::num_one, octets::proofs::Numbers::bytes_of))]
 fn byte_in(area: &[u8], at: usize) -> u8
     requires { at + 1 ≤ length area.now }
     ensures { (result ≡ num (part area.now at 1)) × Bytes area.now }
@@ -31,10 +36,7 @@ fn byte_in(area: &[u8], at: usize) -> u8
 fn flag_over(byte: u8, on: bool) -> u8
     ensures { result ≡ flag_over byte on }
 {
-    if !on {
-        return 0;
-    }
-    if byte == 0 { 1 } else { byte }
+    if on { byte.max(1) } else { 0 }
 }
 
 // ---- the device: enabled, copies, lifetime, clock, the counts of contacts, own rows, carried rows, tombstones and bad tags, next slot
@@ -77,6 +79,7 @@ fn device_bytes(enabled: u8, device: Device) -> [u8; 60]
     b
 }
 
+#[tactic(auto, using(crate::proofs::AreaLaws::device_back, crate::proofs::AreaLaws::device_stays, crate::proofs::AreaLaws::flag_says), unfolding(crate::specs::Boundary::device_area))]
 pub fn put_device(area: &mut [u8; 60], device: Device)
     ensures { HoldsDevice area.old device area.new }
 {
@@ -85,6 +88,7 @@ pub fn put_device(area: &mut [u8; 60], device: Device)
 }
 
 // A fresh device, whatever the area was.
+#[tactic(auto, using(crate::proofs::AreaLaws::device_back))]
 pub fn fresh_device(area: &mut [u8; 60])
     ensures { FreshArea area.new }
 {
@@ -120,6 +124,7 @@ fn exchange_bytes(opened: u8, complete: u8, peer: u64, listed: usize, offered: u
 }
 
 // The peer's number stays as it was where the exchange is opened for none.
+#[tactic(auto, using(crate::proofs::AreaLaws::exchange_back, crate::proofs::AreaLaws::exchange_stays, crate::proofs::AreaLaws::peer_back, crate::proofs::AreaLaws::flag_says), unfolding(crate::specs::Boundary::exchange_area))]
 pub fn put_exchange(area: &mut [u8; 26], exchange: Exchange)
     ensures { HoldsExchange area.old exchange area.new }
 {

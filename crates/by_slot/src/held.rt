@@ -6,7 +6,8 @@ ghost use Rattle.std.specs.Prelude.{◌*◌, ◌≤◌, length};
 use rows::{CARRIED_WIDTH, TOMBSTONE_WIDTH};
 use table::Table;
 
-// Carried rows and tombstones: each table has as many rows as its count says.
+// Carried rows and tombstones: each table has as many rows as its count says. (Two tables with their facts beside. `Rows` of crate offers is a
+// type for one, but asks a bound of its count besides, which nothing here needs.)
 #[derive(Clone, Copy)]
 pub struct Held<'a> {
     pub carried: Table<'a, CARRIED_WIDTH>,

@@ -12,15 +12,16 @@ pub use held::Held;
 use rows::{CARRIED_WIDTH, TOMBSTONE_WIDTH};
 use table::Table;
 
-// How far a walk along them is: the next carried row and the next tombstone.
-#[derive(Clone, Copy)]
+// How far a walk along them is: the next carried row and the next tombstone. (No iterator: what a step of a walk leaves, for the saved file, the page and
+// maintenance, is said by what is behind the cursor, which an iterator's item does not tell.)
+#[derive(Clone, Copy, Default)]
 pub struct Cursor {
     pub carried: usize,
     pub tombstones: usize,
 }
 
 impl<'a> Held<'a> {
-    // By counts that may be anything.
+    // The rows of two tables, each count cut to the rows that fit.
     pub fn fit(
         carried: Table<'a, CARRIED_WIDTH>,
         tombstones: Table<'a, TOMBSTONE_WIDTH>,

@@ -12,10 +12,22 @@ use courier_core::Refusal;
 
 // The bytes that sealing adds to an inner plaintext.
 pub const TAG_LEN: usize = 16;
+
 // Skipped keys that a receiver holds for a contact.
 pub const MAX_SKIPPED: usize = 500;
+
+// The bytes of a key's row, direction, generation and index; and of a chain's, where its next index has eight bytes from NEXT on.
+pub const KEY_WIDTH: usize = 6;
+
+pub const CHAIN_WIDTH: usize = 10;
+
+pub const NEXT: usize = 2;
+
 // The bytes of so many keys' rows: the area that a window is written to.
-const ANSWER: usize = 3000;
+pub const ANSWER: usize = MAX_SKIPPED * KEY_WIDTH;
+
+// How many indices there are: a chain's next may be this one past the last.
+const INDICES: u64 = 1 << 32;
 
 // The direction of a message chain, named after the sender's role.
 #[derive(Clone, Copy, PartialEq, Eq)]
@@ -25,7 +37,7 @@ pub enum Dir {
 }
 
 impl Dir {
-    // chain.rs's own name, and its letters: numbers of the enum would say them no plainer.
+    // chain.rs's own name. (A match, and no numbers of the enum: `from_label` names each letter again either way.)
     pub fn label(self) -> u8
         ensures { result ≡ dir_label self }
     {
@@ -62,7 +74,7 @@ pub fn no_dir(b: u8) -> bool
 }
 
 // Are the bytes not whole rows of the width, or does a row begin with a byte that is no direction? A width above 0 is what the
-// division asks, as in `table`: the two callers name a number.
+// division asks, as in `table`: both callers give a constant.
 #[tactic(auto, unfolding(crate::specs::Chain::wrong_table, table::specs::Rows::ragged))]
 fn wrong_table(area: &[u8], width: usize) -> bool
     requires { 0 < width }
@@ -72,12 +84,12 @@ fn wrong_table(area: &[u8], width: usize) -> bool
     0 < area.len() % width || table::any(area, width, n, |row| no_dir(row[0]))
 }
 
-// Has a chain row a next above 2^32?
+// Has a chain row a next above the indices that there are?
 fn nexts_above(chains: &[u8]) -> bool
     ensures { result ≡ any next_above (all_rows 10 chains.now) }
 {
-    table::any(chains, 10, chains.len() / 10, |chain| {
-        0x1_0000_0000 < octets::get_u64(chain, 2)
+    table::any(chains, CHAIN_WIDTH, chains.len() / CHAIN_WIDTH, |chain| {
+        INDICES < octets::get_u64(chain, NEXT)
     })
 }
 
@@ -86,48 +98,55 @@ fn nexts_above(chains: &[u8]) -> bool
 fn wrong_rows(skipped: &[u8], chains: &[u8]) -> bool
     ensures { result ≡ wrong_rows skipped.now chains.now }
 {
-    wrong_table(skipped, 6)
-        || wrong_table(chains, 10)
-        || MAX_SKIPPED < skipped.len() / 6
+    wrong_table(skipped, KEY_WIDTH)
+        || wrong_table(chains, CHAIN_WIDTH)
+        || MAX_SKIPPED < skipped.len() / KEY_WIDTH
         || nexts_above(chains)
 }
 
 // A key's row: the direction and the generation of its chain, and its index.
 #[tactic(auto, using(crate::proofs::Keys::key_made), unfolding(octets::specs::Bytes::part))]
-fn key_row(chain: &[u8], idx: u32) -> [u8; 6]
+fn key_row(chain: &[u8], idx: u32) -> [u8; KEY_WIDTH]
     requires { 2 ≤ length chain.now }
     ensures { result ≡ key_row chain.now idx }
 {
-    let mut row = [0u8; 6];
-    octets::copy_in(&mut row, 0, &chain[0..2]);
-    octets::put_u32(&mut row, 2, idx);
+    let mut row = [0u8; KEY_WIDTH];
+    octets::copy_in(&mut row, 0, &chain[0..NEXT]);
+    octets::put_u32(&mut row, NEXT, idx);
     row
 }
 
 // Lists the keys of a chain from its next on, as long as there are room and indices, and answers how many.
+// (Not `chunks_exact_mut`: after it, a proof knows only the length of `room`.)
 #[tactic(auto, using(octets::proofs::Parts::splice_nil, crate::proofs::Keys::keys_put, crate::proofs::Keys::listed_all), unfolding(crate::specs::Chain::count, table::specs::Rows::join))]
 fn list_chain(room: &mut [u8], chain: &[u8]) -> usize
     requires { length chain.now ≡ 10 }
     ensures value { result ≡ length (listed_keys (length room.old / 6) chain.now) }
     ensures room_after { room.new ≡ splice room.old 0 (join (listed_keys (length room.old / 6) chain.now)) }
 {
-    let next = octets::get_u64(chain, 2);
-    let left = 0x1_0000_0000u64.saturating_sub(next);
-    let n = left.min((room.len() / 6) as u64) as usize;
+    let next = octets::get_u64(chain, NEXT);
+    let left = INDICES.saturating_sub(next);
+    let n = left.min((room.len() / KEY_WIDTH) as u64) as usize;
     for i in 0..n {
-        octets::put_array(room, i * 6, key_row(chain, (next + i as u64) as u32));
+        octets::put_array(
+            room,
+            i * KEY_WIDTH,
+            key_row(chain, (next + i as u64) as u32),
+        );
     }
     n
 }
 
-// Lists the keys of the chains, from the last chain to the first, and answers how many.
+// Lists the keys of the chains, from the last chain to the first, and answers how many. (Not `chunks_exact(..).rev()`: tried, and its loop asks for
+// a measure and for laws of the reversed iterator, which a range does not.)
 #[tactic(auto, using(crate::proofs::Keys::listed_few))]
 fn list_chains(room: &mut [u8], chains: &[u8]) -> usize
     ensures { ChainsListed (chains_keys (length room.old / 6) (all_rows 10 chains.now)) room.old room.new result }
 {
     let mut n = 0;
-    for i in (0..chains.len() / 10).rev() {
-        n += list_chain(&mut room[n * 6..], &chains[i * 10..i * 10 + 10]);
+    for i in (0..chains.len() / CHAIN_WIDTH).rev() {
+        let at = i * CHAIN_WIDTH;
+        n += list_chain(&mut room[n * KEY_WIDTH..], &chains[at..at + CHAIN_WIDTH]);
     }
     n
 }
@@ -148,5 +167,5 @@ pub fn window(skipped: &[u8], chains: &[u8], answer: &mut [u8]) -> Result<usize,
     }
     octets::copy_in(answer, 0, skipped);
     let listed = list_chains(&mut answer[skipped.len()..ANSWER], chains);
-    Ok(skipped.len() / 6 + listed)
+    Ok(skipped.len() / KEY_WIDTH + listed)
 }

@@ -1,4 +1,5 @@
 // Columns of a line of text, each written in place: a number to the right, blanks, and bytes in hexadecimal.
+// (A String would need a heap, and the library has none. Digits are written by hand: `io::decimal` writes a number to the left, into an area of its own.)
 #![tactic(auto)]
 
 ghost use Rattle.std.specs.Prelude.{◌≡◌, ◌+◌, ◌*◌, ◌/◌, ◌%◌, ◌<◌, ◌≤◌, length};

@@ -1,6 +1,6 @@
 -- The calls contact, clock, setting and fresh exchange, by what their tests say.
 -- Assumes nothing.
-use Rattle.std.proofs.Common.{◌≡◌, ℕ, ◌<◌, ◌≤◌, Bool, true, false, cond, not, ◌&&◌, ◌||◌, ltb, leb, List, [], ◌∷◌, ◌++◌, Result, Ok, Err, length, ◌⊎◌, inl, inr, sym, refl, ap, ◌∙◌, ap₂, arith, le-ltb, lt-ltb, le-leb, Option, Some, None}
+use Rattle.std.proofs.Common.{◌≡◌, ℕ, ◌<◌, ◌≤◌, Bool, true, false, cond, not, ◌&&◌, ◌||◌, ltb, leb, List, [], ◌∷◌, ◌++◌, Result, Ok, Err, length, sym, refl, ap, ◌∙◌, ap₂, arith, le-leb, Option, Some, None}
 use borrow.Author.Tests.{lt-leb}
 use Rattle.courier_core.specs.Core.{verification_byte}
 use Rattle.courier_core.specs.declared.ContactId.{ContactId}
@@ -24,7 +24,7 @@ use Rattle.model.specs.Contacts.{set_clock, known, contact_place, put_contact, c
 use Rattle.model.specs.Step.{step, tests, perform}
 use Rattle.model.specs.Areas.{Areas, Written, view, view_session, store, store_device, store_session}
 use Rattle.model.specs.Lent.{Does, no_answers, device_in, contacts_in, exchange_in}
-use Rattle.contacts.specs.Answers.{said_of, opened_of}
+use Rattle.contacts.specs.Answers.{said_of}
 use Rattle.table.proofs.TableLaws.{length_table}
 use Rattle.contacts.proofs.FindLaws.{is_known_lem}
 use Rattle.model.proofs.CallLaws.{refused_here, not_here, no_test, quiet_call, refused_call}
@@ -126,22 +126,17 @@ module _ (d : Device) (x : List ℕ) (peer : ContactId) (pre off : List ℕ) (e 
   abbrev short : Bool
   short = ltb (length pre) 4096 || ltb (length off) 8704
 
-  pub too_short : (length pre < 4096) ⊎ ((4096 ≤ length pre) × (length off < 8704))
-      → Written opened_of (step (view (with e)) (open_exchange peer)) (Err refusal.ShortArea) (with e) (with e) no_answers no_answers
+  pub too_short : short ≡ true → Written said_of (step (view (with e)) (open_exchange peer)) (Err refusal.ShortArea) (with e) (with e) no_answers no_answers
   unfolding step tests perform open_exchange_tests view view_session
-  too_short (inl h) = refused_call refusal.ShortArea (refused_here _ _ _ (ap (λ (b : Bool). b || ltb (length off) 8704) (lt-ltb (length pre) 4096 h))) refl refl
-  too_short (inr (p, h)) = refused_call refusal.ShortArea (refused_here _ _ _ (ap₂ ◌||◌ (le-ltb (length pre) 4096 p) (lt-ltb (length off) 8704 h))) refl refl
+  too_short h = refused_call refusal.ShortArea (refused_here _ _ _ h) refl refl
 
-  module _ (p : 4096 ≤ length pre) (o : 8704 ≤ length off) where
-    long : short ≡ false
-    long = ap₂ ◌||◌ (le-ltb (length pre) 4096 p) (le-ltb (length off) 8704 o)
-
+  module _ (long : short ≡ false) where
     pub stranger : known (table_of contact_codec d.contacts x) peer ≡ false
-        → Written opened_of (step (view (with e)) (open_exchange peer)) (Err refusal.UnknownContact) (with e) (with e) no_answers no_answers
+        → Written said_of (step (view (with e)) (open_exchange peer)) (Err refusal.UnknownContact) (with e) (with e) no_answers no_answers
     unfolding step tests perform open_exchange_tests view view_session
     stranger k = refused_call refusal.UnknownContact (not_here _ _ _ long (refused_here _ _ _ (ap not k))) refl refl
 
     pub opens : known (table_of contact_codec d.contacts x) peer ≡ true → {f : Exchange} → f ≡ fresh_exchange peer
-        → Written opened_of (step (view (with e)) (open_exchange peer)) (Ok f) (with e) (with f) no_answers no_answers
+        → Written said_of (step (view (with e)) (open_exchange peer)) (Ok tt) (with e) (with f) no_answers no_answers
     unfolding step tests perform open_exchange_tests open_exchanged opened_for view view_session store store_device store_session with_table written join
-    opens k q = quiet_call done (opened_for peer) (not_here _ _ _ long (not_here _ _ _ (ap not k) (no_test _))) (ap Ok q) (ap with q)
+    opens k q = quiet_call done (opened_for peer) (not_here _ _ _ long (not_here _ _ _ (ap not k) (no_test _))) refl (ap with q)

@@ -1,3 +1,4 @@
 pub mod FindLaws
 pub mod WindowLaws
 pub mod ContactLaws
+pub mod LendLaws

@@ -1,41 +1,38 @@
 // Contacts and the clock in minutes, and the calls that set them: contact, setting, clock, fresh exchange.
 #![tactic(auto)]
 
-ghost use Rattle.std.specs.Prelude.{◌≡◌, ◌+◌, ◌*◌, ◌<◌, ◌≤◌, true, not, [], ◌∷◌, ◌++◌, length, ◌==◌, MatchOption};
+ghost use Rattle.std.specs.Prelude.{◌≡◌, ◌+◌, ◌*◌, ◌<◌, ◌≤◌, true, not, [], ◌∷◌, ◌++◌, length, ◌==◌, ◌||◌, nat_lt, MatchOption};
 ghost use Rattle.octets.specs.Bytes.{part};
 ghost use Rattle.table.specs.Lists.{replace_at};
 ghost use Rattle.table.specs.Rows.{held, Fits};
 ghost use Rattle.table.specs.Tables.{rows_in};
-ghost use Rattle.rows.specs.declared.Exchange.{Exchange as AnExchange};
 ghost use Rattle.rows.specs.Rows.{contact_width, contact_of, contact_codec};
 ghost use Rattle.model.specs.Calls.{contact as contact_call, setting as setting_call, clock as clock_call, open_exchange};
 ghost use Rattle.model.specs.Contacts.{now_min, lifetime_end, contact_place, known as known_of, is_verified, added_before};
 ghost use Rattle.model.specs.Window.{window_rows, strangers as some_stranger};
-ghost use Rattle.model.specs.Lent.{Does, no_answers, device_in, contacts_in, exchange_in};
-ghost use Rattle.contacts.specs.Answers.{said_of, opened_of, exchange_after};
+ghost use Rattle.model.specs.Lent.{Does, no_answers, device_in, contacts_in};
+ghost use Rattle.contacts.specs.Answers.{said_of};
+ghost use Rattle.contacts.specs.Lends.{fresh_leaves, Lends, fresh_in};
 
 use courier_core::{ContactId, Refusal, Verification};
-use rows::{CONTACT_WIDTH, Contact, Device, Exchange, OFFER_WIDTH, REACHABLE_WIDTH, Row};
+use rows::{
+    CONTACT_AREA, CONTACT_WIDTH, Contact, Device, Exchange, MAX_CONTACTS, OFFER_AREA, PREFIX_AREA,
+    REACHABLE_WIDTH, Row,
+};
 use state::CourierConfig;
 use table::Table;
 
-// The byte of a verified contact's row.
-const VERIFIED: u8 = 1;
-
-const MAX_CONTACTS: usize = 256;
-
-// An exchange lists up to 512 prefixes of 8 bytes, and up to 512 offers.
-const PREFIX_AREA: usize = 512 * 8;
-
-const OFFER_AREA: usize = 512 * OFFER_WIDTH;
-
 // ---- time
 
+// The seconds of a minute.
+pub const MINUTE: u64 = 60;
+
+// (A `min` and a cast: `try_from` and `unwrap_or` say it no shorter.)
 #[tactic(auto, unfolding(model::specs::Contacts::now_min))]
 pub fn now_min(seconds: u64) -> u32
     ensures { result ≡ now_min seconds }
 {
-    (seconds / 60).min(u32::MAX as u64) as u32
+    (seconds / MINUTE).min(u32::MAX as u64) as u32
 }
 
 #[tactic(auto, unfolding(model::specs::Contacts::lifetime_end))]
@@ -54,6 +51,8 @@ pub fn contact_place(contacts: Table<CONTACT_WIDTH>, id: ContactId) -> Option<us
     contacts.position(|row| ContactId(octets::get_u64(row, 0)) == id)
 }
 
+// (Each call that is refused for an unknown contact tests it and names the refusal, where document 01 has it among the others: by a function that answers the
+// refusal, each proof would go over one answer more.)
 pub fn known(contacts: Table<CONTACT_WIDTH>, id: ContactId) -> bool
     ensures { result ≡ known_of (rows_in contact_codec contacts.entry) id }
 {
@@ -65,7 +64,7 @@ fn verified_at(contacts: &[u8], i: usize) -> bool
     requires { i * contact_width + contact_width ≤ length contacts.now }
     ensures { result ≡ (contact_of (part contacts.now (i * contact_width) contact_width)).verification == 1 }
 {
-    Contact::read(contacts, i * CONTACT_WIDTH).verification == VERIFIED
+    Contact::read(contacts, i * CONTACT_WIDTH).verification == Verification::Verified.byte()
 }
 
 #[tactic(auto, using(crate::proofs::FindLaws::place_fits, crate::proofs::FindLaws::verified_some, crate::proofs::FindLaws::verified_none))]
@@ -75,14 +74,14 @@ pub fn is_verified(contacts: Table<CONTACT_WIDTH>, id: ContactId) -> bool
     contact_place(contacts, id).is_some_and(|i| verified_at(contacts.area, i))
 }
 
-// How many contacts were added before this one.
+// How many contacts were added before this one; all, if it is not known.
 pub fn added_before(contacts: Table<CONTACT_WIDTH>, id: ContactId) -> usize
     ensures { result ≡ added_before (rows_in contact_codec contacts.entry) id }
 {
     contact_place(contacts, id).unwrap_or(contacts.len())
 }
 
-// Is a contact not known? The one before it is, and so it is looked for only where it is another.
+// Is a contact not known? The one before it, if there is one, is known, and so this one is looked for only where it is another.
 fn is_stranger(contacts: Table<CONTACT_WIDTH>, before: Option<ContactId>, id: ContactId) -> bool
     requires { MatchOption before Unit (λ b. known_of (rows_in contact_codec contacts) b ≡ true) }
     ensures { result ≡ not (known_of (rows_in contact_codec contacts.entry) id) }
@@ -90,7 +89,8 @@ fn is_stranger(contacts: Table<CONTACT_WIDTH>, before: Option<ContactId>, id: Co
     before != Some(id) && !known(contacts, id)
 }
 
-// Number 2 of a window: a contact in it isn't known. The rows of a contact follow each other.
+// Is a contact of a window's rows not known? The rows of a contact follow each other.
+// (By index: over `chunks_exact` the loop would go by laws of chunks, and a closure for `any` would change the contact before.)
 pub fn strangers(contacts: Table<CONTACT_WIDTH>, window: &[u8]) -> bool
     ensures { result ≡ some_stranger (rows_in contact_codec contacts.entry) (window_rows window.now) }
 {
@@ -122,12 +122,12 @@ pub fn setting(device: &mut Device, enabled: bool, copies: u8, lifetime: u16) ->
     Ok(())
 }
 
-// Adds a contact, or alters a known one in its place. A 257th is refused.
+// Adds a contact, or alters a known one in its place. One more than `MAX_CONTACTS` is refused with `LogRecord`: a log has no other number for it.
 pub fn contact(
     device: &mut Device,
     id: ContactId,
     verification: Verification,
-    contacts: &mut [u8; 2304],
+    contacts: &mut [u8; CONTACT_AREA],
 ) -> Result<(), Refusal>
     ensures { Does said_of (contact_call id verification) result (λ a. device_in device.old (contacts_in contacts.old a)) (λ a. device_in device.new (contacts_in contacts.new a)) no_answers no_answers }
 {
@@ -152,19 +152,29 @@ pub fn contact(
     Ok(())
 }
 
-// An exchange opened for a contact, nothing listed or offered in it.
+// Is the prefix area or the offer area that lies beside an exchange too short?
+pub fn short_exchange(prefixes: usize, offers: usize) -> bool
+    ensures { result ≡ (nat_lt prefixes 4096 || nat_lt offers 8704) }
+{
+    prefixes < PREFIX_AREA || offers < OFFER_AREA
+}
+
+// Opens the exchange for a contact: nothing is listed or offered in it. On a refusal the one that was there stays.
+// (The call is lent what the exported function of crate goosetable is lent: each area by itself.)
 pub fn fresh_exchange(
+    exchange: &mut Exchange,
     device: Device,
     peer: ContactId,
-    contacts: &[u8; 2304],
+    contacts: &[u8; CONTACT_AREA],
     prefixes: &[u8],
     offers: &[u8],
-) -> Result<Exchange, Refusal>
-    ensures { (e : AnExchange) → Does opened_of (open_exchange peer) result
-        (λ a. device_in device (contacts_in contacts.now (exchange_in e prefixes.now offers.now a)))
-        (λ a. device_in device (contacts_in contacts.now (exchange_in (exchange_after e result) prefixes.now offers.now a))) no_answers no_answers }
+) -> Result<(), Refusal>
+    ensures { Lends said_of (open_exchange peer) result
+        (fresh_in device contacts.now exchange.old prefixes.now offers.now)
+        (fresh_in device contacts.now exchange.new prefixes.now offers.now) no_answers no_answers
+        (fresh_leaves peer) exchange.old exchange.new }
 {
-    if prefixes.len() < PREFIX_AREA || offers.len() < OFFER_AREA {
+    if short_exchange(prefixes.len(), offers.len()) {
         return Err(Refusal::ShortArea);
     }
     let known_contacts = Table {
@@ -174,5 +184,6 @@ pub fn fresh_exchange(
     if !known(known_contacts, peer) {
         return Err(Refusal::UnknownContact);
     }
-    Ok(Exchange::fresh(peer))
+    *exchange = Exchange::fresh(peer);
+    Ok(())
 }

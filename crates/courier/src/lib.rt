@@ -14,13 +14,23 @@ pub const COURIER_INNER_MAX: usize = 2048;
 // The bytes of an envelope before its ciphertext.
 pub const ENVELOPE_HEADER: usize = 37;
 
-// An envelope without its ciphertext. Expiry is in minutes.
+// An envelope without its ciphertext. Expiry is in minutes. (A tag, a commitment and a secret have 16 bytes each, and `[u8; 16]` says so everywhere, as
+// in courier.rs: a name for the 16 would be longer and say no more.)
 #[derive(Clone, Copy)]
 pub struct Header {
     pub tag: [u8; 16],
     pub c: [u8; 16],
     pub expiry_min: u32,
     pub copies: u8,
+}
+
+// Where the fields stand in the bytes of a header, behind the tag.
+impl Header {
+    pub const C: usize = 16;
+
+    pub const EXPIRY: usize = 32;
+
+    pub const COPIES: usize = 36;
 }
 
 // A courier's answer to an envelope, and its byte.
@@ -33,7 +43,7 @@ pub enum Custody {
     Invalid = 4,
 }
 
-// The MAC of the direction, the generation and the index: no more than 7 bytes, which stand at the front of an array.
+// The MAC of the direction, the generation and the index. (An array and a length, as in data's `Encoded`: the libraries have no heap.)
 #[tactic(auto, using(crate::proofs::TagLaws::index_fits), unfolding(kdf::specs::Kdf::key_as, kdf::specs::Kdf::answered))]
 pub fn route_tag(key: [u8; 32], dir: Dir, generation: u8, idx: u32) -> [u8; 16]
     ensures { result ≡ route_tag key dir generation idx }
@@ -53,21 +63,15 @@ pub fn delivered(key: [u8; 32]) -> [u8; 16]
     kdf::kdf_16(&key, b"", b"delivered", b"").unwrap()
 }
 
-#[tactic(auto, unfolding(octets::specs::Bytes::part))]
-fn trunc16(digest: [u8; 48]) -> [u8; 16]
-    ensures { result ≡ take 16 digest }
-{
-    octets::get_array(&digest, 0)
-}
-
-#[tactic(auto, unfolding(kdf::specs::Kdf::digest_as, kdf::specs::Kdf::answered, crate::specs::Tags::commitment_of))]
+#[tactic(auto, unfolding(octets::specs::Bytes::part, kdf::specs::Kdf::digest_as, kdf::specs::Kdf::answered, crate::specs::Tags::commitment_of))]
 pub fn commitment(s: [u8; 16]) -> [u8; 16]
     ensures { result ≡ commitment_of s }
 {
-    trunc16(kdf::hash(b"delivered", &s).unwrap())
+    let digest = kdf::hash(b"delivered", &s).unwrap();
+    octets::get_array(&digest, 0)
 }
 
-// Does s open the commitment c? All bytes are compared, whatever they are.
+// Does s open the commitment c? Every byte is read, whatever came before (of the machine code: docs/DECISIONS.md, 26).
 #[tactic(auto, using(crate::proofs::TagLaws::matched))]
 pub fn tombstone_matches(c: [u8; 16], s: [u8; 16]) -> bool
     ensures { result ≡ tombstone_matches c s }
@@ -77,14 +81,14 @@ pub fn tombstone_matches(c: [u8; 16], s: [u8; 16]) -> bool
 }
 
 // `Envelope::encode` without the ciphertext.
-pub fn header_bytes(h: Header) -> [u8; 37]
+pub fn header_bytes(h: Header) -> [u8; ENVELOPE_HEADER]
     ensures { result ≡ header_bytes h }
 {
-    let mut b = [0u8; 37];
+    let mut b = [0u8; ENVELOPE_HEADER];
     octets::put_array(&mut b, 0, h.tag);
-    octets::put_array(&mut b, 16, h.c);
-    octets::put_u32(&mut b, 32, h.expiry_min);
-    b[36] = h.copies;
+    octets::put_array(&mut b, Header::C, h.c);
+    octets::put_u32(&mut b, Header::EXPIRY, h.expiry_min);
+    b[Header::COPIES] = h.copies;
     b
 }
 
@@ -96,9 +100,9 @@ fn header_at(s: &[u8], at: usize) -> Header
 {
     Header {
         tag: octets::get_array(s, at),
-        c: octets::get_array(s, at + 16),
-        expiry_min: octets::get_u32(s, at + 32),
-        copies: s[at + 36],
+        c: octets::get_array(s, at + Header::C),
+        expiry_min: octets::get_u32(s, at + Header::EXPIRY),
+        copies: s[at + Header::COPIES],
     }
 }
 
@@ -140,7 +144,7 @@ pub fn valid(len: usize, copies: u8, expiry: u32, minute: u32) -> bool
 }
 
 impl Custody {
-    // data.rs's `code as u8`.
+    // Its byte in a record.
     pub fn code(self) -> u8
         ensures { result ≡ custody_code self }
     {

@@ -4,7 +4,7 @@
 ghost use Rattle.std.specs.Prelude.{◌≡◌};
 ghost use Rattle.courier_core.specs.Core.{refusal_number, verification_byte, verification_from};
 
-// A contact's number: a kind of its own beside slots and message numbers.
+// A contact's number: a type of its own, so that it is not taken for a slot or a message number.
 #[derive(Clone, Copy, PartialEq, Eq)]
 pub struct ContactId(pub u64);
 
@@ -23,6 +23,7 @@ impl Verification {
         self as u8
     }
 
+    // The three bytes that there are. A `TryFrom` would need an error type, which says no more than `None`.
     pub fn from_byte(byte: u8) -> Option<Verification>
         ensures { result ≡ verification_from byte }
     {

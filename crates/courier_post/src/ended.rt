@@ -1,5 +1,5 @@
 // What ends a row: a tomb, and maintenance.
-use crate::lines::{show_own, show_tombstones};
+use crate::lines::{show_own, show_rows, show_tombstone};
 use crate::post::{Post, header, own_secret, own_tag, sealed, secret, tag};
 use std::io;
 
@@ -21,7 +21,7 @@ pub fn tombs(rt: &impl Print) -> io::Result<()> {
     let p = p.tomb(rt, t, own_secret())?;
     let p = p.tomb(rt, t, own_secret())?;
     let p = p.tomb(rt, own_tag(3), own_secret())?;
-    show_tombstones(rt, p.tombstone_rows())
+    show_rows(rt, p.tombstone_rows(), show_tombstone)
 }
 
 // Own rows of contacts 7 and 6, carried rows in slots 0 and 2, tombstones in 1 and 3: all until minute 1440, slot 3 until 1441.
@@ -42,7 +42,7 @@ pub fn maintenance(rt: &impl Print) -> io::Result<()> {
     let p = post_of_expiring().at_minute(1439).maintenance(rt)?;
     let p = p.setting(3, 60).at_minute(1440).maintenance(rt)?;
     let p = p.own_envelope(7, 5);
-    show_own(rt, p.own_rows())?;
+    show_rows(rt, p.own_rows(), show_own)?;
     let p = p.at_minute(1500).maintenance(rt)?;
-    show_own(rt, p.own_rows())
+    show_rows(rt, p.own_rows(), show_own)
 }

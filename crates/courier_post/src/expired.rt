@@ -1,4 +1,5 @@
 // An expired row is still offered, fetched and counted until maintenance.
+use crate::listed::list_of;
 use crate::post::{Post, header, own_tag, sealed, tag};
 use std::io;
 
@@ -25,7 +26,7 @@ pub fn expired(rt: &impl Print) -> io::Result<()> {
 
 fn offered(rt: &impl Print, p: &Post, own: [u8; 16]) -> io::Result<()> {
     println!(rt; "an expired row is still offered and fetched")?;
-    p.listed(rt, b"", &[0x31; 8])?;
+    p.listed(rt, b"", list_of([tag(0x31)]).as_flattened())?;
     p.fetch(rt, 5, tag(0x21))?;
     p.fetch(rt, 5, own)
 }

@@ -1,40 +1,47 @@
 // What a peer's list is answered with: fetches, tombs, offers. And our own list, and fetches of a peer.
+ghost use Rattle.std.specs.Prelude.{◌≤◌};
+
 use crate::post::{Post, header, own_tag, sealed, secret, tag, twin};
 use chain::Dir;
 use courier_core::ContactId;
-use rows::{REACHABLE_WIDTH, Reachable, Row};
+use rows::{PREFIX_WIDTH, REACHABLE_WIDTH, Reachable, Row};
 use std::io;
 
 // ---- a window and a list
 
-fn reachable(contact: u64, dir: Dir, generation: u8, idx: u32, tag: [u8; 16]) -> Reachable {
-    Reachable {
+fn reachable(
+    contact: u64,
+    dir: Dir,
+    generation: u8,
+    idx: u32,
+    tag: [u8; 16],
+) -> [u8; REACHABLE_WIDTH] {
+    let row = Reachable {
         contact: ContactId(contact),
         dir: dir.label(),
         generation,
         idx,
         tag,
-    }
+    };
+    row.bytes()
 }
 
 // Five rows in key order: index, then generation, direction and contact rise. Two prefixes are there twice.
-fn window() -> [u8; 5 * REACHABLE_WIDTH] {
-    let mut w = [0u8; 5 * REACHABLE_WIDTH];
-    reachable(6, Dir::I, 0, 1, twin(0x41, 1)).put(&mut w, 0);
-    reachable(6, Dir::I, 0, 2, twin(0x41, 2)).put(&mut w, REACHABLE_WIDTH);
-    reachable(6, Dir::I, 1, 0, twin(0x43, 1)).put(&mut w, 2 * REACHABLE_WIDTH);
-    reachable(6, Dir::R, 0, 0, twin(0x43, 2)).put(&mut w, 3 * REACHABLE_WIDTH);
-    reachable(7, Dir::I, 0, 0, tag(0x42)).put(&mut w, 4 * REACHABLE_WIDTH);
-    w
+fn window() -> [[u8; REACHABLE_WIDTH]; 5] {
+    [
+        reachable(6, Dir::I, 0, 1, twin(0x41, 1)),
+        reachable(6, Dir::I, 0, 2, twin(0x41, 2)),
+        reachable(6, Dir::I, 1, 0, twin(0x43, 1)),
+        reachable(6, Dir::R, 0, 0, twin(0x43, 2)),
+        reachable(7, Dir::I, 0, 0, tag(0x42)),
+    ]
 }
 
-// The prefixes of five tags.
-fn list_of(tags: &[[u8; 16]; 5]) -> [u8; 40] {
-    let mut list = [0u8; 40];
-    for (prefix, tag) in list.chunks_exact_mut(8).zip(tags) {
-        prefix.copy_from_slice(&tag[..8]);
-    }
-    list
+// The prefixes of tags.
+pub fn list_of<const N: usize>(tags: [[u8; 16]; N]) -> [[u8; PREFIX_WIDTH]; N]
+    requires { N ≤ 5 }
+{
+    tags.map(|tag| octets::get_array(&tag, 0))
 }
 
 // ---- fetches
@@ -48,8 +55,8 @@ pub fn fetches(rt: &impl Print) -> io::Result<()> {
     let p = p
         .report_failed(5, twin(0x41, 1))
         .report_failed(7, twin(0x43, 1));
-    let l = list_of(&[tag(0x42), tag(0x41), tag(0x42), tag(0x43), tag(0x99)]);
-    p.listed(rt, &window(), &l)
+    let l = list_of([tag(0x42), tag(0x41), tag(0x42), tag(0x43), tag(0x99)]);
+    p.listed(rt, window().as_flattened(), l.as_flattened())
 }
 
 // Tombstones have the tags 41..01 and 42, which is bad for the peer too, and 43..02, of which the first window row has only the prefix.
@@ -63,10 +70,11 @@ pub fn tombstoned_rows(rt: &impl Print) -> io::Result<()> {
     let p = p
         .stored_tombstone(twin(0x41, 1), 20)
         .stored_tombstone(twin(0x43, 2), 100);
-    let l = list_of(&[tag(0x41), tag(0x42), tag(0x43), tag(0x41), tag(0x99)]);
+    let l = list_of([tag(0x41), tag(0x42), tag(0x43), tag(0x41), tag(0x99)]);
     let p = p.at_minute(20);
-    p.listed(rt, &window(), &l)?;
-    p.maintenance(rt)?.listed(rt, &window(), &l)
+    p.listed(rt, window().as_flattened(), l.as_flattened())?;
+    p.maintenance(rt)?
+        .listed(rt, window().as_flattened(), l.as_flattened())
 }
 
 // ---- tombs
@@ -82,8 +90,8 @@ pub fn tombs(rt: &impl Print) -> io::Result<()> {
     let p = p
         .deposit(7, header(0x21, 4, 100))
         .tomb(rt, twin(0x31, 1), secret())?;
-    let l = list_of(&[tag(0x32), tag(0x32), tag(0x43), tag(0x31), tag(0x99)]);
-    p.listed(rt, &window(), &l)
+    let l = list_of([tag(0x32), tag(0x32), tag(0x43), tag(0x31), tag(0x99)]);
+    p.listed(rt, window().as_flattened(), l.as_flattened())
 }
 
 // ---- offers
@@ -111,7 +119,7 @@ pub fn offers(rt: &impl Print) -> io::Result<()> {
         "own rows by contact as added and message number, never those for this peer, then carried rows by slot"
     )?;
     let p = post_of_offers(rt)?;
-    p.listed(rt, b"", &[0x99; 8])?;
+    p.listed(rt, b"", list_of([tag(0x99)]).as_flattened())?;
     p.inventory_of_ours(rt, 5)?;
     p.inventory_of_ours(rt, 6)
 }
@@ -142,8 +150,8 @@ fn post_of_tombstoned() -> Post {
 pub fn tombstoned(rt: &impl Print) -> io::Result<()> {
     println!(rt; "a tombstoned tag or a listed prefix is not offered")?;
     let p = post_of_tombstoned();
-    let l = list_of(&[own_tag(2), tag(0x22), tag(0x99), tag(0x99), tag(0x99)]);
-    p.listed(rt, b"", &l)?;
+    let l = list_of([own_tag(2), tag(0x22), tag(0x99)]);
+    p.listed(rt, b"", l.as_flattened())?;
     println!(rt;
         "inventory writes the prefixes of the same rows, tombstoned too, copies of any number"
     )?;

@@ -1,29 +1,67 @@
 // A small post, and what is put to it. What only sets it up writes nothing; the other calls write what they answer.
 use crate::lines;
-use crate::lines::first;
+use crate::lines::first_rows;
 use chain::Dir;
 use courier::Header;
 use courier_core::{ContactId, Refusal, Verification};
 use envelope::Answer;
-use rows::{CARRIED_WIDTH, Carried, Device, Exchange, OWN_WIDTH, Reply, Row, TOMBSTONE_WIDTH};
+use rows::{
+    ACTION_WIDTH, BAD_TAG_WIDTH, CARRIED_AREA, CARRIED_WIDTH, CONTACT_AREA, Carried, Device,
+    Exchange, LISTED_ACTIONS, MAX_CARRIED, OFFER_AREA, OWN_AREA, OWN_WIDTH, PREFIX_AREA,
+    REPLY_AREA, Reply, Row, TOMBSTONE_WIDTH,
+};
+use state::CELL;
 use std::io;
 
-// What goes by value and the lent areas: 16 carried cells, 4 own ones, 4 tombstone rows, 2 rows of bad tags.
+// The seconds of a minute. (A number of the program's own: what crate contacts divides by is what is tried.)
+pub const MINUTE: u64 = 60;
+
+// The rows of the two small tables, and the cells.
+const TOMBSTONES: usize = 4;
+
+const BAD_TAGS: usize = 2;
+
+const OWN_CELLS: usize = 4;
+
+const CARRIED_CELLS: usize = 16;
+
+// Their bytes.
+const TOMBSTONE_AREA: usize = TOMBSTONES * TOMBSTONE_WIDTH;
+
+const BAD_TAG_AREA: usize = BAD_TAGS * BAD_TAG_WIDTH;
+
+const OWN_CELL_AREA: usize = OWN_CELLS * CELL;
+
+const CARRIED_CELL_AREA: usize = CARRIED_CELLS * CELL;
+
+// The bytes of an action area for so many tombstones.
+const ACTION_AREA: usize = ACTION_WIDTH * (LISTED_ACTIONS + TOMBSTONES);
+
+// What goes by value and the lent areas.
+// (Its own struct: the posts of replay_calls, the drill and screen_page have areas of other sizes, and one for all would have a parameter for each size.)
 #[derive(Drop)]
 pub struct Post {
     pub device: Device,
-    pub contacts: [u8; 2304],
-    pub own: [u8; 13824],
-    pub carried: [u8; 14592],
-    pub tombstones: [u8; 176],
-    pub bad_tags: [u8; 48],
-    pub own_cells: [u8; 8256],
-    pub carried_cells: [u8; 33024],
+    pub contacts: [u8; CONTACT_AREA],
+    pub own: [u8; OWN_AREA],
+    pub carried: [u8; CARRIED_AREA],
+    pub tombstones: [u8; TOMBSTONE_AREA],
+    pub bad_tags: [u8; BAD_TAG_AREA],
+    pub own_cells: [u8; OWN_CELL_AREA],
+    pub carried_cells: [u8; CARRIED_CELL_AREA],
 }
 
 // ---- tags, secrets, headers
 
 const ROUTE_KEY: [u8; 32] = [0x5A; 32];
+
+// The ciphertext of every envelope: the shortest that a courier carries.
+const CIPHERTEXT: [u8; 48] = [0; 48];
+
+// The contact that lists prefixes, and the one that a tomb comes from.
+const LISTER: ContactId = ContactId(5);
+
+const TOMB_SENDER: ContactId = ContactId(7);
 
 pub fn tag(b: u8) -> [u8; 16] {
     [b; 16]
@@ -75,13 +113,13 @@ impl Post {
     pub fn fresh() -> Post {
         Post {
             device: Device::fresh(),
-            contacts: [0; 2304],
-            own: [0; 13824],
-            carried: [0; 14592],
-            tombstones: [0; 176],
-            bad_tags: [0; 48],
-            own_cells: [0; 8256],
-            carried_cells: [0; 33024],
+            contacts: [0; CONTACT_AREA],
+            own: [0; OWN_AREA],
+            carried: [0; CARRIED_AREA],
+            tombstones: [0; TOMBSTONE_AREA],
+            bad_tags: [0; BAD_TAG_AREA],
+            own_cells: [0; OWN_CELL_AREA],
+            carried_cells: [0; CARRIED_CELL_AREA],
         }
     }
 
@@ -93,7 +131,7 @@ impl Post {
     }
 
     pub fn at_minute(self, minute: u32) -> Post {
-        self.at_second(minute as u64 * 60)
+        self.at_second(u64::from(minute) * MINUTE)
     }
 
     pub fn setting(mut self, copies: u8, lifetime: u16) -> Post {
@@ -113,7 +151,7 @@ impl Post {
 
     // An own envelope for a contact.
     pub fn own_envelope(mut self, id: u64, msgno: u32) -> Post {
-        let ct = [0u8; 48];
+        let ct = CIPHERTEXT;
         let _ = own_envelope::own_envelope(
             &mut self.device,
             ContactId(id),
@@ -145,7 +183,7 @@ impl Post {
 
     // The copies of the carried row at i fell to 0, as peers that accept leave them.
     pub fn without_copies(mut self, i: usize) -> Post {
-        let at = i % 256 * CARRIED_WIDTH;
+        let at = i % MAX_CARRIED * CARRIED_WIDTH;
         let row = Carried {
             copies: 0,
             ..Carried::read(&self.carried, at)
@@ -156,25 +194,25 @@ impl Post {
 
     // An envelope that a peer sends, of which nothing is written.
     pub fn deposit(mut self, peer: u64, head: Header) -> Post {
-        let _ = self.take(peer, head, &mut [0u8; 61440], &mut [0u8; 6708]);
+        let _ = self.take(peer, head, &mut [0u8; REPLY_AREA], &mut [0u8; ACTION_AREA]);
         self
     }
 
     // ---- calls
 
-    // An envelope of 48 bytes of ciphertext, with no window.
+    // An envelope, with no window.
     fn take(
         &mut self,
         peer: u64,
         head: Header,
-        replies: &mut [u8; 61440],
-        actions: &mut [u8; 6708],
+        replies: &mut [u8; REPLY_AREA],
+        actions: &mut [u8; ACTION_AREA],
     ) -> Result<Answer, Refusal> {
         envelope::envelope(
             &mut self.device,
             ContactId(peer),
             head,
-            &[0u8; 48],
+            &CIPHERTEXT,
             b"",
             &self.contacts,
             &self.own,
@@ -188,21 +226,21 @@ impl Post {
 
     // An envelope that a peer sends, with no window.
     pub fn send(mut self, rt: &impl Print, peer: u64, head: Header) -> io::Result<Post> {
-        let mut replies = [0u8; 61440];
-        let mut actions = [0u8; 6708];
+        let mut replies = [0u8; REPLY_AREA];
+        let mut actions = [0u8; ACTION_AREA];
         match self.take(peer, head, &mut replies, &mut actions) {
             Err(why) => lines::show_refusal(rt, why)?,
             Ok(Answer::Ours(_, _, _)) => println!(rt; "ours")?,
             Ok(Answer::Done(n, m)) => {
-                lines::show_replies(rt, first(replies.as_chunks().0, n))?;
-                lines::show_actions(rt, first(actions.as_chunks().0, m))?;
+                lines::show_rows(rt, first_rows(&replies, n), lines::show_reply)?;
+                lines::show_rows(rt, first_rows(&actions, m), lines::show_action)?;
             }
         }
         Ok(self)
     }
 
     pub fn fetch(&self, rt: &impl Print, peer: u64, tag: [u8; 16]) -> io::Result<()> {
-        let mut replies = [0u8; 61440];
+        let mut replies = [0u8; REPLY_AREA];
         let fetched = fetch::fetch(
             self.device,
             ContactId(peer),
@@ -225,7 +263,7 @@ impl Post {
             tag,
             expiry,
             &mut self.tombstones,
-            &mut [0u8; 6708],
+            &mut [0u8; ACTION_AREA],
         );
         self
     }
@@ -240,18 +278,18 @@ impl Post {
             expiry,
             &self.contacts,
             &mut self.tombstones,
-            &mut [0u8; 61440],
-            &mut [0u8; 6708],
+            &mut [0u8; REPLY_AREA],
+            &mut [0u8; ACTION_AREA],
         );
         self
     }
 
-    // A tomb from contact 7.
+    // A tomb of a contact.
     pub fn tomb(mut self, rt: &impl Print, tag: [u8; 16], s: [u8; 16]) -> io::Result<Post> {
-        let mut actions = [0u8; 6708];
+        let mut actions = [0u8; ACTION_AREA];
         let said = tombs::receive_tomb(
             &mut self.device,
-            ContactId(7),
+            TOMB_SENDER,
             tag,
             s,
             &self.contacts,
@@ -264,7 +302,7 @@ impl Post {
             Err(why) => lines::show_refusal(rt, why)?,
             Ok(tombs::Said::Malformed) => println!(rt; "malformed")?,
             Ok(tombs::Said::Done(n)) => {
-                lines::show_actions(rt, first(actions.as_chunks().0, n))?;
+                lines::show_rows(rt, first_rows(&actions, n), lines::show_action)?;
             }
         }
         lines::show_counts(rt, &self.device)?;
@@ -272,7 +310,7 @@ impl Post {
     }
 
     pub fn maintenance(mut self, rt: &impl Print) -> io::Result<Post> {
-        let mut actions = [0u8; 6708];
+        let mut actions = [0u8; ACTION_AREA];
         let listed = maintenance::maintain_couriers(
             &mut self.device,
             &mut self.own,
@@ -282,7 +320,7 @@ impl Post {
         );
         match listed {
             Err(why) => lines::show_refusal(rt, why)?,
-            Ok(n) => lines::show_actions(rt, first(actions.as_chunks().0, n))?,
+            Ok(n) => lines::show_rows(rt, first_rows(&actions, n), lines::show_action)?,
         }
         lines::show_counts(rt, &self.device)?;
         Ok(self)
@@ -290,7 +328,7 @@ impl Post {
 
     // Our inventory for a peer.
     pub fn inventory_of_ours(&self, rt: &impl Print, peer: u64) -> io::Result<()> {
-        let mut prefixes = [0u8; 4096];
+        let mut prefixes = [0u8; PREFIX_AREA];
         match inventory::inventory(
             self.device,
             ContactId(peer),
@@ -300,26 +338,29 @@ impl Post {
             &mut prefixes,
         ) {
             Err(why) => lines::show_refusal(rt, why),
-            Ok(n) => lines::show_prefixes(rt, first(prefixes.as_chunks().0, n)),
+            Ok(n) => lines::show_prefixes(rt, first_rows(&prefixes, n)),
         }
     }
 
-    // A fresh exchange with contact 5, in which it lists prefixes and then none.
+    // A fresh exchange with contact 5, in which it lists prefixes and then none. (Three locals and no struct of them, as replay_calls has for its exchanges,
+    // which stay from call to call: these are of one call, and `fresh_exchange` and `receive_inventory` take them one by one.)
     pub fn listed(&self, rt: &impl Print, window: &[u8], list: &[u8]) -> io::Result<()> {
-        let mut prefixes = [0u8; 4096];
-        let mut offers = [0u8; 8704];
+        let mut exchange = Exchange::closed();
+        let mut prefixes = [0u8; PREFIX_AREA];
+        let mut offers = [0u8; OFFER_AREA];
         match contacts::fresh_exchange(
+            &mut exchange,
             self.device,
-            ContactId(5),
+            LISTER,
             &self.contacts,
             &prefixes,
             &offers,
         ) {
             Err(why) => lines::show_refusal(rt, why),
-            Ok(exchange) => {
-                let e = self.receive(rt, exchange, window, list, &mut prefixes, &mut offers)?;
-                let e = self.receive(rt, e, window, b"", &mut prefixes, &mut offers)?;
-                println!(rt; "offered {}", e.offered)
+            Ok(()) => {
+                self.receive(rt, &mut exchange, window, list, &mut prefixes, &mut offers)?;
+                self.receive(rt, &mut exchange, window, b"", &mut prefixes, &mut offers)?;
+                println!(rt; "offered {}", exchange.offered)
             }
         }
     }
@@ -328,17 +369,17 @@ impl Post {
     fn receive(
         &self,
         rt: &impl Print,
-        exchange: Exchange,
+        exchange: &mut Exchange,
         window: &[u8],
         list: &[u8],
-        prefixes: &mut [u8; 4096],
-        offers: &mut [u8; 8704],
-    ) -> io::Result<Exchange> {
-        let mut replies = [0u8; 61440];
-        let r = inventory::receive_inventory(
-            self.device,
+        prefixes: &mut [u8; PREFIX_AREA],
+        offers: &mut [u8; OFFER_AREA],
+    ) -> io::Result<()> {
+        let mut replies = [0u8; REPLY_AREA];
+        let said = inventory::receive_inventory(
             exchange,
-            ContactId(5),
+            self.device,
+            LISTER,
             &self.contacts,
             &self.own,
             &self.carried,
@@ -350,28 +391,27 @@ impl Post {
             offers,
             &mut replies,
         );
-        match r.said {
-            Err(why) => lines::show_refusal(rt, why)?,
-            Ok(inventory::Said::Malformed) => println!(rt; "malformed")?,
+        match said {
+            Err(why) => lines::show_refusal(rt, why),
+            Ok(inventory::Said::Malformed) => println!(rt; "malformed"),
             Ok(inventory::Said::Done(n, searched)) => {
-                lines::show_replies(rt, first(replies.as_chunks().0, n))?;
-                println!(rt; "searched {searched}")?;
+                lines::show_rows(rt, first_rows(&replies, n), lines::show_reply)?;
+                println!(rt; "searched {searched}")
             }
         }
-        Ok(r.exchange)
     }
 
     // ---- the rows that it has
 
     pub fn own_rows(&self) -> &[[u8; OWN_WIDTH]] {
-        first(self.own.as_chunks().0, self.device.own)
+        first_rows(&self.own, self.device.own)
     }
 
     pub fn carried_rows(&self) -> &[[u8; CARRIED_WIDTH]] {
-        first(self.carried.as_chunks().0, self.device.carried)
+        first_rows(&self.carried, self.device.carried)
     }
 
     pub fn tombstone_rows(&self) -> &[[u8; TOMBSTONE_WIDTH]] {
-        first(self.tombstones.as_chunks().0, self.device.tombstones)
+        first_rows(&self.tombstones, self.device.tombstones)
     }
 }

@@ -1,12 +1,12 @@
 // Minute = seconds / 60, at most 2^32-1. Lifetime end = minute + lifetime, stopped at 2^32-1.
-use crate::lines::{first, show_carried, show_own, show_tombstones};
-use crate::post::{Post, header, tag};
+use crate::lines::{first, show_carried, show_own, show_rows, show_tombstone};
+use crate::post::{MINUTE, Post, header, tag};
 use std::io;
 
 // The last minute, and the second at which it begins.
 const LAST: u32 = u32::MAX;
 
-const LAST_BEGINS: u64 = 257698037700;
+const LAST_BEGINS: u64 = LAST as u64 * MINUTE;
 
 // An envelope is valid while its expiry is after the minute.
 pub fn minute(rt: &impl Print) -> io::Result<()> {
@@ -25,7 +25,7 @@ pub fn last_minute(rt: &impl Print) -> io::Result<()> {
     let p = p.send(rt, 7, header(0x21, 2, LAST))?.maintenance(rt)?;
     let p = p.at_second(LAST_BEGINS);
     let p = p.send(rt, 7, header(0x22, 2, LAST))?;
-    let p = p.at_second(LAST_BEGINS + 60);
+    let p = p.at_second(LAST_BEGINS + MINUTE);
     let p = p.send(rt, 7, header(0x22, 2, LAST))?;
     let p = p.at_second(u64::MAX);
     p.send(rt, 7, header(0x22, 2, LAST))?.maintenance(rt)?;
@@ -42,11 +42,11 @@ pub fn lifetime_end(rt: &impl Print) -> io::Result<()> {
     let p = p.report_opened(7, tag(0x32), LAST).at_minute(LAST - 1439);
     let p = p.own_envelope(6, 3).deposit(7, header(0x23, 2, LAST));
     let p = p.report_opened(7, tag(0x33), LAST);
-    show_own(rt, p.own_rows())?;
-    show_carried(rt, p.carried_rows())?;
-    show_tombstones(rt, p.tombstone_rows())?;
+    show_rows(rt, p.own_rows(), show_own)?;
+    show_rows(rt, p.carried_rows(), show_carried)?;
+    show_rows(rt, p.tombstone_rows(), show_tombstone)?;
     let p = p.at_minute(LAST - 1).maintenance(rt)?;
-    show_own(rt, first(p.own_rows(), 1))?;
+    show_rows(rt, first(p.own_rows(), 1), show_own)?;
     p.at_minute(LAST).maintenance(rt)?;
     Ok(())
 }
@@ -59,5 +59,5 @@ pub fn accepted(rt: &impl Print) -> io::Result<()> {
     let p = p.send(rt, 7, header(0x23, 9, 50))?;
     let p = p.send(rt, 7, header(0x24, 3, 100000))?.setting(2, 60);
     let p = p.send(rt, 7, header(0x25, 9, 100000))?;
-    show_carried(rt, p.carried_rows())
+    show_rows(rt, p.carried_rows(), show_carried)
 }

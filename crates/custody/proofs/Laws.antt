@@ -1,6 +1,8 @@
 -- Laws of the tests of the envelope call: rows by their keys, and each test over its parts.
 -- Assumes nothing.
-use Rattle.std.proofs.Common.{◌≡◌, ℕ, suc, ◌+◌, ◌*◌, ◌<◌, ◌≤◌, Bool, true, false, cond, refl, not, ◌||◌, eqb, ltb, leb, List, length, drop, sym, ap, ◌∙◌, ap₂, arith, drop_of_length-le, le-ltb}
+use Rattle.std.proofs.Common.{◌≡◌, ℕ, suc, ◌+◌, ◌*◌, ◌<◌, ◌≤◌, Bool, true, false, cond, refl, not, ◌||◌, eqb, ltb, leb, List, [], ◌∷◌, map, length, drop, zero, sym, ap, ◌∙◌, ap₂, arith, drop_of_length-le, le-ltb}
+use Rattle.std.specs.List.{range_with_len, sum_by}
+use Rattle.std.proofs.lemmas.List.Sums.{sum_by-cons}
 use Rattle.octets.specs.Bytes.{part, num, same_bytes}
 use Rattle.octets.proofs.Parts.{part_part}
 use Rattle.courier_core.specs.declared.ContactId.{ContactId}
@@ -8,10 +10,10 @@ use Rattle.courier.specs.declared.Header.{Header}
 use Rattle.courier.specs.declared.Custody.{Custody}
 use Rattle.courier.specs.declared.Custody.TheVariants as custody
 use Rattle.courier.specs.Courier.{envelope_valid}
-use Rattle.table.specs.Lists.{any}
+use Rattle.table.specs.Lists.{any, count_by}
 use Rattle.table.specs.Rows.{held, rows, has_key}
 use Rattle.table.specs.Codec.{Codec, table_of}
-use Rattle.table.proofs.FindLaws.{count_next, count_end, key_run}
+use Rattle.table.proofs.FindLaws.{key_run}
 use Rattle.table.proofs.RowLaws.{held_inside}
 use Rattle.table.proofs.TableLaws.{length_table, table_next, table_any}
 use Rattle.rows.specs.declared.Device.{Device}
@@ -47,45 +49,44 @@ duplicate_of tag a ed eo ec et o c t po pc pt = rw (ed, eo, ec, et, po, pc, pt)
 
 -- ---- carried rows by depositor
 
-module _ (count n : ℕ) (a : List ℕ) (peer : ContactId) (held-n : n ≡ held (length a) carried_width count) where
-  abbrev T : List Carried
-  T = table_of carried_codec count a
+-- is the number at 8 of a row's bytes the peer's
+abbrev pub deposits : ContactId → List ℕ → Bool
+deposits peer row = eqb (num (part row 8 8)) peer.0
 
-  -- the row at i is counted if the number at its place is the peer's
-  pub deposit_next : (i v s t : ℕ) (b : Bool) → i < n → v ≡ num (part a (i * 57 + 8) 8) → eqb v peer.0 ≡ b → t ≡ cond b (s + 1) s
-      → deposited T peer ≡ s + deposited (drop i T) peer → deposited T peer ≡ t + deposited (drop (i + 1) T) peer
-  unfolding deposited carried_of
-  deposit_next i v s t b h e x et left =
-      let p : Carried → Bool = λ (r : Carried). same_contact r.depositor peer in
-      go b et _ _ _ (count_next p T i _ b (table_next carried_codec count a i (omega arith))
-      (ap (λ (k : ℕ). eqb k peer.0) (ap num (part_part a (i * 57) 57 8 8 (omega arith)) ∙ sym e) ∙ x)) left
-    where
-      go : (b : Bool) → t ≡ cond b (s + 1) s → (x y all : ℕ) → x ≡ cond b (suc y) y → all ≡ s + x → all ≡ t + y
-      go true et x y all f left = omega arith
-      go false et x y all f left = omega arith
-
-  pub deposit_end : (i s : ℕ) → n ≤ i → deposited T peer ≡ s + deposited (drop i T) peer → s ≡ deposited T peer
-  unfolding deposited
-  deposit_end i s h left = omega (arith, left, count_end (λ (r : Carried). same_contact r.depositor peer) T i (omega (arith, length_table carried_codec count a)))
+pub deposit_all : (count n : ℕ) (a : List ℕ) (peer : ContactId) (found : ℕ) → n ≡ held (length a) carried_width count
+    → found ≡ count_by (deposits peer) (rows carried_width n a) → found ≡ deposited (table_of carried_codec count a) peer
+unfolding deposited table_of carried_of count_by
+deposit_all count n a peer found held-n e =
+    e ∙ ap (λ (k : ℕ). count_by (deposits peer) (rows carried_width k a)) held-n ∙ go (rows carried_width (held (length a) carried_width count) a)
+  where
+    go : (rs : List (List ℕ)) → count_by (deposits peer) rs ≡ count_by (λ (r : Carried). same_contact r.depositor peer) (map carried_of rs)
+    go [] = refl
+    go (r ∷ rs) = ap (λ (k : ℕ). cond (deposits peer r) (suc k) k) (go rs)
 
 -- ---- the bytes of carried rows
+
+-- header and ciphertext bytes of the row at the place of row i
+abbrev pub bytes_at : List ℕ → ℕ → ℕ → ℕ
+bytes_at a size i = 37 + cell_length size (num (part a (i * 57 + 55) 2)) (num (part a (i * 57 + 53) 2))
 
 module _ (size count n : ℕ) (a : List ℕ) (held-n : n ≡ held (length a) carried_width count) where
   abbrev held_rows : List Carried
   held_rows = table_of carried_codec count a
 
-  pub total_next : (i s t v : ℕ) → i < n → v ≡ cell_length size (num (part a (i * 57 + 55) 2)) (num (part a (i * 57 + 53) 2)) → t ≡ s + (37 + v)
-      → carried_total size held_rows ≡ s + carried_total size (drop i held_rows) → carried_total size held_rows ≡ t + carried_total size (drop (i + 1) held_rows)
+  total_from : (k i : ℕ) → i + k ≡ n → sum_by (bytes_at a size) (range_with_len i k) ≡ carried_total size (drop i held_rows)
   unfolding carried_total carried_of
-  total_next i s t v h e et left =
-      let f : v ≡ cell_length size (num (part (part a (i * 57) 57) 55 2)) (num (part (part a (i * 57) 57) 53 2)) =
-      e ∙ sym (ap₂ (λ (x y : List ℕ). cell_length size (num x) (num y)) (part_part a (i * 57) 57 55 2 (omega arith)) (part_part a (i * 57) 57 53 2 (omega arith))) in
-      omega (arith, left, f, ap (carried_total size) (table_next carried_codec count a i (omega arith)))
+  total_from zero i e =
+      sym (ap (carried_total size) (drop_of_length-le held_rows {i = i} (omega (arith, length_table carried_codec count a))))
+  total_from (suc k) i e =
+      let f : cell_length size (num (part a (i * 57 + 55) 2)) (num (part a (i * 57 + 53) 2)) ≡ cell_length size (num (part (part a (i * 57) 57) 55 2)) (num (part (part a (i * 57) 57) 53 2)) =
+      sym (ap₂ (λ (x y : List ℕ). cell_length size (num x) (num y)) (part_part a (i * 57) 57 55 2 (omega arith)) (part_part a (i * 57) 57 53 2 (omega arith))) in
+      omega (arith, f, sum_by-cons (bytes_at a size) i (range_with_len (i + 1) k), total_from k (i + 1) (omega arith), ap (carried_total size) (table_next carried_codec count a i (omega arith)))
 
-  pub total_end : (i s : ℕ) → n ≤ i → carried_total size held_rows ≡ s + carried_total size (drop i held_rows) → s ≡ carried_total size held_rows
-  unfolding carried_total
-  total_end i s h left =
-      omega (arith, left, ap (carried_total size) (drop_of_length-le held_rows {i = i} (omega (arith, length_table carried_codec count a))))
+  pub total_all : sum_by (bytes_at a size) (range_with_len 0 n) ≡ carried_total size held_rows
+  total_all = total_from n 0 (omega arith)
+
+  pub total_fits : length a ≤ 14592 → sum_by (bytes_at a size) (range_with_len 0 n) < 18446744073709551616
+  total_fits h = omega (arith, total_all, carried_total_lem size held_rows, length_table carried_codec count a, held_inside (length a) 57 count)
 
 -- ---- Full
 

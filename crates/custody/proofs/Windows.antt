@@ -1,6 +1,9 @@
 -- Laws of the window's rows and of bad tags.
 -- Assumes nothing.
-use Rattle.std.proofs.Common.{◌≡◌, ℕ, ◌+◌, ◌*◌, ◌/◌, ◌%◌, ◌<◌, ◌≤◌, Bool, true, false, cond, not, Option, Some, ◌&&◌, ◌||◌, eqb, ltb, List, [], ◌∷◌, length, get_or, take, drop, sym, refl, ap, ◌∙◌, ap₂, arith, length-drop, take-take}
+use Rattle.std.proofs.Common.{◌≡◌, ℕ, ◌+◌, ◌*◌, ◌/◌, ◌%◌, ◌<◌, ◌≤◌, Bool, true, false, cond, not, Option, Some, ◌&&◌, ◌||◌, eqb, ltb, List, [], ◌∷◌, length, get_or, take, drop, zero, suc, ◌-◌, sym, refl, ap, ◌∙◌, ap₂, arith, length-drop, take-take}
+use Rattle.std.specs.Bool.{MatchBool}
+use Rattle.std.specs.List.{AllWithin, HoldsAt, range_with_len}
+use Rattle.std.proofs.lemmas.List.FromFn.{length-range_with_len, get_or-range_with_len}
 use Rattle.std.specs.Ordering.{partial_lt, partial_ordering_then, nat_cmp, is_lt, is_some_and}
 use Rattle.std.specs.declared.cmp.Ordering.{Ordering}
 use Rattle.std.specs.declared.cmp.Ordering.TheVariants.{Less, Equal, Greater}
@@ -89,6 +92,44 @@ module _ (a : List ℕ) where
       go [] k = refl
       go (x ∷ []) k = refl
       go (x ∷ y ∷ l) k = absurd (omega arith)
+
+  abbrev rises : ℕ → Bool
+  rises i = key_below (reachable_of (part a (i * 30) 30)) (reachable_of (part a (i * 30 + 30) 30))
+
+  -- every row from the first on, against the next
+  rise_all : (k i : ℕ) → i + k ≡ length a / 30 → ((j : ℕ) → i ≤ j → j + 1 < length a / 30 → rises j ≡ true) → keys_rise (drop i (window_rows a)) ≡ true
+  rise_all zero i e h = rise_end i (omega arith)
+  rise_all (suc zero) i e h = rise_end i (omega arith)
+  rise_all (suc (suc k)) i e h =
+      rise_next i true (omega arith) (h i (omega arith) (omega arith)) ∙ rise_all (suc k) (i + 1) (omega arith) (λ j l m. h j (omega arith) m)
+
+  -- one that doesn't rise, d rows on
+  rise_not : (d i : ℕ) → i + d + 1 < length a / 30 → rises (i + d) ≡ false → keys_rise (drop i (window_rows a)) ≡ false
+  rise_not zero i h e = rise_next i false (omega arith) (let z : i + 0 ≡ i = omega arith in ap rises (sym z) ∙ e)
+  rise_not (suc d) i h e =
+      let z : i + 1 + d ≡ i + suc d = omega arith in
+      rise_next i (rises i) (omega arith) refl ∙ ap (λ (b : Bool). rises i && b) (rise_not d (i + 1) (omega arith) (ap rises z ∙ e)) ∙ go (rises i)
+    where
+      go : (b : Bool) → (b && false) ≡ false
+      go true = refl
+      go false = refl
+
+  -- what `all` says of the rows from the second on, each against the one before it
+  abbrev pub rise_at : Bool → ℕ → Type 0
+  rise_at b i = rises (i - 1) ≡ b
+
+  pub rise_told : (r : Bool) (n : ℕ) → n ≡ length a / 30 - 1
+      → MatchBool r (AllWithin (rise_at true) (range_with_len 1 n) 0 (length (range_with_len 1 n))) ((k : ℕ) × (k < length (range_with_len 1 n)) × HoldsAt (rise_at false) (range_with_len 1 n) k)
+      → r ≡ keys_rise (window_rows a)
+  rise_told true n e h =
+      sym (rise_all (length a / 30) 0 (omega arith) (λ j l m.
+      let k : j < n = omega arith in
+      let z : j ≡ get_or (range_with_len 1 n) j 0 - 1 = omega (arith, get_or-range_with_len 1 n j 0 k) in
+      ap rises z ∙ h j 0 l (omega (arith, k, length-range_with_len 1 n))))
+  rise_told false n e h =
+      let k : h.0 < n = omega (arith, h.1, length-range_with_len 1 n) in
+      let z : 0 + h.0 ≡ get_or (range_with_len 1 n) h.0 0 - 1 = omega (arith, get_or-range_with_len 1 n h.0 0 k) in
+      sym (rise_not h.0 0 (omega arith) (ap rises z ∙ h.2 0))
 
 pub wrong_of : (a : List ℕ) (x y z : Bool) → ltb 0 (length a % 30) ≡ x → any wrong_direction (window_rows a) ≡ y → keys_rise (window_rows a) ≡ z
     → wrong_window a ≡ (x || y || not z)

@@ -1,6 +1,6 @@
 -- The cells that the rows of a table name, for a table of carried rows and of own rows alike, and the marks of them.
 -- Assumes nothing.
-use Rattle.std.specs.Prelude.{◌≡◌, ℕ, ◌<◌, cond, List, map, nat_eq, slice_index}
+use Rattle.std.specs.Prelude.{◌≡◌, ℕ, ◌<◌, Bool, false, ◌||◌, List, map, nat_eq, slice_index_or}
 use Rattle.octets.specs.Bytes.{part, num}
 use Rattle.table.specs.Lists.{any}
 use Rattle.table.specs.Rows.{rows}
@@ -9,10 +9,10 @@ use Rattle.table.specs.Rows.{rows}
 unfoldable pub cells_named : ℕ → ℕ → ℕ → List ℕ → List ℕ
 cells_named w offset n a = map (λ (b : List ℕ). num (part b offset 2)) (rows w n a)
 
--- the mark of a cell: 1 where it is named, else the mark that it had
-unfoldable pub mark_of : List ℕ → ℕ → ℕ → ℕ
-mark_of named cell had = cond (any (λ (k : ℕ). nat_eq k cell) named) 1 had
+-- is a cell named, or was it marked before
+unfoldable pub mark_of : List ℕ → ℕ → Bool → Bool
+mark_of named cell had = any (λ (k : ℕ). nat_eq k cell) named || had
 
--- marks of 256 cells: 1 at each that is named, 0 at any other
-unfoldable pub Marked : List ℕ → List ℕ → Type 0
-Marked named marks = (cell : ℕ) → cell < 256 → slice_index marks cell ≡ mark_of named cell 0
+-- marks of 256 cells: true at each that is named, false at any other
+unfoldable pub Marked : List ℕ → List Bool → Type 0
+Marked named marks = (cell : ℕ) → cell < 256 → slice_index_or marks cell false ≡ mark_of named cell false

@@ -1,7 +1,7 @@
 // What the envelope call tests before it holds a row: `custody` of couriering.rs, and the window.
 #![tactic(auto)]
 
-ghost use Rattle.std.specs.Prelude.{◌≡◌, ◌+◌, ◌*◌, ◌≤◌, ◌&&◌, map, length, position, ◌==◌, nat_lt};
+ghost use Rattle.std.specs.Prelude.{◌≡◌, ◌+◌, ◌*◌, ◌≤◌, not, ◌&&◌, ◌||◌, map, length, position, ◌==◌, nat_lt};
 ghost use Rattle.octets.specs.Bytes.{part, num, same_bytes};
 ghost use Rattle.courier_core.specs.declared.ContactId.{ContactId};
 ghost use Rattle.table.specs.Lists.{any};
@@ -12,56 +12,39 @@ ghost use Rattle.rows.specs.Rows.{carried_width, contact_codec, own_codec, carri
 ghost use Rattle.model.specs.State.{State};
 ghost use Rattle.model.specs.Areas.{Areas, view};
 ghost use Rattle.model.specs.Cells.{cell_length, free_cell};
-ghost use Rattle.model.specs.Window.{window_rows, lookup, wrong_direction, key_below, keys_rise, wrong_window, is_bad};
+ghost use Rattle.model.specs.Contacts.{known as known_of};
+ghost use Rattle.model.specs.Window.{strangers as some_stranger, window_rows, lookup, wrong_direction, key_below, keys_rise, wrong_window, is_bad};
 ghost use Rattle.custody.specs.Lent.{Lent};
 ghost use Rattle.custody.specs.Named.{cells_named, Marked};
 ghost use Rattle.model.specs.Custody.{max_carried_bytes, envelope_header, quota, duplicate, deposited, carried_total, full, custody_of};
 
 use chain::no_dir;
-use contacts::{is_verified, now_min};
+use contacts::{is_verified, known, now_min, strangers};
 use courier::{Custody, ENVELOPE_HEADER, Header};
 use courier_core::ContactId;
-use rows::{BAD_TAG_WIDTH, CARRIED_WIDTH, Device, OWN_WIDTH, REACHABLE_WIDTH, Reachable, Row};
+use rows::{
+    BAD_TAG_WIDTH, BadTag, CARRIED_AREA, CARRIED_WIDTH, CONTACT_WIDTH, Carried, Device,
+    MAX_CARRIED, MAX_CELLS, MAX_PER_VERIFIED, OWN_WIDTH, Own, REACHABLE_WIDTH, Reachable, Row,
+};
 use state::CELL;
 use table::Table;
 use tombstones::tombstoned;
 
-// The cells of an area that count, at most.
-const MAX_CELLS: usize = 256;
-
-// What a device holds for others, at most: rows, their bytes, and rows of one depositor by its verification.
-const MAX_CARRIED: usize = 256;
-
+// What a device holds for others, at most: bytes, and rows of one depositor that is not verified (of one that is: `rows::MAX_PER_VERIFIED`).
 const MAX_CARRIED_BYTES: usize = 1_048_576;
 
 const MAX_PER_DEPOSITOR: usize = 16;
 
-const MAX_PER_VERIFIED: usize = 32;
-
-// Where the fields stand that are read in place.
-const CARRIED_DEPOSITOR: usize = 8;
-
-const CARRIED_TAG: usize = 16;
-
-const CARRIED_LEN: usize = 53;
-
-const CARRIED_CELL: usize = 55;
-
-const OWN_TAG: usize = 12;
-
-const OWN_CELL: usize = 52;
-
-const REACHABLE_DIR: usize = 8;
-
-const REACHABLE_TAG: usize = 14;
-
 // What the tests of an envelope read: the device, the tables that a host lends beside it, and the bytes of its carried cells.
+// (Its methods write the table of an area as a literal, where they read it: given by a method, each proof would first rewrite by what that
+// ensures. A field that is a lent array goes into a
+// literal through a local: put there straight, the borrow check does not cover it.)
 #[derive(Clone, Copy)]
 pub struct Tables<'a> {
     pub device: Device,
     pub contacts: &'a [u8],
     pub own: &'a [u8],
-    pub carried: &'a [u8; 14592],
+    pub carried: &'a [u8; CARRIED_AREA],
     pub tombstones: &'a [u8],
     pub size: usize,
 }
@@ -72,14 +55,12 @@ pub struct Tables<'a> {
 pub fn deposited(carried: Table<CARRIED_WIDTH>, peer: ContactId) -> usize
     ensures { result ≡ deposited (rows_in carried_codec carried.entry) peer }
 {
-    let mut sum = 0;
-    for i in 0..carried.len() {
-        let at = i * CARRIED_WIDTH + CARRIED_DEPOSITOR;
-        if ContactId(octets::get_u64(carried.area, at)) == peer {
-            sum += 1;
-        }
-    }
-    sum
+    table::count(
+        carried.area,
+        CARRIED_WIDTH,
+        carried.len(),
+        |row| ContactId(octets::get_u64(row, Carried::DEPOSITOR)) == peer,
+    )
 }
 
 // The length of a ciphertext in a cell area of size bytes: what lies inside the cell, the area, and the cells that count.
@@ -98,8 +79,8 @@ fn ciphertext_length(carried: &[u8], at: usize, size: usize) -> usize
 {
     cell_length(
         size,
-        octets::get_u16(carried, at + CARRIED_CELL),
-        octets::get_u16(carried, at + CARRIED_LEN),
+        octets::get_u16(carried, at + Carried::CELL),
+        octets::get_u16(carried, at + Carried::LEN),
     )
 }
 
@@ -108,11 +89,13 @@ fn carried_total(carried: Table<CARRIED_WIDTH>, size: usize) -> usize
     requires { length carried.area.now ≤ 14592 }
     ensures { result ≡ carried_total size (rows_in carried_codec carried.entry) }
 {
-    let mut sum = 0;
-    for i in 0..carried.len() {
-        sum += ENVELOPE_HEADER + ciphertext_length(carried.area, i * CARRIED_WIDTH, size);
-    }
-    sum
+    (0..carried.len())
+        .map(
+            |i|
+                requires { i * 57 + 57 ≤ length carried.area.now }
+            { ENVELOPE_HEADER + ciphertext_length(carried.area, i * CARRIED_WIDTH, size) },
+        )
+        .sum()
 }
 
 fn quota(verified: bool) -> usize
@@ -129,8 +112,7 @@ fn quota(verified: bool) -> usize
 fn over_bytes(bytes: usize, len: usize) -> bool
     ensures { result ≡ nat_lt max_carried_bytes (bytes + (envelope_header + len)) }
 {
-    let room = MAX_CARRIED_BYTES - ENVELOPE_HEADER;
-    len > room || bytes > room - len
+    bytes.saturating_add(len) > MAX_CARRIED_BYTES - ENVELOPE_HEADER
 }
 
 // The same, over the carried rows. 256 of them have 537,856 bytes at most, so that a ciphertext which fits a cell never passes it.
@@ -144,24 +126,24 @@ fn too_many_bytes(carried: Table<CARRIED_WIDTH>, size: usize, len: usize) -> boo
 // ---- the cell of a new row
 
 // Which of 256 cells the rows name. A row may name any number: one past them marks nothing.
-fn mark_cells<const W: usize>(rows: Table<W>, offset: usize) -> [u8; MAX_CELLS]
+fn mark_cells<const W: usize>(rows: Table<W>, offset: usize) -> [bool; MAX_CELLS]
     requires { offset + 2 ≤ W }
     ensures { Marked (cells_named W offset (held (length rows.entry.area.now) W rows.entry.count) rows.entry.area.now) result }
 {
-    let mut marks = [0; MAX_CELLS];
-    for i in 0..rows.len() {
-        let cell = usize::from(octets::get_u16(rows.area, i * W + offset));
+    let mut marks = [false; MAX_CELLS];
+    for row in rows.area.chunks_exact(W).take(rows.len()) {
+        let cell = usize::from(octets::get_u16(row, offset));
         if cell < MAX_CELLS {
-            marks[cell] = 1;
+            marks[cell] = true;
         }
     }
     marks
 }
 
-fn first_zero(marks: &[u8]) -> Option<usize>
-    ensures { result ≡ position (λ m. m == 0) marks.now }
+fn first_unmarked(marks: &[bool]) -> Option<usize>
+    ensures { result ≡ position not marks.now }
 {
-    marks.iter().position(|mark| *mark == 0)
+    marks.iter().position(|marked| !*marked)
 }
 
 // The first cell that no row names, in a cell area of size bytes: up to 256 cells count.
@@ -171,23 +153,24 @@ fn free_cell<const W: usize>(rows: Table<W>, offset: usize, size: usize) -> Opti
     ensures { result ≡ free_cell size (cells_named W offset (held (length rows.entry.area.now) W rows.entry.count) rows.entry.area.now) }
 {
     let marks = mark_cells(rows, offset);
-    first_zero(&marks[..MAX_CELLS.min(size / CELL)])
+    first_unmarked(&marks[..MAX_CELLS.min(size / CELL)])
 }
 
 // Of carried rows and of own rows. (Two functions: each names where its rows have the cell, and is one call.)
 pub fn free_carried_cell(carried: Table<CARRIED_WIDTH>, size: usize) -> Option<usize>
     ensures { result ≡ free_cell size (map (λ x. x.cell) (rows_in carried_codec carried.entry)) }
 {
-    free_cell(carried, CARRIED_CELL, size)
+    free_cell(carried, Carried::CELL, size)
 }
 
 pub fn free_own_cell(own: Table<OWN_WIDTH>, size: usize) -> Option<usize>
     ensures { result ≡ free_cell size (map (λ x. x.cell) (rows_in own_codec own.entry)) }
 {
-    free_cell(own, OWN_CELL, size)
+    free_cell(own, Own::CELL, size)
 }
 
 // ---- the window
+// (A slice, as each call is lent it: a struct of it would be made in two calls, and opened again in each of these functions.)
 
 // The first row whose tag begins with a key of 16 bytes at most. Every row is looked at.
 fn lookup_key(window: &[u8], key: &[u8]) -> Option<usize>
@@ -195,7 +178,7 @@ fn lookup_key(window: &[u8], key: &[u8]) -> Option<usize>
     ensures { result ≡ lookup (window_rows window.now) key.now }
 {
     let n = window.len() / REACHABLE_WIDTH;
-    table::scan(window, REACHABLE_WIDTH, n, REACHABLE_TAG, key)
+    table::scan(window, REACHABLE_WIDTH, n, Reachable::TAG, key)
 }
 
 // The first row with the tag. (Two functions, of the two lengths that there are: of any length, it would ask that the key is no longer than a tag.)
@@ -219,7 +202,7 @@ fn wrong_directions(window: &[u8]) -> bool
         window,
         REACHABLE_WIDTH,
         window.len() / REACHABLE_WIDTH,
-        |row| no_dir(row[REACHABLE_DIR]),
+        |row| no_dir(row[Reachable::DIR]),
     )
 }
 
@@ -246,19 +229,25 @@ fn rises(window: &[u8], at: usize) -> bool
 fn keys_rise(window: &[u8]) -> bool
     ensures { result ≡ keys_rise (window_rows window.now) }
 {
-    for i in 1..window.len() / REACHABLE_WIDTH {
-        if !rises(window, (i - 1) * REACHABLE_WIDTH) {
-            return false;
-        }
-    }
-    true
+    (1..window.len() / REACHABLE_WIDTH).all(
+        |i|
+            requires { (1 ≤ i) × (i * 30 + 30 ≤ length window.now) }
+        { rises(window, (i - 1) * REACHABLE_WIDTH) },
+    )
 }
 
-// Number 12 of a window: not whole rows, a direction not `I` or `R`, keys not rising.
+// `WindowRows`: not whole rows, a direction not `I` or `R`, keys not rising.
 pub fn wrong_window(window: &[u8]) -> bool
     ensures { result ≡ wrong_window window.now }
 {
     window.len() % REACHABLE_WIDTH > 0 || wrong_directions(window) || !keys_rise(window)
+}
+
+// `UnknownContact`: the peer, or a contact in the window, isn't known.
+pub fn unknown(contacts: Table<CONTACT_WIDTH>, peer: ContactId, window: &[u8]) -> bool
+    ensures { result ≡ (not (known_of (rows_in contact_codec contacts.entry) peer) || some_stranger (rows_in contact_codec contacts.entry) (window_rows window.now)) }
+{
+    !known(contacts, peer) || strangers(contacts, window)
 }
 
 // ---- bad tags
@@ -268,7 +257,7 @@ fn is_bad_row(row: &[u8], peer: ContactId, tag: [u8; 16]) -> bool
     requires { 24 ≤ length row.now }
     ensures { result ≡ (num (part row.now 0 8) == peer.0 && same_bytes (part row.now 8 16) tag) }
 {
-    ContactId(octets::get_u64(row, 0)) == peer && octets::same(row, 8, &tag, 0, 16)
+    ContactId(octets::get_u64(row, 0)) == peer && octets::same(row, BadTag::TAG, &tag, 0, 16)
 }
 
 // Is a tag bad for a peer?
@@ -298,7 +287,7 @@ impl Tables<'_> {
             area: self.tombstones,
             count: self.device.tombstones,
         };
-        own.has(OWN_TAG, &tag) || carried.has(CARRIED_TAG, &tag) || tombstoned(tombstones, tag)
+        own.has(Own::TAG, &tag) || carried.has(Carried::TAG, &tag) || tombstoned(tombstones, tag)
     }
 
     // Full, of an envelope of len ciphertext bytes.
@@ -323,11 +312,15 @@ impl Tables<'_> {
     pub fn custody(self, peer: ContactId, head: Header, len: usize) -> Custody
         ensures { (a : Areas) → Lent a self.entry → result ≡ custody_of (view a) peer head len }
     {
-        let device = self.device;
-        if !device.courier.enabled {
+        if !self.device.courier.enabled {
             return Custody::Off;
         }
-        if !courier::valid(len, head.copies, head.expiry_min, now_min(device.now_s)) {
+        if !courier::valid(
+            len,
+            head.copies,
+            head.expiry_min,
+            now_min(self.device.now_s),
+        ) {
             return Custody::Invalid;
         }
         if self.duplicate(head.tag) {

@@ -11,7 +11,7 @@ pub struct Encoded {
     pub len: usize,
 }
 
-// The minimal unsigned LEB128 encoding of `value`. The loop goes over what is left of the value: a `for` over the bytes needs a second exit.
+// The minimal unsigned LEB128 encoding of `value`. The loop goes over what is left of the value: a `for` over the bytes would need a `break` and a value behind the loop.
 #[tactic(auto, using(crate::proofs::Leb128Laws::encode_last))]
 pub fn leb128(value: u32) -> Encoded
     ensures { result ≡ encoded (leb_of value) }

@@ -16,6 +16,7 @@ use Rattle.drill_run.specs.Drill.{drill_start, drill_areas, printed}
 use Rattle.drill_log.specs.declared.Why.{Why}
 use Rattle.drill_log.specs.declared.Why.TheVariants as cause
 use Rattle.drill_log.specs.Run.{goes_on}
+use Rattle.std.specs.Option.{unwrap_or}
 use Rattle.drill_turn.specs.declared.Turn.{Turn}
 use Rattle.drill_turn.specs.Stream.{first_turn, left, read_of, read_turn, Inside, Waits, Keeps, Fed, Turned, AtEnd, Between, Streamed, Printed}
 use Rattle.drill_turn.proofs.StreamLaws.{fed_read, streamed_more, between_start, between_on, between_end}
@@ -131,10 +132,10 @@ pub inside_buffer : {from have size : ℕ} → Inside from have → size ≡ 655
 inside_buffer i e = omega (arith, i.room, e)
 
 -- a read behind what is kept, whole or failed
-pub filled : {t k v : Turn} {input moved input' : List ℕ} {n : ℕ} (failed : Bool) → Waits t input → Keeps t input k moved → length moved ≡ 65536
-    → Reads moved k.have n input' → length input' ≡ 65536 → t.why ≡ cause.More → v ≡ read_turn k n failed → Filled t input v input'
-filled {t} {k} {v} {input} {moved} {input'} {n} failed waits keeps size reads size' more e =
-    let fed : Fed t input v input' = fed_read t input moved input' n failed waits.inside keeps reads.front (omega (arith, reads.room)) size' more e in
+pub filled : {t k v : Turn} {input moved input' : List ℕ} (got : Option ℕ) → Waits t input → Keeps t input k moved → length moved ≡ 65536
+    → Reads moved k.have (unwrap_or got 0) input' → length input' ≡ 65536 → t.why ≡ cause.More → v ≡ read_turn k got → Filled t input v input'
+filled {t} {k} {v} {input} {moved} {input'} got waits keeps size reads size' more e =
+    let fed : Fed t input v input' = fed_read t input moved input' got waits.inside keeps reads.front (omega (arith, reads.room)) size' more e in
     record { fed = fed; inside = λ w h. inside_buffer fed.inside size' }
 
 module _ {s : State} {c o k t oc rc p f : List ℕ} {u v : Turn} {input input' : List ℕ} {total : ℕ}

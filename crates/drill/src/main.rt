@@ -8,8 +8,8 @@ ghost use Rattle.drill.specs.Reads.{count_of, Reads, Filled};
 ghost use Rattle.drill.specs.Written.{Takes, Writes, told_of, usage, ran_of, Halts, Finishes, SentAll};
 
 use drill_calls::Tables;
-use drill_log::Why;
-use drill_turn::Turn;
+use drill_log::{OUTPUT, Why};
+use drill_turn::{INPUT, Turn};
 use std::env::{Env, FillError};
 use std::fmt::InlineText;
 use std::io;
@@ -42,8 +42,8 @@ fn read_behind(mut stdin: Stdin, input: &mut [u8], at: usize) -> io::Result<usiz
     stdin.read(&mut input[at..])
 }
 
-// Reads once, if more input is wanted, and says where it cannot. There is room: what is kept is less than a record and its head, 8,196 bytes.
-fn fill(stdin: Stdin, stderr: Stderr, turn: Turn, input: &mut [u8; 65536]) -> Turn
+// Reads once, if more input is wanted; if the read fails, standard error says so. There is room: what is kept is less than the longest record, which has 8,196 bytes.
+fn fill(stdin: Stdin, stderr: Stderr, turn: Turn, input: &mut [u8; INPUT]) -> Turn
     requires { Waits turn input.old }
     ensures { Filled turn input.old result input.new }
 {
@@ -52,10 +52,10 @@ fn fill(stdin: Stdin, stderr: Stderr, turn: Turn, input: &mut [u8; 65536]) -> Tu
     }
     let kept = drill_turn::keep(turn, input);
     match read_behind(stdin, input, kept.have) {
-        Ok(n) => drill_turn::grow(kept, n, false),
+        Ok(n) => drill_turn::grow(kept, Some(n)),
         Err(e) => {
             fail(stderr, "standard input", e);
-            drill_turn::grow(kept, 0, true)
+            drill_turn::grow(kept, None)
         }
     }
 }
@@ -144,9 +144,9 @@ fn emit(stdout: Stdout, stderr: Stderr, lines: &[u8], total: u64) -> Wrote
     }
 }
 
-// Where number 13 stands, and why: the lines do not say it, so standard error does. The first record has number 1, and the log's first byte
+// Where a refused log record stands, and why: the lines do not say it, so standard error does. The first record has number 1, and the log's first byte
 // is byte 0.
-fn tell(stderr: Stderr, turn: Turn, input: &[u8; 65536]) -> Took
+fn tell(stderr: Stderr, turn: Turn, input: &[u8; INPUT]) -> Took
     requires { Inside turn.from turn.have }
     ensures { Takes 0 (told_of turn input.now) result.n result.total }
 {
@@ -177,8 +177,8 @@ fn ended(turn: Turn, wrote: u64, why: Option<Why>) -> Ran
     }
 }
 
-// After a turn behind which there is none: number 13, or lines that could not be written.
-fn stop(stderr: Stderr, turn: Turn, input: &[u8; 65536], wrote: Wrote) -> Ran
+// After a turn behind which there is none: a refused log record, or lines that could not be written.
+fn stop(stderr: Stderr, turn: Turn, input: &[u8; INPUT], wrote: Wrote) -> Ran
     requires { Inside turn.from turn.have }
     ensures { Halts turn wrote result }
 {
@@ -196,8 +196,8 @@ fn finish(
     stdout: Stdout,
     stderr: Stderr,
     turn: Turn,
-    input: &[u8; 65536],
-    out: &mut [u8; 655360],
+    input: &[u8; INPUT],
+    out: &mut [u8; OUTPUT],
     total: u64,
 ) -> Ran
     requires { Stops turn input.now }
@@ -217,32 +217,13 @@ fn finish(
     ended(turn, wrote.total, None)
 }
 
-// Areas of zeros: a fresh device has no row of them.
-fn no_tables() -> Tables
-    ensures zeros { (result.own_cells ≡ replicate 33024 0) × (result.cells ≡ replicate 33024 0) }
-    ensures sizes { (length result.prefixes ≡ 4096) × (length result.offers ≡ 8704) }
-{
-    Tables {
-        contacts: [0u8; 2304],
-        own: [0u8; 13824],
-        carried: [0u8; 14592],
-        tombstones: [0u8; 45056],
-        own_cells: [0u8; 33024],
-        cells: [0u8; 33024],
-        prefixes: [0u8; 4096],
-        offers: [0u8; 8704],
-        replies: [0u8; 61440],
-        actions: [0u8; 19968],
-    }
-}
-
 // Nothing says that the input ends, so the turns are counted, to a number that no run reaches.
 fn run(stdin: Stdin, stdout: Stdout, stderr: Stderr) -> Ran
     ensures { SentAll (drill_start (replicate 33024 0) (replicate 33024 0)) result }
 {
-    let mut input = [0u8; 65536];
-    let mut out = [0u8; 655360];
-    let mut tables = no_tables();
+    let mut input = [0u8; INPUT];
+    let mut out = [0u8; OUTPUT];
+    let mut tables = Tables::zeros();
     let mut turn = drill_turn::start();
     let mut total = 0;
     for _ in 0..u64::MAX {

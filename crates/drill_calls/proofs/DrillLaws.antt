@@ -12,8 +12,7 @@ use Rattle.wire.specs.Log.{body_of}
 use Rattle.wire.specs.Read.{record_of, least_of}
 use Rattle.wire.specs.Read as read
 use Rattle.drill_run.specs.Drill.{record_step, tells}
-use Rattle.drill_calls.specs.declared.Told.{Told}
-use Rattle.drill_calls.specs.Asking.{line_told, Asks}
+use Rattle.drill_calls.specs.Asking.{Told, told_by, Asks}
 use Rattle.drill_calls.proofs.AskLaws.{asks_of}
 use Rattle.drill_calls.proofs.AreaLaws.{with_replies, with_actions, with_both}
 
@@ -26,15 +25,15 @@ module _ {m : Mark} {b : List ℕ} {x : Option Body} (t : read.Told m b x) where
     pub bytes_read : least_of (Some k) ≤ length b
     bytes_read = subst (λ (z : Option Body). least_of z ≤ length b) (e ∙ ap Some q) t.room
 
-    pub asks_read : {r : Told} {before after : Areas → Areas} {lent back : AnswerAreas} → Asks (record_of (Some k) b) r before after lent back
+    pub asks_read : (r : Told) {before after : Areas → Areas} {lent back : AnswerAreas} → Asks (record_of (Some k) b) r before after lent back
         → Asks (body_of m b) r before after lent back
-    asks_read h = asks_of (read_is (Some k) (e ∙ ap Some q)) h
+    asks_read r h = asks_of r (read_is (Some k) (e ∙ ap Some q)) h
 
   -- a body that is no record
-  pub asks_wrong : x ≡ None → {r : Told} (before : Areas → Areas) {lent : AnswerAreas} → r ≡ line_told (Err refusal.LogRecord)
+  pub asks_wrong : x ≡ None → (r : Told) (before : Areas → Areas) {lent : AnswerAreas} → r ≡ Err refusal.LogRecord
       → Asks (body_of m b) r before before lent lent
-  unfolding record_step tells
-  asks_wrong e before q a = rw (read_is None e, q) (refused_call refusal.LogRecord refl refl refl)
+  unfolding record_step tells told_by
+  asks_wrong e r before q a = rw (read_is None e, q) (refused_call refusal.LogRecord refl refl refl)
 
 -- What a call does on the areas that it is lent it does on the drill's, of which `before` has the others: by the answer areas that it is lent.
 module _ {A : Type 0} {says : Result → A} (c : Call) {said : A} {inner outer : Areas → Areas} (before : Areas → Areas) where

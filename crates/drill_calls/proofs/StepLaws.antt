@@ -27,8 +27,7 @@ use Rattle.handover.specs.Handing.{says}
 use Rattle.tombs.specs.Tombs.{says as tomb_says}
 use Rattle.maintenance.specs.Expiry.{maintained_of}
 use Rattle.drill_run.specs.Drill.{tells}
-use Rattle.drill_calls.specs.declared.Told.{Told}
-use Rattle.drill_calls.specs.Asking.{told_by, done_told, acted_told, envelope_told, inventory_told, fetch_told, tomb_told}
+use Rattle.drill_calls.specs.Asking.{Told, told_by, told_with, done_said, acted_said, envelope_said, inventory_said, tomb_said, fetch_told}
 
 -- ---- what holds of every refusal, and of what a call performs, holds of its step
 
@@ -46,79 +45,79 @@ abbrev pub Same : {A : Type 0} → (A → Told) → (Result → A) → Result �
 Same told says o = told_by (told (says o)) ≡ tells o
 
 module _ (s : State) where
-  pub clock_told : (seconds : ℕ) → Same done_told said_of (step s (calls.clock seconds))
-  unfolding step tests perform tells set_clock
-  clock_told seconds = by_step (Same done_told said_of) [] (set_clock seconds) (λ why. refl) refl
+  pub clock_told : (seconds : ℕ) → Same (told_with done_said) said_of (step s (calls.clock seconds))
+  unfolding step tests perform tells told_by set_clock
+  clock_told seconds = by_step (Same (told_with done_said) said_of) [] (set_clock seconds) (λ why. refl) refl
 
-  pub contact_told : (id : ContactId) (v : Verification) → Same done_told said_of (step s (calls.contact id v))
-  unfolding step tests perform tells set_contact
-  contact_told id v = by_step (Same done_told said_of) (contact_tests s id) (set_contact s id v) (λ why. refl) refl
+  pub contact_told : (id : ContactId) (v : Verification) → Same (told_with done_said) said_of (step s (calls.contact id v))
+  unfolding step tests perform tells told_by set_contact
+  contact_told id v = by_step (Same (told_with done_said) said_of) (contact_tests s id) (set_contact s id v) (λ why. refl) refl
 
-  pub setting_told : (enabled : Bool) (copies lifetime : ℕ) → Same done_told said_of (step s (calls.setting enabled copies lifetime))
-  unfolding step tests perform tells set_config
+  pub setting_told : (enabled : Bool) (copies lifetime : ℕ) → Same (told_with done_said) said_of (step s (calls.setting enabled copies lifetime))
+  unfolding step tests perform tells told_by set_config
   setting_told enabled copies lifetime =
-      by_step (Same done_told said_of) (setting_tests copies lifetime) (set_config enabled copies lifetime) (λ why. refl) refl
+      by_step (Same (told_with done_said) said_of) (setting_tests copies lifetime) (set_config enabled copies lifetime) (λ why. refl) refl
 
-  pub session_told : (peer : ContactId) → Same done_told said_of (step s (calls.open_exchange peer))
-  unfolding step tests perform tells open_exchanged
-  session_told peer = by_step (Same done_told said_of) (open_exchange_tests s peer) (open_exchanged peer) (λ why. refl) refl
+  pub session_told : (peer : ContactId) → Same (told_with done_said) said_of (step s (calls.open_exchange peer))
+  unfolding step tests perform tells told_by open_exchanged
+  session_told peer = by_step (Same (told_with done_said) said_of) (open_exchange_tests s peer) (open_exchanged peer) (λ why. refl) refl
 
   pub envelope_told_lem : (replies actions : ℕ) (window : List ℕ) (peer : ContactId) (head : Header) (ct : List ℕ)
-      → Same envelope_told envelope_says (step s (calls.envelope replies actions window peer head ct))
-  unfolding step tests perform tells envelope_says receive_envelope ours_at answer_custody
+      → Same (told_with envelope_said) envelope_says (step s (calls.envelope replies actions window peer head ct))
+  unfolding step tests perform tells told_by envelope_says receive_envelope ours_at answer_custody
   envelope_told_lem replies actions window peer head ct =
       by_step Q (envelope_tests s replies actions window peer head (length ct)) (receive_envelope s (window_rows window) peer head ct) (λ why. refl)
       (go (lookup (window_rows window) head.tag))
     where
       Q : Result → Type 0
-      Q = Same envelope_told envelope_says
+      Q = Same (told_with envelope_said) envelope_says
 
-      go : (f : Option ℕ) → Same envelope_told envelope_says (match_found f (λ i. ours_at (get_or (window_rows window) i no_reachable))
+      go : (f : Option ℕ) → Same (told_with envelope_said) envelope_says (match_found f (λ i. ours_at (get_or (window_rows window) i no_reachable))
           (answer_custody s peer head ct (custody_of s peer head (length ct))))
       go (Some i) = refl
       go None = refl
 
   pub inventory_told_lem : (replies : ℕ) (window : List ℕ) (peer : ContactId) (listed : List ℕ)
-      → Same inventory_told received_says (step s (calls.inventory_received replies window peer listed))
-  unfolding step tests perform tells receive_inventory answer_inventory list_more
+      → Same (told_with inventory_said) received_says (step s (calls.inventory_received replies window peer listed))
+  unfolding step tests perform tells told_by receive_inventory answer_inventory list_more
   inventory_told_lem replies window peer listed =
       by_step Q (receive_inventory_tests s replies window peer listed) (receive_inventory s (window_rows window) peer (prefix_rows listed)) (λ why. refl)
       (choose Q (too_many s.session.exchange (length (prefix_rows listed))) refl (choose Q (eqb (length (prefix_rows listed)) 0) refl refl))
     where
       Q : Result → Type 0
-      Q = Same inventory_told received_says
+      Q = Same (told_with inventory_said) received_says
 
   pub custody_told_lem : (actions : ℕ) (peer : ContactId) (tag : List ℕ) (code : Custody)
-      → Same acted_told says (step s (calls.custody_answer actions peer tag code))
-  unfolding step tests perform tells receive_custody settle
+      → Same (told_with acted_said) says (step s (calls.custody_answer actions peer tag code))
+  unfolding step tests perform tells told_by receive_custody settle
   custody_told_lem actions peer tag code =
-      by_step (Same acted_told says) (custody_tests s actions peer) (receive_custody s tag code) (λ why. refl)
+      by_step (Same (told_with acted_said) says) (custody_tests s actions peer) (receive_custody s tag code) (λ why. refl)
       (go (position (offer_of_tag tag) s.session.exchange.offered))
     where
-      go : (f : Option ℕ) → Same acted_told says (match_found f (settle s tag code) (only done))
+      go : (f : Option ℕ) → Same (told_with acted_said) says (match_found f (settle s tag code) (only done))
       go (Some i) = refl
       go None = refl
 
-  pub tomb_told_lem : (actions : ℕ) (peer : ContactId) (tag secret : List ℕ) → Same tomb_told tomb_says (step s (calls.tomb actions peer tag secret))
-  unfolding step tests perform tells receive_tomb turn end_own
+  pub tomb_told_lem : (actions : ℕ) (peer : ContactId) (tag secret : List ℕ) → Same (told_with tomb_said) tomb_says (step s (calls.tomb actions peer tag secret))
+  unfolding step tests perform tells told_by receive_tomb turn end_own
   tomb_told_lem actions peer tag secret =
-      by_step (Same tomb_told tomb_says) (tomb_tests s actions peer tag (meets s.own s.carried tag secret))
+      by_step (Same (told_with tomb_said) tomb_says) (tomb_tests s actions peer tag (meets s.own s.carried tag secret))
       (receive_tomb s tag secret (meets s.own s.carried tag secret)) (λ why. refl) (go (meets s.own s.carried tag secret))
     where
-      go : (m : Met) → Same tomb_told tomb_says (receive_tomb s tag secret m)
+      go : (m : Met) → Same (told_with tomb_said) tomb_says (receive_tomb s tag secret m)
       go (met.carried_at i) = refl
       go (met.own_at i) = refl
       go met.wrong = refl
       go met.unknown = refl
 
-  pub maintenance_told : (actions : ℕ) → Same acted_told maintained_of (step s (calls.maintenance actions))
-  unfolding step tests perform tells maintain_couriers
-  maintenance_told actions = by_step (Same acted_told maintained_of) (maintenance_tests s actions) (maintain_couriers s) (λ why. refl) refl
+  pub maintenance_told : (actions : ℕ) → Same (told_with acted_said) maintained_of (step s (calls.maintenance actions))
+  unfolding step tests perform tells told_by maintain_couriers
+  maintenance_told actions = by_step (Same (told_with acted_said) maintained_of) (maintenance_tests s actions) (maintain_couriers s) (λ why. refl) refl
 
   -- fetch has two refusals, and its number tells them apart
   pub fetch_told_lem : (own carried : List ℕ) (replies : ℕ) (peer : ContactId) (tag : List ℕ)
       → Same fetch_told (fetch_says own carried) (step s (calls.fetch replies peer tag))
-  unfolding step tests perform tells step_of fetch_tests receive_fetch fetched
+  unfolding step tests perform tells told_by step_of fetch_tests receive_fetch fetched
   fetch_told_lem own carried replies peer tag =
       choose Q (short_replies replies) refl (choose Q (not (known s.contacts peer)) refl
       (go (find (envelope_of_tag tag) (envelopes s.own s.carried peer))))

@@ -12,47 +12,51 @@ use Rattle.inventory.specs.declared.Said.TheVariants as received
 use Rattle.fetch.specs.Fetch.{Fetched}
 use Rattle.tombs.specs.declared.Said.{Said as Met}
 use Rattle.tombs.specs.declared.Said.TheVariants as met
+use Rattle.drill_lines.specs.declared.Said.{Said}
 use Rattle.drill_lines.specs.declared.Said.TheVariants as said
-use Rattle.drill_lines.specs.Lines.{Last}
+use Rattle.drill_lines.specs.Lines.{Last, acted_by, replied_by, last_by}
 use Rattle.rows.specs.declared.Device.{Device}
 use Rattle.rows.specs.declared.Exchange.{Exchange}
 use Rattle.model.specs.Lent.{answers_lent}
 use Rattle.drill_run.specs.Drill.{record_step, tells, drill_areas, drill_in}
 use Rattle.drill_calls.specs.declared.Tables.{Tables}
-use Rattle.drill_calls.specs.declared.Told.{Told}
 
 -- ---- what is said of a record: how many actions and replies are listed, and the last line
 
-abbrev pub told_by : Told → ℕ × (ℕ × Last)
-told_by r = (r.acted, (r.replied, r.last))
+abbrev pub Told : Type 0
+Told = Result Said Refusal
 
--- a last line alone, and rows with `ok` behind them
-abbrev pub line_told : Last → Told
-line_told end = record { acted = 0; replied = 0; last = end }
+unfoldable pub told_by : Told → ℕ × (ℕ × Last)
+told_by r = (acted_by r, (replied_by r, last_by r))
 
-abbrev pub rows_told : (acted replied : ℕ) → Told
-rows_told acted replied = record { acted = acted; replied = replied; last = Ok said.Done }
+-- ---- the same, of what each call answers that is not refused
 
--- ---- the same, of what each call answers
+abbrev pub nothing : Said
+nothing = said.Listed 0 0
 
 -- contact, setting, clock, session; and custody code, maintenance
-abbrev pub done_told : Result Unit Refusal → Told
-done_told (Ok u) = line_told (Ok said.Done)
-done_told (Err why) = line_told (Err why)
+abbrev pub done_said : Unit {0} → Said
+done_said u = nothing
 
-abbrev pub acted_told : Result ℕ Refusal → Told
-acted_told (Ok actions) = rows_told actions 0
-acted_told (Err why) = line_told (Err why)
+abbrev pub acted_said : ℕ → Said
+acted_said actions = said.Listed actions 0
 
-abbrev pub envelope_told : Result Answer Refusal → Told
-envelope_told (Ok (answer.Ours contact generation idx)) = line_told (Ok said.Done)
-envelope_told (Ok (answer.Done replies actions)) = rows_told actions replies
-envelope_told (Err why) = line_told (Err why)
+abbrev pub envelope_said : Answer → Said
+envelope_said (answer.Ours contact generation idx) = nothing
+envelope_said (answer.Done replies actions) = said.Listed actions replies
 
-abbrev pub inventory_told : Result Received Refusal → Told
-inventory_told (Ok received.Malformed) = line_told (Ok said.Malformed)
-inventory_told (Ok (received.Done replies searched)) = rows_told 0 replies
-inventory_told (Err why) = line_told (Err why)
+abbrev pub inventory_said : Received → Said
+inventory_said received.Malformed = said.Malformed
+inventory_said (received.Done replies searched) = said.Listed 0 replies
+
+abbrev pub tomb_said : Met → Said
+tomb_said met.Malformed = said.Malformed
+tomb_said (met.Done actions) = said.Listed actions 0
+
+-- and of an answer, refused or not
+abbrev pub told_with : {A : Type 0} → (A → Said) → Result A Refusal → Told
+told_with f (Ok a) = Ok (f a)
+told_with f (Err why) = Err why
 
 -- the refusal that has the number
 abbrev pub refusal_with : ℕ → Refusal
@@ -72,15 +76,10 @@ refusal_with n =
 
 -- a fetch by its number: 0 an envelope, 255 none, or a refusal's
 abbrev pub told_of_number : ℕ → Told
-told_of_number n = cond (n == 0) (rows_told 0 1) (cond (n == 255) (line_told (Ok said.Done)) (line_told (Err (refusal_with n))))
+told_of_number n = cond (n == 0) (Ok (said.Listed 0 1)) (cond (n == 255) (Ok nothing) (Err (refusal_with n)))
 
 abbrev pub fetch_told : Fetched → Told
 fetch_told f = told_of_number f.number
-
-abbrev pub tomb_told : Result Met Refusal → Told
-tomb_told (Ok met.Malformed) = line_told (Ok said.Malformed)
-tomb_told (Ok (met.Done actions)) = rows_told actions 0
-tomb_told (Err why) = line_told (Err why)
 
 -- ---- the contract: a record, or none where the grammar refuses it, is answered as the model's step of it says, on any areas
 

@@ -1,143 +1,138 @@
 // The call of each record of a log.
 #![tactic(auto)]
 
-ghost use Rattle.std.specs.Prelude.{◌≡◌, ◌≤◌, length, drop, Some};
+ghost use Rattle.std.specs.Prelude.{◌≡◌, ◌≤◌, length, drop, replicate, Some};
 ghost use Rattle.octets.specs.Bytes.{part};
 ghost use Rattle.courier.specs.Courier.{header_of};
 ghost use Rattle.wire.specs.Log as log;
 ghost use Rattle.fetch.specs.Fetch.{fetched_said};
-ghost use Rattle.drill_calls.specs.Asking.{line_told, rows_told, done_told, acted_told, envelope_told, inventory_told, fetch_told, tomb_told, Asks, tables_in, answers_of};
+ghost use Rattle.drill_calls.specs.Asking.{envelope_said, inventory_said, tomb_said, fetch_told, Asks, tables_in, answers_of};
 
 use courier::Custody;
 use courier_core::{ContactId, Refusal};
 use drill_lines::Said;
-use rows::{Device, Exchange};
+use rows::{
+    ACTION_WIDTH, CARRIED_AREA, CONTACT_AREA, Device, Exchange, LISTED_ACTIONS, OFFER_AREA,
+    OWN_AREA, PREFIX_AREA, REPLY_AREA, TOMBSTONE_WIDTH,
+};
 use wire::{Body, Mark};
+
+// The drill's device has 1,024 tombstone rows, and 16 cells for own envelopes and as many for carried ones.
+pub const TOMBSTONE_ROWS: usize = 1_024;
+
+pub const CELLS: usize = 16;
+
+pub const TOMBSTONE_AREA: usize = TOMBSTONE_ROWS * TOMBSTONE_WIDTH;
+
+pub const CELL_AREA: usize = CELLS * state::CELL;
+
+pub const ACTION_ROWS: usize = LISTED_ACTIONS + TOMBSTONE_ROWS;
+
+pub const ACTION_AREA: usize = ACTION_ROWS * ACTION_WIDTH;
 
 // The areas that the drill lends with its calls: the tables, cells, the exchange's prefixes and offers, and those for answers. There is none
 // for bad tags.
 #[derive(Drop)]
 pub struct Tables {
-    pub contacts: [u8; 2304],
-    pub own: [u8; 13824],
-    pub carried: [u8; 14592],
-    pub tombstones: [u8; 45056],
-    pub own_cells: [u8; 33024],
-    pub cells: [u8; 33024],
-    pub prefixes: [u8; 4096],
-    pub offers: [u8; 8704],
-    pub replies: [u8; 61440],
-    pub actions: [u8; 19968],
+    pub contacts: [u8; CONTACT_AREA],
+    pub own: [u8; OWN_AREA],
+    pub carried: [u8; CARRIED_AREA],
+    pub tombstones: [u8; TOMBSTONE_AREA],
+    pub own_cells: [u8; CELL_AREA],
+    pub cells: [u8; CELL_AREA],
+    pub prefixes: [u8; PREFIX_AREA],
+    pub offers: [u8; OFFER_AREA],
+    pub replies: [u8; REPLY_AREA],
+    pub actions: [u8; ACTION_AREA],
 }
 
-// What a call says: how many actions and replies it lists, and the last line.
-#[derive(Clone, Copy)]
-pub struct Told {
-    pub acted: usize,
-    pub replied: usize,
-    pub last: Result<Said, Refusal>,
-}
-
-// ---- what the calls answer
-
-fn line(last: Result<Said, Refusal>) -> Told
-    ensures { result ≡ line_told last }
-{
-    Told {
-        acted: 0,
-        replied: 0,
-        last,
+impl Tables {
+    // Areas of zeros: a fresh device has no row of them.
+    pub fn zeros() -> Tables
+        ensures zeros { (result.own_cells ≡ replicate 33024 0) × (result.cells ≡ replicate 33024 0) }
+        ensures sizes { (length result.prefixes ≡ 4096) × (length result.offers ≡ 8704) }
+    {
+        Tables {
+            contacts: [0u8; CONTACT_AREA],
+            own: [0u8; OWN_AREA],
+            carried: [0u8; CARRIED_AREA],
+            tombstones: [0u8; TOMBSTONE_AREA],
+            own_cells: [0u8; CELL_AREA],
+            cells: [0u8; CELL_AREA],
+            prefixes: [0u8; PREFIX_AREA],
+            offers: [0u8; OFFER_AREA],
+            replies: [0u8; REPLY_AREA],
+            actions: [0u8; ACTION_AREA],
+        }
     }
 }
 
-fn listed(acted: usize, replied: usize) -> Told
-    ensures { result ≡ rows_told acted replied }
+// ---- what a call that is not refused says, by its answer
+// (No `From`: both types are of other crates, and an impl stands in the crate of one of them. `replies: 0` stands
+// at each call that lists none: a function for it would be no shorter.)
+
+// No action and no reply.
+const NOTHING: Said = Said::Listed {
+    actions: 0,
+    replies: 0,
+};
+
+fn envelope_said(answer: envelope::Answer) -> Said
+    ensures { result ≡ envelope_said answer }
 {
-    Told {
-        acted,
-        replied,
-        last: Ok(Said::Done),
+    match answer {
+        envelope::Answer::Done(replies, actions) => Said::Listed { actions, replies },
+        envelope::Answer::Ours(_, _, _) => NOTHING,
     }
 }
 
-// Contact, setting, clock, session.
-fn done(said: Result<(), Refusal>) -> Told
-    ensures { result ≡ done_told said }
+fn inventory_said(answer: inventory::Said) -> Said
+    ensures { result ≡ inventory_said answer }
 {
-    match said {
-        Ok(()) => line(Ok(Said::Done)),
-        Err(why) => line(Err(why)),
+    match answer {
+        inventory::Said::Done(replies, _) => Said::Listed {
+            actions: 0,
+            replies,
+        },
+        inventory::Said::Malformed => Said::Malformed,
     }
 }
 
-// Custody code, maintenance.
-fn acted(said: Result<usize, Refusal>) -> Told
-    ensures { result ≡ acted_told said }
+// (A match and no `map`: the contract is by `fetched_said`, a definition of crate fetch that takes the whole answer, a refusal too.)
+fn fetch_said(answer: Result<Option<&[u8]>, Refusal>) -> Result<Said, Refusal>
+    ensures { result ≡ fetch_told (fetched_said answer.entry) }
 {
-    match said {
-        Ok(acted) => listed(acted, 0),
-        Err(why) => line(Err(why)),
+    match answer {
+        Ok(Some(_)) => Ok(Said::Listed {
+            actions: 0,
+            replies: 1,
+        }),
+        Ok(None) => Ok(NOTHING),
+        Err(why) => Err(why),
     }
 }
 
-fn enveloped(said: Result<envelope::Answer, Refusal>) -> Told
-    ensures { result ≡ envelope_told said }
+fn tomb_said(answer: tombs::Said) -> Said
+    ensures { result ≡ tomb_said answer }
 {
-    match said {
-        Ok(envelope::Answer::Done(replied, acted)) => listed(acted, replied),
-        Ok(envelope::Answer::Ours(_, _, _)) => line(Ok(Said::Done)),
-        Err(why) => line(Err(why)),
-    }
-}
-
-fn received(said: Result<inventory::Said, Refusal>) -> Told
-    ensures { result ≡ inventory_told said }
-{
-    match said {
-        Ok(inventory::Said::Done(replied, _)) => listed(0, replied),
-        Ok(inventory::Said::Malformed) => line(Ok(Said::Malformed)),
-        Err(why) => line(Err(why)),
-    }
-}
-
-fn fetched(said: Result<Option<&[u8]>, Refusal>) -> Told
-    ensures { result ≡ fetch_told (fetched_said said.entry) }
-{
-    match said {
-        Ok(Some(_)) => listed(0, 1),
-        Ok(None) => line(Ok(Said::Done)),
-        Err(why) => line(Err(why)),
-    }
-}
-
-fn met(said: Result<tombs::Said, Refusal>) -> Told
-    ensures { result ≡ tomb_told said }
-{
-    match said {
-        Ok(tombs::Said::Done(acted)) => listed(acted, 0),
-        Ok(tombs::Said::Malformed) => line(Ok(Said::Malformed)),
-        Err(why) => line(Err(why)),
+    match answer {
+        tombs::Said::Done(actions) => Said::Listed {
+            actions,
+            replies: 0,
+        },
+        tombs::Said::Malformed => Said::Malformed,
     }
 }
 
 // ---- records whose bodies have runs of bytes
-
-// What follows the first at bytes.
-fn behind(body: &[u8], at: usize) -> &[u8]
-    ensures { result.now ≡ drop at body.now }
-{
-    if body.len() < at {
-        return &body[..0];
-    }
-    &body[at..]
-}
+// (The device, the exchange and the tables are three parameters here and not one struct: which of them a call may change is seen by how it takes them.)
 
 // The tag of a body that has one.
 fn tag_in(body: &[u8]) -> [u8; 16]
     requires { 24 ≤ length body.now }
     ensures { result ≡ part body.now 8 16 }
 {
-    octets::get_array(body, 8)
+    octets::get_array(body, Body::TAG)
 }
 
 fn receive_envelope(
@@ -146,17 +141,17 @@ fn receive_envelope(
     tables: &mut Tables,
     peer: ContactId,
     body: &[u8],
-) -> Told
+) -> Result<Said, Refusal>
     requires { 45 ≤ length body.now }
     ensures { Asks (Some (log.envelope peer (header_of (part body.now 8 37)) (drop 45 body.now))) result
         (tables_in device.old exchange tables.old) (tables_in device.new exchange tables.new) (answers_of tables.old) (answers_of tables.new) }
 {
-    let header = courier::decode(body, 8).unwrap();
-    enveloped(envelope::envelope(
+    let header = courier::decode(body, Body::ENVELOPE).unwrap();
+    let answer = envelope::envelope(
         device,
         peer,
         header,
-        behind(body, 45),
+        &body[Body::CIPHERTEXT..],
         b"",
         &tables.contacts,
         &tables.own,
@@ -165,7 +160,8 @@ fn receive_envelope(
         &mut tables.cells,
         &mut tables.replies,
         &mut tables.actions,
-    ))
+    );
+    answer.map(envelope_said)
 }
 
 fn receive_inventory(
@@ -174,11 +170,12 @@ fn receive_inventory(
     tables: &mut Tables,
     peer: ContactId,
     body: &[u8],
-) -> Told
+) -> Result<Said, Refusal>
+    requires { 8 ≤ length body.now }
     ensures { Asks (Some (log.inventory peer (drop 8 body.now))) result
         (tables_in device exchange.old tables.old) (tables_in device exchange.new tables.new) (answers_of tables.old) (answers_of tables.new) }
 {
-    received(exchange::receive_inventory(
+    let answer = inventory::receive_inventory(
         exchange,
         device,
         peer,
@@ -188,11 +185,12 @@ fn receive_inventory(
         &tables.tombstones,
         b"",
         b"",
-        behind(body, 8),
+        &body[Body::PREFIXES..],
         &mut tables.prefixes,
         &mut tables.offers,
         &mut tables.replies,
-    ))
+    );
+    answer.map(inventory_said)
 }
 
 fn fetch_tagged(
@@ -201,11 +199,11 @@ fn fetch_tagged(
     tables: &mut Tables,
     peer: ContactId,
     tag: [u8; 16],
-) -> Told
+) -> Result<Said, Refusal>
     ensures { Asks (Some (log.fetch peer tag)) result
         (tables_in device exchange tables.old) (tables_in device exchange tables.new) (answers_of tables.old) (answers_of tables.new) }
 {
-    fetched(fetch::fetch(
+    fetch_said(fetch::fetch(
         device,
         peer,
         tag,
@@ -225,11 +223,11 @@ fn receive_custody(
     peer: ContactId,
     tag: [u8; 16],
     code: Custody,
-) -> Told
+) -> Result<Said, Refusal>
     ensures { Asks (Some (log.custody peer tag code)) result
         (tables_in device.old exchange.old tables.old) (tables_in device.new exchange.new tables.new) (answers_of tables.old) (answers_of tables.new) }
 {
-    acted(exchange::handed_over(
+    let answer = handover::handed_over(
         exchange,
         device,
         peer,
@@ -242,7 +240,11 @@ fn receive_custody(
         &tables.prefixes,
         &mut tables.offers,
         &mut tables.actions,
-    ))
+    );
+    answer.map(|actions| Said::Listed {
+        actions,
+        replies: 0,
+    })
 }
 
 fn receive_tomb(
@@ -252,11 +254,11 @@ fn receive_tomb(
     peer: ContactId,
     tag: [u8; 16],
     s: [u8; 16],
-) -> Told
+) -> Result<Said, Refusal>
     ensures { Asks (Some (log.tomb peer tag s)) result
         (tables_in device.old exchange tables.old) (tables_in device.new exchange tables.new) (answers_of tables.old) (answers_of tables.new) }
 {
-    met(tombs::receive_tomb(
+    let answer = tombs::receive_tomb(
         device,
         peer,
         tag,
@@ -266,36 +268,47 @@ fn receive_tomb(
         &mut tables.carried,
         &mut tables.tombstones,
         &mut tables.actions,
-    ))
+    );
+    answer.map(tomb_said)
 }
 
 // ---- the other records
 
-fn open_session(device: Device, exchange: &mut Exchange, tables: &Tables, peer: ContactId) -> Told
+fn open_session(
+    device: Device,
+    exchange: &mut Exchange,
+    tables: &Tables,
+    peer: ContactId,
+) -> Result<Said, Refusal>
     ensures { Asks (Some (log.session peer)) result
         (tables_in device exchange.old tables.now) (tables_in device exchange.new tables.now) (answers_of tables.now) (answers_of tables.now) }
 {
-    done(exchange::fresh_exchange(
+    let answer = contacts::fresh_exchange(
         exchange,
         device,
         peer,
         &tables.contacts,
         &tables.prefixes,
         &tables.offers,
-    ))
+    );
+    answer.map(|()| NOTHING)
 }
 
-fn maintain(device: &mut Device, exchange: Exchange, tables: &mut Tables) -> Told
+fn maintain(device: &mut Device, exchange: Exchange, tables: &mut Tables) -> Result<Said, Refusal>
     ensures { Asks (Some log.maintenance) result
         (tables_in device.old exchange tables.old) (tables_in device.new exchange tables.new) (answers_of tables.old) (answers_of tables.new) }
 {
-    acted(maintenance::maintain_couriers(
+    let answer = maintenance::maintain_couriers(
         device,
         &mut tables.own,
         &mut tables.carried,
         &mut tables.tombstones,
         &mut tables.actions,
-    ))
+    );
+    answer.map(|actions| Said::Listed {
+        actions,
+        replies: 0,
+    })
 }
 
 // ---- the call of a record
@@ -306,24 +319,21 @@ pub fn ask(
     device: &mut Device,
     exchange: &mut Exchange,
     tables: &mut Tables,
-) -> Told
+) -> Result<Said, Refusal>
     ensures { Asks (log.body_of mark body.now) result
         (tables_in device.old exchange.old tables.old) (tables_in device.new exchange.new tables.new) (answers_of tables.old) (answers_of tables.new) }
 {
     let Some(read) = wire::read_body(mark, body) else {
-        return line(Err(Refusal::LogRecord));
+        return Err(Refusal::LogRecord);
     };
     match read {
         Body::Clock { seconds } => {
             contacts::clock(device, seconds);
-            line(Ok(Said::Done))
+            Ok(NOTHING)
         }
-        Body::Contact { id, verification } => done(contacts::contact(
-            device,
-            id,
-            verification,
-            &mut tables.contacts,
-        )),
+        Body::Contact { id, verification } => {
+            contacts::contact(device, id, verification, &mut tables.contacts).map(|()| NOTHING)
+        }
         Body::Session { peer } => open_session(*device, exchange, tables, peer),
         Body::Envelope { peer } => receive_envelope(device, *exchange, tables, peer, body),
         Body::Inventory { peer } => receive_inventory(*device, exchange, tables, peer, body),
@@ -332,7 +342,7 @@ pub fn ask(
             receive_custody(device, exchange, tables, peer, tag_in(body), code)
         }
         Body::Tomb { peer } => {
-            let s = octets::get_array(body, 24);
+            let s = octets::get_array(body, Body::SECRET);
             receive_tomb(device, *exchange, tables, peer, tag_in(body), s)
         }
         Body::Maintenance => maintain(device, *exchange, tables),
@@ -340,6 +350,6 @@ pub fn ask(
             enabled,
             copies,
             lifetime,
-        } => done(contacts::setting(device, enabled, copies, lifetime)),
+        } => contacts::setting(device, enabled, copies, lifetime).map(|()| NOTHING),
     }
 }

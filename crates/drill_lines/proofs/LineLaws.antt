@@ -1,10 +1,11 @@
 -- Laws of lines. Assumes nothing.
 use Rattle.std.proofs.Common.{◌≡◌, ℕ, ◌+◌, ◌*◌, ◌<◌, ◌≤◌, List, [], ◌∷◌, ◌++◌, length, get_or, take, sym, refl, ap, ◌∙◌, subst, append-nil, add-one, arith, take_all, take-suc, ne_eqb}
 use mathlib.Core.List.{flat_map}
-use Rattle.std.specs.Prelude.{Result, Option}
+use Rattle.std.specs.Prelude.{Result, Ok, Err, Option, Some, None}
+use Rattle.std.specs.Option.{unwrap_or}
+use Rattle.std.specs.Result.{result_unwrap_or}
 use Rattle.courier_core.specs.declared.Refusal.{Refusal}
 use Rattle.octets.specs.Bytes.{part, num}
-use Rattle.octets.proofs.Parts.{take_written}
 use Rattle.table.specs.Codec.{Codec, table_of}
 use Rattle.table.specs.Rows.{held}
 use Rattle.table.proofs.ListLaws.{flat_map_append}
@@ -37,12 +38,6 @@ module _ {l m : ℕ} {o x y : List ℕ} {at p q : ℕ} {a b : List ℕ} (room : 
 -- the same place and area, another text that is equal
 pub puts_as : {m : ℕ} {o x : List ℕ} {at r : ℕ} {a b : List ℕ} → a ≡ b → Puts m o at a r x → Puts m o at b r x
 puts_as {m} {o} {x} {at} {r} e f = subst (λ (t : List ℕ). Puts m o at t r x) e f
-
--- a line that stands at the front of an area of its own, put behind others
-pub line_on : {l z o x : List ℕ} {at k p : ℕ} {w : List ℕ} → length l ≡ 96 → Puts 96 l 0 w k z → Puts (length (take k z)) o at (take k z) p x → Puts 96 o at w p x
-line_on {l} {z} {o} {x} {at} {k} {p} {w} size f g =
-    let e : take k z ≡ w = (λ i. take (f.next i) (f.area i)) ∙ take_written l 0 w (omega (arith, f.near)) in
-    puts_within f.near (subst (λ (v : List ℕ). Puts (length v) o at v p x) e g)
 
 -- ---- the line of a reply, by its kind
 
@@ -82,12 +77,12 @@ module _ {A : Type 0} (c : Codec A) (f : A → List ℕ) (count : ℕ) (t : List
       ∙ ap (λ (l : List ℕ). flat_map f (take i T) ++ l) (append-nil (f a))
 
   -- the row at i, and its line behind the lines before it
-  pub lines_more : (w i : ℕ) (a : A) {o x y : List ℕ} {at p q : ℕ} → w ≡ c.width → i < held (length t) w count → a ≡ c.decode (part t (i * w) w)
+  pub lines_more : (w i : ℕ) (a : A) {o x y : List ℕ} {at p q : ℕ} → w ≡ c.width → i < held (length t) w count → a ≡ c.decode (part t (i * w) c.width)
       → at + (i * 96 + 96) ≤ length o → Puts (i * 96) o at (flat_map f (take i T)) p x → Puts 96 x p (f a) q y
       → Puts ((i + 1) * 96) o at (flat_map f (take (i + 1) T)) q y
   lines_more w i a {o} {x} {y} {at} {p} {q} ew h ea room g k =
       let b : i < held (length t) c.width count = subst (λ (v : ℕ). i < held (length t) v count) ew h in
-      let d : a ≡ c.decode (part t (i * c.width) c.width) = ea ∙ ap (λ (v : ℕ). c.decode (part t (i * v) v)) ew in
+      let d : a ≡ c.decode (part t (i * c.width) c.width) = ea ∙ ap (λ (v : ℕ). c.decode (part t (i * v) c.width)) ew in
       let e : flat_map f (take (i + 1) T) ≡ flat_map f (take i T) ++ f a = one_more i a (omega (arith, b, length_table c count t)) (get_d_table c count t i a b ∙ sym d) in
       puts_as (sym e) (puts_within (omega arith) (puts_then g k room))
 
@@ -125,10 +120,16 @@ count_blob (calls.own_row row) = refl
 count_blob calls.no_envelope = refl
 count_blob (calls.wrote count) = refl
 
-pub length_told : (s : State) (len slot r : ℕ) (n : Result (Option ℕ) Refusal) → len ≡ 2110 → r ≡ count_of n → n ≡ blob_says (step s (calls.row_blob len slot)) → r ≡ blob_length s slot
+-- what unwrapping twice gives
+count_unwrapped : (n : Result (Option ℕ) Refusal) → unwrap_or (result_unwrap_or n None) 0 ≡ count_of n
+count_unwrapped (Ok (Some k)) = refl
+count_unwrapped (Ok None) = refl
+count_unwrapped (Err why) = refl
+
+pub length_told : (s : State) (len slot r : ℕ) {o : Option ℕ} (n : Result (Option ℕ) Refusal) → len ≡ 2110 → o ≡ result_unwrap_or n None → r ≡ unwrap_or o 0 → n ≡ blob_says (step s (calls.row_blob len slot)) → r ≡ blob_length s slot
 unfolding blob_length
-length_told s len slot r n el er en =
-    er ∙ ap count_of en ∙ count_blob (step s (calls.row_blob len slot)).answer ∙ ap (λ (k : ℕ). wrote_of (step s (calls.row_blob k slot)).answer) el
+length_told s len slot r n el eo er en =
+    er ∙ ap (λ (x : Option ℕ). unwrap_or x 0) eo ∙ count_unwrapped n ∙ ap count_of en ∙ count_blob (step s (calls.row_blob len slot)).answer ∙ ap (λ (k : ℕ). wrote_of (step s (calls.row_blob k slot)).answer) el
 
 -- areas that are nothing, where any will do
 abbrev pub anything : Areas

@@ -76,16 +76,20 @@ held_view h a = view (held_in h.device h.carried.now h.tombstones.now h.cells.no
 
 -- ---- the last line
 
--- what a call says, or the refusal
+-- how a record ends that is not refused; its last line tells that, or the refusal
+pub data Ending : Type 0 where
+  done : Ending
+  malformed : Ending
+
 abbrev pub Last : Type 0
-Last = Result Said Refusal
+Last = Result Ending Refusal
 
 unfoldable pub refused_line : ℕ → List ℕ
 refused_line number = (114 ∷ 101 ∷ 102 ∷ 117 ∷ 115 ∷ 101 ∷ 100 ∷ []) ++ spaced number ++ (10 ∷ [])  -- refused
 
 abbrev pub last_line : Last → List ℕ
-last_line (Ok said.Done) = 111 ∷ 107 ∷ 10 ∷ []  -- ok
-last_line (Ok said.Malformed) = 109 ∷ 97 ∷ 108 ∷ 102 ∷ 111 ∷ 114 ∷ 109 ∷ 101 ∷ 100 ∷ 10 ∷ []  -- malformed
+last_line (Ok done) = 111 ∷ 107 ∷ 10 ∷ []  -- ok
+last_line (Ok malformed) = 109 ∷ 97 ∷ 108 ∷ 102 ∷ 111 ∷ 114 ∷ 109 ∷ 101 ∷ 100 ∷ 10 ∷ []  -- malformed
 last_line (Err why) = refused_line (refusal_number why)
 
 -- the program stops at number 13
@@ -95,14 +99,30 @@ stops_at (Err why) = refusal_number why == 13
 
 abbrev pub last_of : Answer → Last
 last_of (calls.refused why) = Err why
-last_of calls.malformed = Ok said.Malformed
-last_of calls.done = Ok said.Done
-last_of (calls.ours contact generation idx) = Ok said.Done
-last_of (calls.found cells position len) = Ok said.Done
-last_of calls.missing = Ok said.Done
-last_of (calls.own_row row) = Ok said.Done
-last_of calls.no_envelope = Ok said.Done
-last_of (calls.wrote count) = Ok said.Done
+last_of calls.malformed = Ok malformed
+last_of calls.done = Ok done
+last_of (calls.ours contact generation idx) = Ok done
+last_of (calls.found cells position len) = Ok done
+last_of calls.missing = Ok done
+last_of (calls.own_row row) = Ok done
+last_of calls.no_envelope = Ok done
+last_of (calls.wrote count) = Ok done
+
+-- how many actions and replies a call lists, by what it says, and the last line
+abbrev pub acted_by : Result Said Refusal → ℕ
+acted_by (Ok (said.Listed actions replies)) = actions
+acted_by (Ok said.Malformed) = 0
+acted_by (Err why) = 0
+
+abbrev pub replied_by : Result Said Refusal → ℕ
+replied_by (Ok (said.Listed actions replies)) = replies
+replied_by (Ok said.Malformed) = 0
+replied_by (Err why) = 0
+
+abbrev pub last_by : Result Said Refusal → Last
+last_by (Ok (said.Listed actions replies)) = Ok done
+last_by (Ok said.Malformed) = Ok malformed
+last_by (Err why) = Err why
 
 -- what a record prints: the lines of its actions, where a put row's blob is that of the state after it, of its replies, and a last one
 unfoldable pub record_lines : State → List Action → List Reply → Last → List ℕ

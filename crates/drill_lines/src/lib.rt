@@ -1,140 +1,88 @@
 // The drill's lines: what is printed for the answer of a record.
+// (Each function puts its text at a place of the output and answers the place behind it: a String would need a heap, which the drill does without.)
 #![tactic(auto)]
 
-ghost use Rattle.std.specs.Prelude.{◌≡◌, ◌+◌, ◌*◌, ◌≤◌, length};
+ghost use Rattle.std.specs.Prelude.{◌≡◌, ℕ, List, ◌+◌, ◌*◌, ◌≤◌, length};
 ghost use mathlib.Core.List.{flat_map};
 ghost use Rattle.table.specs.Rows.{held};
 ghost use Rattle.table.specs.Codec.{table_of};
 ghost use Rattle.rows.specs.Rows.{reply_width, reply_codec, action_width, action_codec};
 ghost use Rattle.text.specs.Text.{Puts};
+ghost use Rattle.model.specs.State.{State};
 ghost use Rattle.model.specs.Areas.{Areas};
-ghost use Rattle.drill_lines.specs.Lines.{put_line, del_line, envelope_line, custody_line, tomb_line, reply_line, action_line, held_view, blob_length, last_line, record_lines, count_of};
+ghost use Rattle.drill_lines.specs.Lines.{put_line, del_line, envelope_line, custody_line, tomb_line, reply_line, action_line, held_view, blob_length, last_line, record_lines, acted_by, replied_by, last_by};
 
+use courier::Header;
 use courier_core::Refusal;
-use rows::{Action, Device, Reply, Row};
-
-// The most bytes that a line has.
-const LINE: usize = 96;
-
-// The rows that a call lists: so many at the front of the area that it was lent. The count may be anything, and what has no room is no row.
-#[derive(Clone, Copy)]
-pub struct Listed<'a> {
-    pub area: &'a [u8],
-    pub count: usize,
-}
+use rows::{ACTION_WIDTH, Action, CARRIED_AREA, Device, REPLY_WIDTH, Reply, Row};
+use table::Table;
 
 // The rows that are held, of which a put line tells the length.
 #[derive(Clone, Copy)]
 pub struct HeldRows<'a> {
     pub device: Device,
-    pub carried: &'a [u8; 14592],
+    pub carried: &'a [u8; CARRIED_AREA],
     pub tombstones: &'a [u8],
     pub cells: &'a [u8],
 }
 
-// ---- a line, at the front of an area of its own
+// ---- one line
+
+// No line has more bytes.
+pub const LINE: usize = 96;
 
 // `put SLOT BLOBLENGTH`
-fn put_line(slot: u64, blob: usize, line: &mut [u8; LINE]) -> usize
-    ensures { Puts 96 line.old 0 (put_line slot blob) result line.new }
+fn put_line(slot: u64, blob: usize, out: &mut [u8], at: usize) -> usize
+    requires { at + 96 ≤ length out.old }
+    ensures { Puts 96 out.old at (put_line slot blob) result out.new }
 {
-    let p = text::put_run(line, 0, b"put");
-    let p = text::put_spaced(line, p, slot);
-    let p = text::put_spaced(line, p, blob as u64);
-    text::put_run(line, p, b"\n")
+    let p = text::put_run(out, at, b"put");
+    let p = text::put_spaced(out, p, slot);
+    let p = text::put_spaced(out, p, blob as u64);
+    text::put_run(out, p, b"\n")
 }
 
 // `del SLOT`
-fn del_line(slot: u64, line: &mut [u8; LINE]) -> usize
-    ensures { Puts 96 line.old 0 (del_line slot) result line.new }
+fn del_line(slot: u64, out: &mut [u8], at: usize) -> usize
+    requires { at + 96 ≤ length out.old }
+    ensures { Puts 96 out.old at (del_line slot) result out.new }
 {
-    let p = text::put_run(line, 0, b"del");
-    let p = text::put_spaced(line, p, slot);
-    text::put_run(line, p, b"\n")
+    let p = text::put_run(out, at, b"del");
+    let p = text::put_spaced(out, p, slot);
+    text::put_run(out, p, b"\n")
 }
 
 // `envelope TAG EXPIRY COPIES`
-fn envelope_line(tag: [u8; 16], expiry: u32, copies: u8, line: &mut [u8; LINE]) -> usize
-    ensures { Puts 96 line.old 0 (envelope_line tag expiry copies) result line.new }
+fn envelope_line(tag: [u8; 16], expiry: u32, copies: u8, out: &mut [u8], at: usize) -> usize
+    requires { at + 96 ≤ length out.old }
+    ensures { Puts 96 out.old at (envelope_line tag expiry copies) result out.new }
 {
-    let p = text::put_tagged(line, 0, b"envelope ", tag);
-    let p = text::put_spaced(line, p, expiry as u64);
-    let p = text::put_spaced(line, p, copies as u64);
-    text::put_run(line, p, b"\n")
+    let p = text::put_tagged(out, at, b"envelope ", tag);
+    let p = text::put_spaced(out, p, expiry as u64);
+    let p = text::put_spaced(out, p, copies as u64);
+    text::put_run(out, p, b"\n")
 }
 
 // `custody TAG CODE`
-fn custody_line(tag: [u8; 16], code: u8, line: &mut [u8; LINE]) -> usize
-    ensures { Puts 96 line.old 0 (custody_line tag code) result line.new }
+fn custody_line(tag: [u8; 16], code: u8, out: &mut [u8], at: usize) -> usize
+    requires { at + 96 ≤ length out.old }
+    ensures { Puts 96 out.old at (custody_line tag code) result out.new }
 {
-    let p = text::put_tagged(line, 0, b"custody ", tag);
-    let p = text::put_spaced(line, p, code as u64);
-    text::put_run(line, p, b"\n")
+    let p = text::put_tagged(out, at, b"custody ", tag);
+    let p = text::put_spaced(out, p, code as u64);
+    text::put_run(out, p, b"\n")
 }
 
 // `tomb TAG`
-fn tomb_line(tag: [u8; 16], line: &mut [u8; LINE]) -> usize
-    ensures { Puts 96 line.old 0 (tomb_line tag) result line.new }
+fn tomb_line(tag: [u8; 16], out: &mut [u8], at: usize) -> usize
+    requires { at + 96 ≤ length out.old }
+    ensures { Puts 96 out.old at (tomb_line tag) result out.new }
 {
-    let p = text::put_tagged(line, 0, b"tomb ", tag);
-    text::put_run(line, p, b"\n")
+    let p = text::put_tagged(out, at, b"tomb ", tag);
+    text::put_run(out, p, b"\n")
 }
 
-// ---- the lines of replies
-
-// The kinds of replies that have a line. (They are the bytes that the C interface has: an enum would be made of them for one `match`.)
-const ENVELOPE: u8 = 1;
-
-const CUSTODY: u8 = 2;
-
-const TOMB: u8 = 3;
-
-// A fetch has no line: it comes of a window, and there is none here.
-fn reply_line(row: Reply, line: &mut [u8; LINE]) -> usize
-    ensures { Puts 96 line.old 0 (reply_line row) result line.new }
-{
-    let tag = octets::get_array(&row.body, 0);
-    match row.kind {
-        ENVELOPE => envelope_line(
-            tag,
-            octets::get_u32(&row.body, 32),
-            octets::get_u8(&row.body, 36),
-            line,
-        ),
-        CUSTODY => custody_line(tag, octets::get_u8(&row.body, 16), line),
-        TOMB => tomb_line(tag, line),
-        _ => 0,
-    }
-}
-
-fn reply_lines(replies: Listed, out: &mut [u8], at: usize) -> usize
-    requires { at + held (length replies.area.now) reply_width replies.count * 96 ≤ length out.old }
-    ensures { Puts (held (length replies.entry.area.now) reply_width replies.entry.count * 96) out.old at
-        (flat_map reply_line (table_of reply_codec replies.entry.count replies.entry.area.now)) result out.new }
-{
-    let n = table::fit(replies.area.len(), rows::REPLY_WIDTH, replies.count);
-    let mut p = at;
-    for i in 0..n {
-        let mut line = [0u8; LINE];
-        let row = Reply::read(replies.area, i * rows::REPLY_WIDTH);
-        let k = reply_line(row, &mut line);
-        p = text::put_run(out, p, &line[..k]);
-    }
-    p
-}
-
-// ---- the lines of actions
-
-// What the row blob call answers, as a length.
-fn counted(answer: Result<Option<usize>, Refusal>) -> usize
-    ensures { result ≡ count_of answer }
-{
-    match answer {
-        Ok(Some(n)) => n,
-        Ok(None) => 0,
-        Err(_) => 0,
-    }
-}
+// ---- the line of a row that a call lists
 
 impl<'a> HeldRows<'a> {
     // The length of the blob of the row in a slot, as the row blob call answers it; 0 where no row has the slot.
@@ -142,68 +90,97 @@ impl<'a> HeldRows<'a> {
         ensures { (a : Areas) → result ≡ blob_length (held_view self.entry a) slot }
     {
         let mut blob = [0u8; state::BLOB];
-        counted(saved::row_blob(
+        let answer = saved::row_blob(
             self.device,
             slot,
             self.carried,
             self.tombstones,
             self.cells,
             &mut blob,
-        ))
+        );
+        answer.unwrap_or(None).unwrap_or(0)
     }
 }
 
-// The kinds of actions that have a line: bytes of the C interface, as above.
-const PUT: u8 = 0;
+// A row that a call lists. It has a line of text, empty for some kinds; the line may tell of the rows that are held.
+trait Listed<const N: usize>: Row<N> {
+    ghost line: { State → Self → List ℕ };
 
-const DELETE: u8 = 1;
+    fn put_text(self, kept: HeldRows, out: &mut [u8], at: usize) -> usize
+        requires { at + 96 ≤ length out.old }
+        ensures { (a : Areas) → Puts 96 out.old at (line (held_view kept.entry a) self) result out.new };
+}
+
+// Where a custody's code stands in a reply's body: behind the tag, as a header's commitment. (An envelope's body is its header.)
+const CODE: usize = Header::C;
+
+// A fetch has no line: it comes of a window, and there is none here.
+impl Listed<REPLY_WIDTH> for Reply {
+    ghost line = { λ s. reply_line };
+
+    fn put_text(self, kept: HeldRows, out: &mut [u8], at: usize) -> usize {
+        let tag = octets::get_array(&self.body, 0);
+        match self.kind {
+            Reply::ENVELOPE => {
+                let expiry = octets::get_u32(&self.body, Header::EXPIRY);
+                let copies = octets::get_u8(&self.body, Header::COPIES);
+                envelope_line(tag, expiry, copies, out, at)
+            }
+            Reply::CUSTODY => custody_line(tag, octets::get_u8(&self.body, CODE), out, at),
+            Reply::TOMB => tomb_line(tag, out, at),
+            _ => at,
+        }
+    }
+}
 
 // An own put has no line: there are no own rows here.
-fn action_line(row: Action, kept: HeldRows, line: &mut [u8; LINE]) -> usize
-    ensures { (a : Areas) → Puts 96 line.old 0 (action_line (blob_length (held_view kept.entry a)) row) result line.new }
-{
-    let slot = row.number;
-    match row.kind {
-        PUT => {
-            let n = kept.blob_length(slot);
-            put_line(slot, n, line)
+impl Listed<ACTION_WIDTH> for Action {
+    ghost line = { λ s. action_line (blob_length s) };
+
+    fn put_text(self, kept: HeldRows, out: &mut [u8], at: usize) -> usize {
+        let slot = self.number;
+        match self.kind {
+            Action::PUT => put_line(slot, kept.blob_length(slot), out, at),
+            Action::DELETE => del_line(slot, out, at),
+            _ => at,
         }
-        DELETE => del_line(slot, line),
-        _ => 0,
     }
 }
 
-fn action_lines(actions: Listed, kept: HeldRows, out: &mut [u8], at: usize) -> usize
-    requires { at + held (length actions.area.now) action_width actions.count * 96 ≤ length out.old }
-    ensures { (a : Areas) → Puts (held (length actions.entry.area.now) action_width actions.entry.count * 96) out.old at
-        (flat_map (action_line (blob_length (held_view kept.entry a))) (table_of action_codec actions.entry.count actions.entry.area.now)) result out.new }
+// The lines of the rows that a call lists. Their count may be anything, and what has no room in its area is no row.
+fn put_lines<const N: usize, R: Listed<N>>(
+    listed: Table<N>,
+    kept: HeldRows,
+    out: &mut [u8],
+    at: usize,
+) -> usize
+    requires { at + held (length listed.area.now) R.codec.width listed.count * 96 ≤ length out.old }
+    ensures { (a : Areas) → Puts (held (length listed.entry.area.now) R.codec.width listed.entry.count * 96) out.old at
+        (flat_map (R.line (held_view kept.entry a)) (table_of R.codec listed.entry.count listed.entry.area.now)) result out.new }
 {
-    let n = table::fit(actions.area.len(), rows::ACTION_WIDTH, actions.count);
     let mut p = at;
-    for i in 0..n {
-        let mut line = [0u8; LINE];
-        let row = Action::read(actions.area, i * rows::ACTION_WIDTH);
-        let k = action_line(row, kept, &mut line);
-        p = text::put_run(out, p, &line[..k]);
+    for i in 0..listed.len() {
+        p = R::read(listed.area, i * N).put_text(kept, out, p);
     }
     p
 }
 
 // ---- the last line
 
-// What a call says that is not refused. A malformed inventory or tomb is answered so: it is no refusal, and has no number.
+// What a call says that is not refused: how many actions and replies stand in the areas that it was lent. A malformed inventory or tomb is answered so:
+// it is no refusal, and has no number.
 #[derive(Clone, Copy)]
 pub enum Said {
-    Done,
+    Listed { actions: usize, replies: usize },
     Malformed,
 }
 
-pub fn last_line(last: Result<Said, Refusal>, out: &mut [u8], at: usize) -> usize
+pub fn last_line(said: Result<Said, Refusal>, out: &mut [u8], at: usize) -> usize
     requires { at + 96 ≤ length out.old }
-    ensures { Puts 96 out.old at (last_line last) result out.new }
+    ensures { Puts 96 out.old at (last_line (last_by said)) result out.new }
 {
-    match last {
-        Ok(Said::Done) => text::put_run(out, at, b"ok\n"),
+    match said {
+        Ok(Said::Listed { .. }) => text::put_run(out, at, b"ok\n"),
         Ok(Said::Malformed) => text::put_run(out, at, b"malformed\n"),
         Err(why) => {
             let p = text::put_run(out, at, b"refused");
@@ -215,21 +192,40 @@ pub fn last_line(last: Result<Said, Refusal>, out: &mut [u8], at: usize) -> usiz
 
 // ---- the lines of a record
 
-// Those of its actions, those of its replies, and a last one.
+// How many actions and replies a call lists.
+fn counts(said: Result<Said, Refusal>) -> (usize, usize)
+    ensures { result ≡ (acted_by said, replied_by said) }
+{
+    match said {
+        Ok(Said::Listed { actions, replies }) => (actions, replies),
+        Ok(Said::Malformed) | Err(_) => (0, 0),
+    }
+}
+
+// Those of its actions, those of its replies, and a last one. The actions and replies stand at the front of the two areas.
 pub fn record_lines(
-    actions: Listed,
-    replies: Listed,
-    last: Result<Said, Refusal>,
+    said: Result<Said, Refusal>,
+    actions: &[u8],
+    replies: &[u8],
     kept: HeldRows,
     out: &mut [u8],
     at: usize,
 ) -> usize
-    requires { at + (held (length actions.area.now) action_width actions.count * 96 + held (length replies.area.now) reply_width replies.count * 96 + 96) ≤ length out.old }
-    ensures { (a : Areas) → Puts (held (length actions.entry.area.now) action_width actions.entry.count * 96 + held (length replies.entry.area.now) reply_width replies.entry.count * 96 + 96) out.old at
+    requires { at + (held (length actions.now) action_width (acted_by said) * 96 + held (length replies.now) reply_width (replied_by said) * 96 + 96) ≤ length out.old }
+    ensures { (a : Areas) → Puts (held (length actions.now) action_width (acted_by said) * 96 + held (length replies.now) reply_width (replied_by said) * 96 + 96) out.old at
         (record_lines (held_view kept.entry a)
-        (table_of action_codec actions.entry.count actions.entry.area.now) (table_of reply_codec replies.entry.count replies.entry.area.now) last) result out.new }
+        (table_of action_codec (acted_by said) actions.now) (table_of reply_codec (replied_by said) replies.now) (last_by said)) result out.new }
 {
-    let p = action_lines(actions, kept, out, at);
-    let p = reply_lines(replies, out, p);
-    last_line(last, out, p)
+    let (acted, replied) = counts(said);
+    let acted = Table {
+        area: actions,
+        count: acted,
+    };
+    let replied = Table {
+        area: replies,
+        count: replied,
+    };
+    let p = put_lines::<ACTION_WIDTH, Action>(acted, kept, out, at);
+    let p = put_lines::<REPLY_WIDTH, Reply>(replied, kept, out, p);
+    last_line(said, out, p)
 }

@@ -1,5 +1,7 @@
 -- A record performed: what its call answers and stores, as lines and as the model's step. Assumes nothing.
-use Rattle.std.proofs.Common.{◌≡◌, ℕ, ◌+◌, ◌*◌, ◌≤◌, Bool, List, length, sym, refl, ap, ◌∙◌, subst, Option}
+use Rattle.std.proofs.Common.{◌≡◌, ℕ, ◌+◌, ◌*◌, ◌≤◌, Bool, false, List, length, sym, refl, ap, ◌∙◌, subst, Option, Err}
+use Rattle.courier_core.specs.declared.Refusal.{Refusal}
+use Rattle.courier_core.specs.declared.Refusal.TheVariants as refusal
 use Rattle.text.specs.Text.{Puts}
 use Rattle.text.proofs.TextLaws.{puts_within}
 use Rattle.table.specs.Rows.{held}
@@ -15,7 +17,8 @@ use Rattle.model.specs.Lent.{answers_lent}
 use Rattle.model.specs.Good.{Good, Sized}
 use Rattle.model.proofs.StoreLaws.{sized_store, view_store}
 use Rattle.saved.specs.Blobs.{held_in}
-use Rattle.drill_lines.specs.Lines.{Last, record_lines, last_of, stops_at}
+use Rattle.drill_lines.specs.Lines.{Last, record_lines, last_of, stops_at, acted_by, replied_by, last_by}
+use Rattle.drill_calls.specs.Asking.{Told, told_by}
 use Rattle.drill_lines.proofs.LineLaws.{puts_as}
 use Rattle.drill_run.specs.Drill.{record_step, tells, drill_areas, drill_in, state_after, lines_of, last_record}
 use Rattle.drill_run.proofs.RecordLaws.{ProperRecord}
@@ -23,11 +26,36 @@ use Rattle.drill_run.proofs.AnswerLaws.{Answers, record_answers, record_keeps, r
 use Rattle.drill_log.specs.Run.{Ready, Performs}
 use Rattle.drill_log.proofs.RunLaws.{lines_most}
 
+-- of the refusals one ends the log
+pub not_last : (why : Refusal) → (why ≡ refusal.LogRecord → ⊥) → false ≡ stops_at (Err why)
+not_last refusal.ShortArea h = refl
+not_last refusal.UnknownContact h = refl
+not_last refusal.WrongExchange h = refl
+not_last refusal.NoCell h = refl
+not_last refusal.NoTombstoneRow h = refl
+not_last refusal.NoSlot h = refl
+not_last refusal.Configuration h = refl
+not_last refusal.SavedFile h = refl
+not_last refusal.NoBadTagRow h = refl
+not_last refusal.MessageNumberTaken h = refl
+not_last refusal.OwnLength h = refl
+not_last refusal.WindowRows h = refl
+not_last refusal.LogRecord h = absurd (h refl)
+
 -- ---- on any areas
 
 module _ (r : Option Record) (proper : ProperRecord r) (a a' : Areas) (ready : Ready a)
-    {acted replied : ℕ} {end : Last} {replies actions replies' actions' : List ℕ} (lr : length replies' ≡ 61440) (la : length actions' ≡ 19968)
-    (w : Written tells (record_step (view a) r) (acted, (replied, end)) a a' (answers_lent replies actions) (answers_lent replies' actions')) where
+    (told : Told) {replies actions replies' actions' : List ℕ} (lr : length replies' ≡ 61440) (la : length actions' ≡ 19968)
+    (w : Written tells (record_step (view a) r) (told_by told) a a' (answers_lent replies actions) (answers_lent replies' actions')) where
+  abbrev acted : ℕ
+  acted = acted_by told
+
+  abbrev replied : ℕ
+  replied = replied_by told
+
+  abbrev end : Last
+  end = last_by told
+
   abbrev s : State
   s = view a
 
@@ -57,19 +85,19 @@ module _ (r : Option Record) (proper : ProperRecord r) (a a' : Areas) (ready : R
   answers = record_answers s ready.good r proper
 
   listed_actions : table_of action_codec acted actions' ≡ o.actions
-  unfolding tells answer_areas
+  unfolding tells told_by answer_areas
   listed_actions =
       ap (λ (n : ℕ). table_of action_codec n actions') (ap (λ (p : ℕ × (ℕ × Last)). p.0) w.answer)
       ∙ actions_back s o answers ready.rows actions actions' (ap (λ (x : AnswerAreas). x.actions) w.answers) la
 
   listed_replies : table_of reply_codec replied replies' ≡ o.replies
-  unfolding tells answer_areas
+  unfolding tells told_by answer_areas
   listed_replies =
       ap (λ (n : ℕ). table_of reply_codec n replies') (ap (λ (p : ℕ × (ℕ × Last)). p.1.0) w.answer)
       ∙ replies_back s o answers ready.rows replies replies' (ap (λ (x : AnswerAreas). x.replies) w.answers) lr
 
   last_told : end ≡ last_of o.answer
-  unfolding tells
+  unfolding tells told_by
   last_told = ap (λ (p : ℕ × (ℕ × Last)). p.1.1) w.answer
 
   performed : {out out' : List ℕ} {at put : ℕ} {stop : Bool}
@@ -88,15 +116,15 @@ module _ (r : Option Record) (proper : ProperRecord r) (a a' : Areas) (ready : R
 -- ---- on the drill's
 
 module _ {d d' : Device} {x x' : Exchange} {c c' o o' k k' t t' oc oc' rc rc' p p' f f' : List ℕ} (r : Option Record) (proper : ProperRecord r)
-    {acted replied : ℕ} {end : Last} {replies actions replies' actions' out out' : List ℕ} {at put : ℕ} {stop : Bool}
+    (told : Told) {replies actions replies' actions' out out' : List ℕ} {at put : ℕ} {stop : Bool}
     (lr : length replies' ≡ 61440) (la : length actions' ≡ 19968) where
-  pub performs : ((a : Areas) → Written tells (record_step (view (drill_in d x c o k t oc rc p f a)) r) (acted, (replied, end)) (drill_in d x c o k t oc rc p f a)
+  pub performs : ((a : Areas) → Written tells (record_step (view (drill_in d x c o k t oc rc p f a)) r) (told_by told) (drill_in d x c o k t oc rc p f a)
       (drill_in d' x' c' o' k' t' oc' rc' p' f' a) (answers_lent replies actions) (answers_lent replies' actions'))
-      → ((a : Areas) → Puts (held (length actions') 13 acted * 96 + held (length replies') 40 replied * 96 + 96) out at
-      (record_lines (view (held_in d' k' t' rc' a)) (table_of action_codec acted actions') (table_of reply_codec replied replies') end) put out')
-      → at + 295008 ≤ length out → stop ≡ stops_at end → Ready (drill_areas d x c o k t oc rc p f)
+      → ((a : Areas) → Puts (held (length actions') 13 (acted_by told) * 96 + held (length replies') 40 (replied_by told) * 96 + 96) out at
+      (record_lines (view (held_in d' k' t' rc' a)) (table_of action_codec (acted_by told) actions') (table_of reply_codec (replied_by told) replies') (last_by told)) put out')
+      → at + 295008 ≤ length out → stop ≡ stops_at (last_by told) → Ready (drill_areas d x c o k t oc rc p f)
       → Performs r (drill_areas d x c o k t oc rc p f) (drill_areas d' x' c' o' k' t' oc' rc' p' f') out at put out' stop
   performs w lines h e ready =
       let a : Areas = drill_areas d x c o k t oc rc p f in
       let a' : Areas = drill_areas d' x' c' o' k' t' oc' rc' p' f' in
-      performed r proper a a' ready lr la (w a) (puts_within (lines_most (length actions') (length replies') acted replied la lr) (lines a')) h e
+      performed r proper a a' ready told lr la (w a) (puts_within (lines_most (length actions') (length replies') (acted_by told) (replied_by told) la lr) (lines a')) h e

@@ -1,9 +1,9 @@
 -- Laws of the run over a buffer. Assumes nothing.
-use Rattle.std.proofs.Common.{◌≡◌, ℕ, ◌+◌, ◌-◌, ◌*◌, ◌<◌, ◌≤◌, Bool, true, false, List, [], ◌++◌, length, take, drop, sym, refl, ap, ◌∙◌, subst, append_assoc, append-nil, arith, length-drop, Option, Some, None, Ok, Err}
+use Rattle.std.proofs.Common.{◌≡◌, ℕ, ◌+◌, ◌-◌, ◌*◌, ◌<◌, ◌≤◌, Bool, true, false, List, [], ◌++◌, length, take, drop, sym, refl, ap, ◌∙◌, append_assoc, append-nil, arith, length-drop, take_all, Option, Some, None, Ok, Err}
 use mathlib.Core.Bool.{false≢true}
 use Rattle.octets.specs.Bytes.{part}
 use lib.Seq.{drop-drop}
-use Rattle.octets.proofs.Parts.{part_take, take_written}
+use Rattle.octets.proofs.Parts.{take_written}
 use Rattle.courier_core.specs.declared.Refusal.{Refusal}
 use Rattle.courier_core.specs.declared.Refusal.TheVariants as refusal
 use Rattle.table.specs.Rows.{held}
@@ -55,13 +55,15 @@ more_lines : {most : ℕ} {out out' w : List ℕ} {at put : ℕ} → at + most �
 more_lines {most} {out} {out'} {w} {at} {put} room p =
     (λ i. take (p.next i) (p.area i)) ∙ take_written out at w (omega (arith, p.near))
 
--- the body of a record, as it is lent
-pub body_lent : (s record_bytes : List ℕ) (n : ℕ) → record_bytes ≡ take (4 + n) s → length record_bytes ≡ 4 + n
-    → take (length record_bytes - 4) (drop 4 record_bytes) ≡ part s 4 n
+-- the bytes that are left, and the body of a record at their front, as they are lent
+pub rest_lent : (used : ℕ) (input : List ℕ) → take (length input - used) (drop used input) ≡ drop used input
+rest_lent used input = take_all (length input - used) (drop used input) (omega (arith, length-drop used input))
+
+pub body_lent : {lent : List ℕ} (s : List ℕ) (n : ℕ) {end : ℕ} → lent ≡ s → end ≡ 4 + n → take (end - 4) (drop 4 lent) ≡ part s 4 n
 unfolding part
-body_lent s record_bytes n e l =
-    let k : length record_bytes - 4 ≡ n = omega arith in
-    ap (λ (i : ℕ). take i (drop 4 record_bytes)) k ∙ ap (λ (r : List ℕ). take n (drop 4 r)) e ∙ part_take s 4 n (4 + n) (omega arith)
+body_lent {lent} s n {end} e l =
+    let k : end - 4 ≡ n = omega arith in
+    ap (λ (i : ℕ). take i (drop 4 lent)) k ∙ ap (λ (r : List ℕ). take n (drop 4 r)) e
 
 -- One record further, or at the last: s is what is left, and r the head at its front.
 module _ (s : List ℕ) {r : ReadHead} (e : r ≡ head_of s) where
@@ -151,42 +153,37 @@ pub run_start : (a : Areas) (b : List ℕ) → Ready a → Running (view a) b a 
 unfolding after_all
 run_start a b g = record { ready = g; on = λ t. refl; calls = []; made = λ t. refl; held = refl }
 
-pub run_full : {s₀ : State} {a : Areas} {b rest lines : List ℕ} → Running s₀ b a rest lines → Ran s₀ b a rest lines cause.Full
-run_full k = record {
+pub run_full : {s₀ : State} {a : Areas} {b rest lines : List ℕ} {why : Why} → why ≡ cause.Full → Running s₀ b a rest lines → Ran s₀ b a rest lines why
+run_full e k = record {
   ready = k.ready;
   on = λ h. k.on;
-  stop = λ h. absurd (omega (arith, ap rank h));
-  wants = λ h. absurd (omega (arith, ap rank h));
+  stop = λ h. absurd (omega (arith, ap rank e, ap rank h));
+  wants = λ h. absurd (omega (arith, ap rank e, ap rank h));
   calls = k.calls;
   made = λ h. k.made;
-  all = λ h. absurd (omega (arith, ap rank h));
+  all = λ h. absurd (omega (arith, ap rank e, ap rank h));
   held = k.held;
 }
 
 -- ---- the loop
 
--- what the run keeps to from record to record: rest is what is left of the bytes
-pub record InRun (before after : Areas) (input rest out : List ℕ) (put count : ℕ) : Type 0 where
-  pub place : drop (length input - length rest) input ≡ rest
-  pub fewer : count + length rest ≤ length input
+-- what the run keeps to from record to record: so many bytes of the input are done
+pub record InRun (before after : Areas) (input out : List ℕ) (used put count : ℕ) (why : Why) : Type 0 where
+  pub high : used ≤ length input
+  pub fewer : count ≤ used
   pub room : put ≤ 655360
-  pub so_far : Ready before → Running (view before) input after rest (take put out)
+  pub full : why ≡ cause.Full
+  pub so_far : Ready before → Running (view before) input after (drop used input) (take put out)
 
--- all of it, before the first record
-pub place_start : (input : List ℕ) → drop (length input - length input) input ≡ input
-place_start input = let k : length input - length input ≡ 0 = omega arith in ap (λ (n : ℕ). drop n input) k
+-- behind n bytes more
+pub place_on : (n used : ℕ) (input : List ℕ) → drop (used + n) input ≡ drop n (drop used input)
+place_on n used input = sym (drop-drop n used input)
 
-module _ (input rest : List ℕ) (place : drop (length input - length rest) input ≡ rest) (high : length rest ≤ length input) where
-  -- behind n bytes more
-  pub place_on : {behind : List ℕ} (n : ℕ) → n ≤ length rest → behind ≡ drop n rest → drop (length input - length behind) input ≡ behind
-  place_on {behind} n h e =
-      let k : length input - length behind ≡ length input - length rest + n = omega (arith, ap length e, length-drop n rest) in
-      ap (λ (i : ℕ). drop i input) k ∙ sym (drop-drop n (length input - length rest) input) ∙ ap (drop n) place ∙ sym e
-
-  -- where it ends
-  pub run_ends : {before after : Areas} {out : List ℕ} {put : ℕ} {why : Why} → put ≤ 655360 → (why ≡ cause.More → length rest < 8196)
-      → (Ready before → Ran (view before) input after rest (take put out) why) → Runs before after input (length input - length rest) out put why
-  run_ends {before} {after} {out} {put} {why} room short ran = record {
-    ended = record { high = omega arith; room = room; short = λ w. omega (arith, short w) };
-    ran = λ g. subst (λ (l : List ℕ). Ran (view before) input after l (take put out) why) (sym place) (ran g);
-  }
+-- where it ends
+pub run_ends : {before after : Areas} (input : List ℕ) {out : List ℕ} {used put : ℕ} {why : Why} → used ≤ length input → put ≤ 655360
+    → (why ≡ cause.More → length (drop used input) < 8196) → (Ready before → Ran (view before) input after (drop used input) (take put out) why)
+    → Runs before after input used out put why
+run_ends input {used = used} high room short ran = record {
+  ended = record { high = high; room = room; short = λ w. omega (arith, short w, length-drop used input) };
+  ran = ran;
+}

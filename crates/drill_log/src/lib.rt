@@ -3,43 +3,48 @@
 
 ghost use Rattle.std.specs.Prelude.{◌≡◌, ◌+◌, ◌≤◌};
 ghost use Rattle.wire.specs.Log.{body_of};
-ghost use Rattle.drill_lines.specs.Lines.{stops_at};
+ghost use Rattle.drill_lines.specs.Lines.{stops_at, last_by};
 ghost use Rattle.drill_calls.specs.Asking.{tables_areas};
 ghost use Rattle.drill_log.specs.Run.{goes_on, Performing, Runs};
 
 use courier_core::Refusal;
-use drill_calls::Tables;
-use drill_lines::{HeldRows, Listed, Said};
-use rows::{Device, Exchange};
+use drill_calls::{ACTION_ROWS, Tables};
+use drill_lines::{HeldRows, LINE, Said};
+use rows::{Device, Exchange, LISTED_REPLIES};
 use wire::Mark;
 
-// After a record: where the next line goes, and whether the log ends here, by number 13. (Both count: a record that ends the log has lines.)
+// The bytes of the area for lines.
+pub const OUTPUT: usize = 655_360;
+
+// The lines of a record have no more bytes: one line for each action and reply that the answer areas hold, and a last one.
+const RECORD_LINES: usize = (ACTION_ROWS + LISTED_REPLIES + 1) * LINE;
+
+// The last place at which the lines of one more record begin.
+const ROOM_FROM: usize = OUTPUT - RECORD_LINES;
+
+// After a record: where the next line goes, and whether the log ends here, at a refused log record. (Both count: a record that ends the log has lines.)
 #[derive(Clone, Copy)]
 pub struct Done {
     pub put: usize,
     pub stop: bool,
 }
 
-fn stops(last: Result<Said, Refusal>) -> bool
-    ensures { result ≡ stops_at last }
+#[tactic(auto, using(crate::proofs::PerformLaws::not_last))]
+fn stops(said: Result<Said, Refusal>) -> bool
+    ensures { result ≡ stops_at (last_by said) }
 {
-    match last {
-        Ok(_) => false,
-        Err(why) => why.number() == 13,
-    }
+    matches!(said, Err(Refusal::LogRecord))
 }
 
-// The last place at which the lines of one more record, 295,008 bytes at most, begin.
-const ROOM_FROM: usize = 360_352;
-
-// The call of a record, and its lines from a place on. The area has room for the lines of every action and reply that the answer areas hold.
+// The call of a record, and its lines from a place on. (The device and the exchange are apart from the tables: a turn hands on those two by value, and
+// the tables are too large for that.) The area has room for the lines of every action and reply that the answer areas hold.
 fn perform(
     mark: Mark,
     body: &[u8],
     device: &mut Device,
     exchange: &mut Exchange,
     tables: &mut Tables,
-    out: &mut [u8; 655360],
+    out: &mut [u8; OUTPUT],
     at: usize,
 ) -> Done
     requires { at + 295008 ≤ 655360 }
@@ -48,25 +53,17 @@ fn perform(
         (tables_areas device.new exchange.new tables.new)
         out.old at result.put out.new result.stop }
 {
-    let t = drill_calls::ask(mark, body, device, exchange, tables);
-    let actions = Listed {
-        area: &tables.actions,
-        count: t.acted,
-    };
-    let replies = Listed {
-        area: &tables.replies,
-        count: t.replied,
-    };
+    let said = drill_calls::ask(mark, body, device, exchange, tables);
     let held = HeldRows {
         device: *device,
         carried: &tables.carried,
         tombstones: &tables.tombstones,
         cells: &tables.cells,
     };
-    let put = drill_lines::record_lines(actions, replies, t.last, held, out, at);
+    let put = drill_lines::record_lines(said, &tables.actions, &tables.replies, held, out, at);
     Done {
         put,
-        stop: stops(t.last),
+        stop: stops(said),
     }
 }
 
@@ -77,7 +74,7 @@ fn perform(
 pub enum Why {
     More, // more input is wanted
     Full, // the lines of one more record have no room
-    Refused, // number 13, of the record at the place where it stopped
+    Refused, // the record at the place where it stopped is refused as a log record
     Ended, // the input has ended
     Failed, // the input could not be read
 }
@@ -107,57 +104,44 @@ pub fn run_some(
     device: &mut Device,
     exchange: &mut Exchange,
     tables: &mut Tables,
-    out: &mut [u8; 655360],
+    out: &mut [u8; OUTPUT],
 ) -> Progress
     ensures { Runs
         (tables_areas device.old exchange.old tables.old)
         (tables_areas device.new exchange.new tables.new)
         input.now result.used out.new result.put result.why }
 {
-    let mut rest = input;
-    let mut put = 0;
-    let mut count = 0;
-    while put <= ROOM_FROM {
+    let mut ran = Progress {
+        used: 0,
+        put: 0,
+        count: 0,
+        why: Why::Full,
+    };
+    while ran.put <= ROOM_FROM {
+        let rest = &input[ran.used..];
         match wire::read_head(rest) {
             Ok(Some(head)) => {
-                let (record, behind) = rest.split_at(wire::HEAD + head.len);
-                let body = &record[wire::HEAD..];
-                let done = perform(head.mark, body, device, exchange, tables, out, put);
+                let end = wire::HEAD + head.len;
+                let body = &rest[wire::HEAD..end];
+                let done = perform(head.mark, body, device, exchange, tables, out, ran.put);
+                ran.put = done.put;
                 if done.stop {
-                    return Progress {
-                        used: input.len() - rest.len(),
-                        put: done.put,
-                        count,
-                        why: Why::Refused,
-                    };
+                    ran.why = Why::Refused;
+                    return ran;
                 }
-                put = done.put;
-                rest = behind;
-                count += 1;
+                ran.used += end;
+                ran.count += 1;
             }
             Ok(None) => {
-                return Progress {
-                    used: input.len() - rest.len(),
-                    put,
-                    count,
-                    why: Why::More,
-                };
+                ran.why = Why::More;
+                return ran;
             }
             Err(why) => {
-                let p = drill_lines::last_line(Err(why), out, put);
-                return Progress {
-                    used: input.len() - rest.len(),
-                    put: p,
-                    count,
-                    why: Why::Refused,
-                };
+                ran.put = drill_lines::last_line(Err(why), out, ran.put);
+                ran.why = Why::Refused;
+                return ran;
             }
         }
     }
-    Progress {
-        used: input.len() - rest.len(),
-        put,
-        count,
-        why: Why::Full,
-    }
+    ran
 }

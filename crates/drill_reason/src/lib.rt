@@ -1,4 +1,4 @@
-// Why number 13 came, told from the bytes at whose front the refused record stands, and the message that says it.
+// Why a log record is refused (`Refusal::LogRecord`), told from the bytes at whose front it stands, and the message that says it.
 #![tactic(auto)]
 
 ghost use Rattle.std.specs.Prelude.{◌≡◌, ◌≤◌, length};
@@ -9,7 +9,7 @@ ghost use Rattle.drill_reason.specs.Message.{words_of, place_of, message_of, lon
 
 use wire::Mark;
 
-// The reasons of number 13, in document 01's order.
+// The reasons for it, in document 01's order.
 #[derive(Clone, Copy, PartialEq, Eq)]
 pub enum Reason {
     Mark,
@@ -22,7 +22,7 @@ pub enum Reason {
     End,
 }
 
-// A head that is wrong.
+// Why a wrong head is refused.
 #[tactic(auto, unfolding(crate::specs::Reason::head_reason))]
 fn head_reason(s: &[u8]) -> Reason
     requires { 4 ≤ length s.now }
@@ -75,7 +75,9 @@ fn reason_of(s: &[u8]) -> Reason
 }
 
 // ---- the message
+// (No `Display`: the contract says which bytes stand in `out`, and text's functions say it.)
 
+// The most bytes that a message has.
 pub const LONGEST_MESSAGE: usize = 93;
 
 impl Reason {

@@ -1,5 +1,7 @@
 -- Laws of a log that is read in pieces: what holds between two turns holds at the start, after a read and after a run. Assumes nothing.
 use Rattle.std.proofs.Common.{◌≡◌, ℕ, ◌+◌, ◌-◌, ◌%◌, ◌^◌, ◌<◌, ◌≤◌, Bool, true, false, cond, eqb, List, [], ◌++◌, length, take, sym, refl, ap, ◌∙◌, subst, append-nil, zero-add, arith, length-append, length-take, eqb-true, drop, None, Ok, Err}
+use Rattle.std.specs.Option.{unwrap_or}
+use Rattle.std.specs.Prelude.{Option, Some, None}
 use mathlib.Core.Bool.{false≢true}
 use Rattle.octets.specs.Bytes.{part, splice}
 use lib.Seq.{drop-drop, paste}
@@ -67,8 +69,11 @@ fed_none t input inside = record {
   ended = λ e h. absurd (false≢true (ap goes_on (sym e) ∙ h));
 }
 
--- n bytes are read behind those that are kept
-module _ (t : Turn) (input moved input' : List ℕ) (n : ℕ) (failed : Bool) (inside : Inside t.from t.have) where
+-- bytes are read behind those that are kept
+module _ (t : Turn) (input moved input' : List ℕ) (got : Option ℕ) (inside : Inside t.from t.have) where
+  abbrev n : ℕ
+  n = unwrap_or got 0
+
   abbrev kept : ℕ
   kept = t.have - t.from
 
@@ -79,20 +84,23 @@ module _ (t : Turn) (input moved input' : List ℕ) (n : ℕ) (failed : Bool) (i
       ap (part input' 0) k ∙ part_add input' 0 kept n ∙ (λ i. (f ∙ e) i ++ part input' (zero-add kept i) n)
 
   -- the end is told of a read of nothing
-  read_ended : after_read n failed ≡ cause.Ended → n ≡ 0
-  read_ended e = go failed (eqb n 0) refl e
+  read_ended : after_read got ≡ cause.Ended → n ≡ 0
+  read_ended e = of_end got e
     where
-      go : (b z : Bool) → eqb n 0 ≡ z → cond b cause.Failed (cond z cause.Ended cause.More) ≡ cause.Ended → n ≡ 0
-      go true z q r = absurd (omega (arith, ap rank r))
-      go false true q r = eqb-true n 0 q
-      go false false q r = absurd (omega (arith, ap rank r))
+      of_end : (x : Option ℕ) → after_read x ≡ cause.Ended → unwrap_or x 0 ≡ 0
+      of_end None r = refl
+      of_end (Some m) r = go (eqb m 0) refl r
+        where
+          go : (z : Bool) → eqb m 0 ≡ z → cond z cause.Ended cause.More ≡ cause.Ended → m ≡ 0
+          go true q r = eqb-true m 0 q
+          go false q r = absurd (omega (arith, ap rank r))
 
   pub fed_read : {k t' : Turn} → Keeps t input k moved → take k.have input' ≡ take k.have moved → k.have + n ≤ 65536 → length input' ≡ 65536
-      → t.why ≡ cause.More → t' ≡ read_turn k n failed → Fed t input t' input'
+      → t.why ≡ cause.More → t' ≡ read_turn k got → Fed t input t' input'
   fed_read {k} {t'} keeps front room size more e =
       let h : k.have ≡ kept = ap (λ (x : Turn). x.have) keeps.turn in
       let f : take kept input' ≡ take kept moved = subst (λ (j : ℕ). take j input' ≡ take j moved) h front in
-      subst (λ (x : Turn). Fed t input x input') (sym (e ∙ ap (λ (x : Turn). read_turn x n failed) keeps.turn)) (record {
+      subst (λ (x : Turn). Fed t input x input') (sym (e ∙ ap (λ (x : Turn). read_turn x got) keeps.turn)) (record {
         device = refl;
         exchange = refl;
         inside = record { order = omega arith; room = omega arith };

@@ -1,5 +1,6 @@
 -- The drill's log, read in pieces (document 01, "Drill program"): what one turn hands on to the next. Assumes nothing.
-use Rattle.std.specs.Prelude.{◌≡◌, ℕ, ◌+◌, ◌-◌, ◌%◌, ◌^◌, ◌≤◌, Bool, true, cond, List, [], ◌++◌, length, take, ◌==◌, None, Ok}
+use Rattle.std.specs.Prelude.{◌≡◌, ℕ, ◌+◌, ◌-◌, ◌%◌, ◌^◌, ◌≤◌, true, cond, List, [], ◌++◌, length, take, ◌==◌, Option, None, Some, Ok}
+use Rattle.std.specs.Option.{unwrap_or}
 use Rattle.octets.specs.Bytes.{part}
 use Rattle.wire.specs.Log.{head_of}
 use Rattle.rows.specs.declared.Device.{Device}
@@ -53,13 +54,14 @@ with_input t from have why bytes = turn_of t.device t.exchange from have why t.r
 abbrev pub kept_turn : Turn → Turn
 kept_turn t = with_input t 0 (t.have - t.from) cause.More ((t.bytes + t.from) % 2 ^ 64)
 
--- why a turn goes on or ends after a read of n bytes: none are read at the end of the input, and where the read failed
-abbrev pub after_read : ℕ → Bool → Why
-after_read n failed = cond failed cause.Failed (cond (n == 0) cause.Ended cause.More)
+-- why a turn goes on or ends after a read of n bytes, of which there are none at the end of the input, or after one that failed
+abbrev pub after_read : Option ℕ → Why
+after_read None = cause.Failed
+after_read (Some n) = cond (n == 0) cause.Ended cause.More
 
--- n bytes more stand in the buffer
-abbrev pub read_turn : Turn → ℕ → Bool → Turn
-read_turn t n failed = with_input t t.from (t.have + n) (after_read n failed) t.bytes
+-- the bytes that were read stand in the buffer too
+abbrev pub read_turn : Turn → Option ℕ → Turn
+read_turn t got = with_input t t.from (t.have + unwrap_or got 0) (after_read got) t.bytes
 
 -- more input is wanted only where no whole record is left
 pub record Waits (t : Turn) (input : List ℕ) : Type 0 where

@@ -2,16 +2,21 @@
 #![tactic(auto)]
 
 ghost use Rattle.std.specs.Prelude.{◌≡◌, ◌+◌, ◌%◌, ◌^◌, ◌≤◌, length};
+ghost use Rattle.std.specs.Option.{unwrap_or};
 ghost use Rattle.drill_calls.specs.Asking.{tables_areas};
 ghost use Rattle.drill_turn.specs.Stream.{Inside, first_turn, with_input, after_read, read_turn, Keeps, Turned, AtEnd};
 
 use courier_core::Refusal;
 use drill_calls::Tables;
-use drill_log::Why;
+use drill_log::{OUTPUT, Why};
 use rows::{Device, Exchange};
+
+// The bytes of the area that the input is read to.
+pub const INPUT: usize = 65_536;
 
 // What one turn hands on to the next: input[from..have] is not done, and out[..put] are its lines. So many bytes of the log stand before
 // input[0], and so many records before input[from], both modulo 2^64. The count of records is told on standard error; no contract says that `advance` counts the records performed.
+// (Input and output are arrays, and these numbers say how much of them counts: a Vec would need a heap, and the drill, as the library, has none.)
 // (No ghost field says `Inside`: the definitions that make a turn of its fields, as `first_turn` and `with_input`, would each have to hold a proof of it.)
 #[derive(Clone, Copy)]
 pub struct Turn {
@@ -64,7 +69,7 @@ fn with_input(turn: Turn, from: usize, have: usize, why: Why, bytes: u64) -> Tur
 }
 
 // Keeps what is not done, at the front of the buffer, so that there is room behind it.
-pub fn keep(turn: Turn, input: &mut [u8; 65536]) -> Turn
+pub fn keep(turn: Turn, input: &mut [u8; INPUT]) -> Turn
     requires { Inside turn.from turn.have }
     ensures { Keeps turn input.old result input.new }
 {
@@ -73,29 +78,30 @@ pub fn keep(turn: Turn, input: &mut [u8; 65536]) -> Turn
     with_input(turn, 0, turn.have - turn.from, Why::More, bytes)
 }
 
-// Why a turn goes on or ends after a read of so many bytes.
-fn after_read(got: usize, failed: bool) -> Why
-    ensures { result ≡ after_read got failed }
+// Why a turn goes on or ends after a read: of so many bytes, or one that failed.
+fn after_read(got: Option<usize>) -> Why
+    ensures { result ≡ after_read got }
 {
-    if failed {
-        return Why::Failed;
+    match got {
+        Some(0) => Why::Ended,
+        Some(_) => Why::More,
+        None => Why::Failed,
     }
-    if got == 0 { Why::Ended } else { Why::More }
 }
 
-// After a read of got bytes behind those that are kept.
-pub fn grow(turn: Turn, got: usize, failed: bool) -> Turn
-    requires { turn.have + got ≤ 65536 }
-    ensures { result ≡ read_turn turn got failed }
+// After a read behind the bytes that are kept: so many came, or it failed.
+pub fn grow(turn: Turn, got: Option<usize>) -> Turn
+    requires { turn.have + unwrap_or got 0 ≤ 65536 }
+    ensures { result ≡ read_turn turn got }
 {
-    let why = after_read(got, failed);
-    with_input(turn, turn.from, turn.have + got, why, turn.bytes)
+    let have = turn.have + got.unwrap_or(0);
+    with_input(turn, turn.from, have, after_read(got), turn.bytes)
 }
 
 // ---- the records
 
 // Performs the records that are there, on the turn's own device and exchange, and hands on those that come back.
-pub fn advance(turn: Turn, input: &[u8; 65536], tables: &mut Tables, out: &mut [u8; 655360]) -> Turn
+pub fn advance(turn: Turn, input: &[u8; INPUT], tables: &mut Tables, out: &mut [u8; OUTPUT]) -> Turn
     requires { Inside turn.from turn.have }
     ensures { Turned
         (tables_areas turn.device turn.exchange tables.old)
@@ -124,8 +130,8 @@ pub fn advance(turn: Turn, input: &[u8; 65536], tables: &mut Tables, out: &mut [
 
 // ---- the end of the input
 
-// Puts the line of an input that ends inside a record, number 13; none where it ends between two.
-pub fn at_end(turn: Turn, out: &mut [u8; 655360]) -> usize
+// Puts the line of an input that ends inside a record, which is refused; none where it ends between two.
+pub fn at_end(turn: Turn, out: &mut [u8; OUTPUT]) -> usize
     ensures { AtEnd turn result out.new }
 {
     if turn.have <= turn.from {

@@ -1,8 +1,7 @@
 -- Laws of what becomes of an envelope: each test that the code makes is a test of the model, and what a cell that is taken says of the areas.
 -- Assumes nothing.
-use Rattle.std.proofs.Common.{◌≡◌, ℕ, zero, suc, ◌+◌, ◌*◌, ◌/◌, ◌^◌, ◌<◌, ◌≤◌, min, Bool, true, false, cond, not, ◌&&◌, ◌||◌, eqb, ltb, leb, List, [], ◌∷◌, map, length, sym, refl, ap, ◌∙◌, ap₂, div-mul-le_self, arith, ltb-false, eq-eqb, ne_eqb, leb-false, Option, Some, None, Result, Ok, Err}
+use Rattle.std.proofs.Common.{◌≡◌, ℕ, ◌+◌, ◌*◌, ◌/◌, ◌^◌, ◌<◌, ◌≤◌, Bool, true, false, cond, not, ◌&&◌, ◌||◌, eqb, ltb, leb, List, [], ◌∷◌, map, length, sym, refl, ap, ◌∙◌, ap₂, arith, ltb-false, eq-eqb, ne_eqb, leb-false, Option, Some, None, Result, Ok, Err}
 use mathlib.Core.Bool.{false≢true}
-use native.Mathlib.Nat.{min-le_left, min-le_right}
 use Rattle.std.specs.Option.{ok_or}
 use Rattle.courier_core.specs.Core.{first_of}
 use Rattle.courier_core.specs.declared.ContactId.{ContactId}
@@ -12,7 +11,7 @@ use Rattle.courier.specs.declared.Header.{Header}
 use Rattle.courier.specs.declared.Custody.{Custody}
 use Rattle.courier.specs.declared.Custody.TheVariants as custody
 use Rattle.courier.specs.Courier.{envelope_valid}
-use Rattle.table.specs.Lists.{All, none, more, any, is_at, unwrap_or}
+use Rattle.table.specs.Lists.{All, none, more, is_at, unwrap_or}
 use Rattle.table.specs.Codec.{table_of}
 use Rattle.table.proofs.TableLaws.{length_table}
 use Rattle.rows.specs.declared.Device.{Device}
@@ -23,9 +22,10 @@ use Rattle.model.specs.State.{State}
 use Rattle.model.specs.Calls.{short_replies, short_actions}
 use Rattle.model.specs.Contacts.{minute_of, known}
 use Rattle.model.specs.Window.{window_rows, wrong_window, strangers, lookup}
-use Rattle.model.specs.Cells.{cell_count, free_from, free_cell, cells_used, new_cell}
+use Rattle.model.specs.Cells.{free_cell, cells_used, new_cell}
 use Rattle.model.specs.Custody.{is_accepted, duplicate, full, custody_of, accepts, carried_named, carried_cell, last_slot, envelope_tests}
 use Rattle.model.specs.Areas.{Areas, no_session_areas, view}
+use Rattle.model.proofs.CellLaws.{free_inside}
 use Rattle.model.proofs.KeepRows.{and_false, or_false, next_small, accepted, valid_length}
 use Rattle.envelope.specs.declared.Choice.{Choice}
 use Rattle.envelope.specs.declared.Choice.TheVariants as choice
@@ -221,24 +221,12 @@ module _ {a : Areas} {d : Device} {contacts own carried tombstones : List ℕ} {
 
 -- ---- what a cell that is taken says
 
--- a first free cell is one of those that count
-free_below : (n i k : ℕ) (named : List ℕ) → free_from n i named ≡ Some k → k < i + n
-unfolding free_from
-free_below zero i k named e = let z : ◌≡◌ {A = ℕ} 0 1 = cc in absurd (omega arith)
-free_below (suc n) i k named e = go (any (λ (m : ℕ). eqb m i) named) e (free_below n (suc i) k named)
+new_inside : (size : ℕ) (named : List ℕ) → cells_used size named ≡ false → (new_cell size named < 256) × (new_cell size named * 2064 + 2064 ≤ size)
+unfolding cells_used new_cell
+new_inside size named e = go (free_cell size named) refl e
   where
-    go : (b : Bool) → cond b (free_from n (suc i) named) (Some i) ≡ Some k → (free_from n (suc i) named ≡ Some k → k < suc i + n) → k < i + suc n
-    go true f rest = omega (arith, rest f)
-    go false f rest = let z : i ≡ k = cc in omega arith
-
-free_inside : (size : ℕ) (named : List ℕ) → cells_used size named ≡ false → (new_cell size named < 256) × (new_cell size named * 2064 + 2064 ≤ size)
-unfolding cells_used new_cell free_cell cell_count
-free_inside size named e = go (free_from (min 256 (size / 2064)) 0 named) refl e
-  where
-    go : (f : Option ℕ) → free_from (min 256 (size / 2064)) 0 named ≡ f → not (is_at f) ≡ false → (unwrap_or 0 f < 256) × (unwrap_or 0 f * 2064 + 2064 ≤ size)
-    go (Some k) q t =
-        let b = free_below (min 256 (size / 2064)) 0 k named q in
-        (omega (arith, b, min-le_left 256 (size / 2064)), omega (arith, b, min-le_right 256 (size / 2064), div-mul-le_self size 2064))
+    go : (f : Option ℕ) → free_cell size named ≡ f → not (is_at f) ≡ false → (unwrap_or 0 f < 256) × (unwrap_or 0 f * 2064 + 2064 ≤ size)
+    go (Some k) q t = free_inside size named k q
     go None q t = let z : ◌≡◌ {A = ℕ} 0 1 = cc in absurd (omega arith)
 
 -- a code that is another is not accepted
@@ -288,7 +276,7 @@ module _ (d : Device) (contacts own carried tombstones cells window : List ℕ) 
         let q = accepted d.courier.enabled (envelope_valid len head.copies head.expiry_min (minute_of S)) (duplicate S head.tag) (full S peer len)
         (is_accepted_lem (custody_of S peer head len) t.accepts) in
         let few : leb 256 (length S.carried) ≡ false = (or_false _ _ (or_false _ _ q.1).0).0 in
-        let f = free_inside (length cells) (carried_named S) t.free in
+        let f = new_inside (length cells) (carried_named S) t.free in
         record {
           row = omega (arith, leb-false 256 (length S.carried) few, length_table carried_codec d.carried carried);
           slot = omega (arith, next_small d.next_slot n t.slot);

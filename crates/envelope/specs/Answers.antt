@@ -38,7 +38,7 @@ envelope_choice s replies actions window peer head len =
     first_of (envelope_tests s replies actions window peer head len) Err
     (match_found (lookup (window_rows window) head.tag) (λ i. Ok (choice.Ours i)) (cond (is_accepted code) (Ok (choice.Take (carried_cell s))) (Ok (choice.Code code))))
 
--- numbers 4 and 6 of an accepted envelope, in a cell area of so many bytes whose rows name these cells, or the cell that it gets
+-- `NoCell` and `NoSlot` of an accepted envelope, in a cell area of so many bytes whose rows name these cells, or the cell that it gets
 unfoldable pub placed : ℕ → List ℕ → ℕ → Result Choice Refusal
 placed size named next =
     first_of ((cells_used size named, refusal.NoCell) ∷ ((next == 18446744073709551615), refusal.NoSlot) ∷ []) Err

@@ -13,18 +13,13 @@ ghost use Rattle.model.specs.Lent.{Does, answers_lent};
 ghost use Rattle.custody.specs.Lent.{Lent};
 ghost use Rattle.envelope.specs.Answers.{placed, envelope_choice, custody_choice, ours_of, new_row, Room, Carries, envelope_says, envelope_in};
 
-use contacts::{known, lifetime_end, strangers};
+use contacts::lifetime_end;
 use courier::{Custody, Header};
 use courier_core::{ContactId, Refusal};
-use custody::{Tables, free_carried_cell, lookup, wrong_window};
-use rows::{CARRIED_WIDTH, CONTACT_WIDTH, Carried, Device, Reachable, Row};
+use custody::{Tables, free_carried_cell, lookup, unknown, wrong_window};
+use rows::{CARRIED_AREA, CARRIED_WIDTH, CONTACT_AREA, Carried, Device, OWN_AREA, Reachable, Row};
 use state::CELL;
 use table::Table;
-
-// The areas that the call is lent for its answer: so many replies, and so many actions beside one for each tombstone row.
-const REPLY_AREA: usize = 1536 * rows::REPLY_WIDTH;
-
-const LISTED_ACTIONS: usize = 512;
 
 // What becomes of an envelope that is not refused: its place in the window, a code that holds no row, or the cell that it gets.
 // (Three ways, none of them a refusal or nothing: neither `Option` nor `Result` has them.)
@@ -45,22 +40,7 @@ pub enum Answer {
 
 // ---- what becomes of it: these only read
 
-// Number 1, of areas of so many bytes.
-fn too_short(replies: usize, actions: usize, tombstones: usize) -> bool
-    ensures { result ≡ (short_replies replies || nat_lt actions (13 * (512 + tombstones / 44))) }
-{
-    replies < REPLY_AREA
-        || actions < rows::ACTION_WIDTH * (LISTED_ACTIONS + tombstones / rows::TOMBSTONE_WIDTH)
-}
-
-// Number 2: the peer, or a contact in the window, isn't known.
-fn unknown(contacts: Table<CONTACT_WIDTH>, peer: ContactId, window: &[u8]) -> bool
-    ensures { result ≡ (not (known_of (rows_in contact_codec contacts.entry) peer) || some_stranger (rows_in contact_codec contacts.entry) (window_rows window.now)) }
-{
-    !known(contacts, peer) || strangers(contacts, window)
-}
-
-// The cell of an envelope that is accepted, in a cell area of size bytes; numbers 4 and 6.
+// The cell of an envelope that is accepted, in a cell area of size bytes: or why it gets none: `NoCell`, `NoSlot`.
 fn place(carried: Table<CARRIED_WIDTH>, size: usize, next_slot: u64) -> Result<Choice, Refusal>
     ensures { result ≡ placed size (map (λ x. x.cell) (rows_in carried_codec carried.entry)) next_slot }
 {
@@ -82,6 +62,7 @@ fn custody_choice(
 {
     match tables.custody(peer, head, len) {
         Custody::Accepted => {
+            // (A field that is a lent array goes into a literal through a local: put there straight, the borrow check does not cover it.)
             let area = tables.carried;
             let carried = Table {
                 area,
@@ -94,6 +75,7 @@ fn custody_choice(
 }
 
 // What becomes of an envelope: the refusals in order, the window, the code.
+// (Peer, header and length go one by one, as the model's definitions take them: of a struct each contract would name the three parts.)
 fn decide(
     tables: Tables,
     peer: ContactId,
@@ -105,7 +87,7 @@ fn decide(
 ) -> Result<Choice, Refusal>
     ensures { (a : Areas) → Lent a tables.entry → result ≡ envelope_choice (view a) replies actions window.now peer head len }
 {
-    if too_short(replies, actions, tables.tombstones.len()) {
+    if answers::short_replies(replies) || answers::short_actions(actions, tables.tombstones.len()) {
         return Err(Refusal::ShortArea);
     }
     if wrong_window(window) {
@@ -180,16 +162,16 @@ fn carry(
 
 // An envelope that a peer sends. One in the window is ours, and the host opens it. Any other is answered by a custody code; an accepted one
 // is held from then on.
-// (As the C interface lends them, each area is a parameter.)
+// (The call is lent what the exported function of crate goosetable is lent: each area by itself.)
 pub fn envelope(
     device: &mut Device,
     peer: ContactId,
     head: Header,
     ct: &[u8],
     window: &[u8],
-    contacts: &[u8; 2304],
-    own: &[u8; 13824],
-    carried: &mut [u8; 14592],
+    contacts: &[u8; CONTACT_AREA],
+    own: &[u8; OWN_AREA],
+    carried: &mut [u8; CARRIED_AREA],
     tombstones: &[u8],
     carried_cells: &mut [u8],
     replies: &mut [u8],

@@ -1,6 +1,6 @@
 -- Laws of the call fetch: each way out as the model's step, and what it leaves.
 -- Assumes nothing.
-use Rattle.std.proofs.Common.{◌≡◌, ℕ, ◌+◌, ◌*◌, ◌<◌, ◌≤◌, true, false, not, List, [], length, get_or, refl, ap, ◌∙◌, le-ltb, lt-ltb, Option, Some, None}
+use Rattle.std.proofs.Common.{◌≡◌, ℕ, ◌+◌, ◌*◌, ◌≤◌, true, false, not, List, [], length, get_or, refl, ap, ◌∙◌, Option, Some, None}
 use Rattle.octets.specs.Bytes.{part, splice}
 use Rattle.courier_core.specs.declared.ContactId.{ContactId}
 use Rattle.courier_core.specs.declared.Refusal.TheVariants as refusal
@@ -14,7 +14,7 @@ use Rattle.rows.specs.declared.Carried.{Carried}
 use Rattle.rows.specs.Rows.{contact_codec, own_codec, own_of, carried_codec, carried_of, reply_codec}
 use Rattle.model.specs.Basics.{find, match_some}
 use Rattle.model.specs.State.{nothing}
-use Rattle.model.specs.Calls.{Call, Cells, of_own, of_carried, fetch, missing, only}
+use Rattle.model.specs.Calls.{Call, Cells, of_own, of_carried, fetch, missing, only, short_replies}
 use Rattle.model.specs.Contacts.{known}
 use Rattle.model.specs.Cells.{cell_start, cell_length, ciphertext}
 use Rattle.model.specs.Custody.{carried_of_tag}
@@ -47,19 +47,19 @@ module _ (d : Device) (peer : ContactId) (tag contacts own carried oc cc lent : 
   abbrev Says : ℕ → List ℕ → List ℕ → Type 0
   Says n bytes back = Written (fetch_says oc cc) (step (view B) C) (fetched_as n bytes) B B (replies_lent lent) (replies_lent back)
 
-  pub says_short : length lent < 61440 → Says 1 [] lent
+  pub says_short : short_replies (length lent) ≡ true → Says 1 [] lent
   unfolding step tests perform fetch_tests
-  says_short h = refused_call refusal.ShortArea (refused_here _ _ _ (lt-ltb (length lent) 61440 h)) refl refl
+  says_short h = refused_call refusal.ShortArea (refused_here _ _ _ h) refl refl
 
-  module _ (long : 61440 ≤ length lent) where
+  module _ (long : short_replies (length lent) ≡ false) where
     pub says_stranger : known (table_of contact_codec d.contacts contacts) peer ≡ false → Says 2 [] lent
     unfolding step tests perform fetch_tests view
-    says_stranger k = refused_call refusal.UnknownContact (not_here _ _ _ (le-ltb (length lent) 61440 long) (refused_here _ _ _ (ap not k))) refl refl
+    says_stranger k = refused_call refusal.UnknownContact (not_here _ _ _ long (refused_here _ _ _ (ap not k))) refl refl
 
     module _ (k : known (table_of contact_codec d.contacts contacts) peer ≡ true) where
       performed : step (view B) C ≡ receive_fetch (view B) peer tag
       unfolding step tests perform fetch_tests view
-      performed = not_here _ _ _ (le-ltb (length lent) 61440 long) (not_here _ _ _ (ap not k) (no_test _))
+      performed = not_here _ _ _ long (not_here _ _ _ (ap not k) (no_test _))
 
       abbrev To : List Own
       To = table_of own_codec d.own own

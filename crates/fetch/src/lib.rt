@@ -14,16 +14,10 @@ ghost use Rattle.model.specs.Lent.{Does, replies_lent};
 ghost use Rattle.fetch.specs.Fetch.{for_others, Given, fetched_said, fetch_says, fetch_in};
 
 use courier_core::{ContactId, Refusal};
-use rows::{CARRIED_WIDTH, Carried, Device, OWN_WIDTH, Own, REPLY_WIDTH, Row};
+use rows::{
+    CARRIED_AREA, CARRIED_WIDTH, CONTACT_AREA, Carried, Device, OWN_AREA, OWN_WIDTH, Own, Row,
+};
 use table::Table;
-
-// The bytes that a reply area has at least.
-const REPLY_AREA: usize = 1536 * REPLY_WIDTH;
-
-// Where the tag stands in an own row, and in a carried row.
-const OWN_TAG: usize = 12;
-
-const CARRIED_TAG: usize = 16;
 
 // ---- the envelope
 
@@ -31,14 +25,15 @@ const CARRIED_TAG: usize = 16;
 pub fn own_for_others(own: Table<OWN_WIDTH>, peer: ContactId, tag: [u8; 16]) -> Option<usize>
     ensures { result ≡ position (for_others peer tag) (rows_in own_codec own.entry) }
 {
-    own.position(|row| octets::get_u64(row, 0) != peer.0 && octets::same(row, OWN_TAG, &tag, 0, 16))
+    own.position(|row| ContactId(octets::get_u64(row, 0)) != peer
+        && octets::same(row, Own::TAG, &tag, 0, 16))
 }
 
 // The first carried row with the tag.
 pub fn carried_of_tag(carried: Table<CARRIED_WIDTH>, tag: [u8; 16]) -> Option<usize>
     ensures { result ≡ position (carried_of_tag tag) (rows_in carried_codec carried.entry) }
 {
-    carried.find(CARRIED_TAG, &tag)
+    carried.find(Carried::TAG, &tag)
 }
 
 // ---- its ciphertext
@@ -47,7 +42,7 @@ pub fn carried_of_tag(carried: Table<CARRIED_WIDTH>, tag: [u8; 16]) -> Option<us
 pub fn cell_part(cells: &[u8], cell: u16, len: u16) -> &[u8]
     ensures { result.now ≡ ciphertext cells.now cell len }
 {
-    let at = (cell as usize * state::CELL).min(cells.len());
+    let at = (usize::from(cell) * state::CELL).min(cells.len());
     let n = custody::cell_length(cells.len(), cell, len);
     &cells[at..at + n]
 }
@@ -69,7 +64,8 @@ fn give_own<'c>(own: &[u8], at: usize, cells: &'c [u8], replies: &mut [u8]) -> &
     cell_part(cells, row.cell, row.len)
 }
 
-// The same, of a carried envelope. (Two functions: the rows are of two types, and an own row has a secret where a carried row has a commitment.)
+// The same, of a carried envelope. (Two functions: one would be given the header, the cell as a reply says it, the row's cell and its length,
+// each made by another function or read from another type at the two calls.)
 fn give_carried<'c>(carried: &[u8], at: usize, cells: &'c [u8], replies: &mut [u8]) -> &'c [u8]
     requires { (at + 57 ≤ length carried.now) × (40 ≤ length replies.old) }
     ensures { Given (carried_envelope_of (carried_of (part carried.now at 57))) cells.now replies.old result.now replies.new }
@@ -88,14 +84,14 @@ fn give_carried<'c>(carried: &[u8], at: usize, cells: &'c [u8], replies: &mut [u
 
 // Answers the part of a cell area that is the ciphertext of the first envelope with the tag: own rows that are not for the peer, then
 // carried rows; or that there is none. Its header goes to the reply area.
-// (As the C interface lends them, each area is a parameter.)
+// (The call is lent what the exported function of crate goosetable is lent: each area by itself.)
 pub fn fetch<'c>(
     device: Device,
     peer: ContactId,
     tag: [u8; 16],
-    contacts: &[u8; 2304],
-    own: &[u8; 13824],
-    carried: &[u8; 14592],
+    contacts: &[u8; CONTACT_AREA],
+    own: &[u8; OWN_AREA],
+    carried: &[u8; CARRIED_AREA],
     own_cells: &'c [u8],
     carried_cells: &'c [u8],
     replies: &mut [u8],
@@ -106,7 +102,7 @@ pub fn fetch<'c>(
         (fetch_in device contacts.now own.now carried.now own_cells.now carried_cells.now)
         (replies_lent replies.old) (replies_lent replies.new) }
 {
-    if replies.len() < REPLY_AREA {
+    if answers::short_replies(replies.len()) {
         return Err(Refusal::ShortArea);
     }
     let contacts = Table {

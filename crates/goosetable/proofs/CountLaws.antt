@@ -1,9 +1,6 @@
 -- The counts that a host gets are lengths: of replies and actions, those of the model's lists.
 -- Assumes nothing.
-use Rattle.std.proofs.Common.{◌≡◌, ℕ, zero, suc, Bool, true, false, cond, eqb, List, length, sym, refl, Option, Some, None}
-use mathlib.Core.Bool.{false≢true}
-use lib.Dec.{eqb-suc-zero}
-use Rattle.courier_core.specs.Core.{refusal_number}
+use Rattle.std.proofs.Common.{◌≡◌, ℕ, Bool, eqb, List, length, refl, Option, arith}
 use Rattle.courier_core.specs.declared.ContactId.{ContactId}
 use Rattle.courier_core.specs.declared.Refusal.{Refusal}
 use Rattle.courier_core.specs.declared.Verification.{Verification}
@@ -30,28 +27,26 @@ use Rattle.envelope.specs.Answers.{envelope_says}
 use Rattle.fetch.specs.Fetch.{fetch_says}
 use Rattle.own_envelope.specs.OwnEnvelope.{own_says}
 use Rattle.inventory.specs.Inventory.{inventory_says, received_says}
-use Rattle.handover.specs.Handing.{says as code_says}
 use Rattle.tombstones.specs.Tombstones.{says_stored}
 use Rattle.tombs.specs.Tombs.{says as tomb_says}
-use Rattle.maintenance.specs.Expiry.{maintained_of}
 use Rattle.saved.specs.Blobs.{blob_says}
 use Rattle.saved.specs.Saving.{save_says}
-use Rattle.screen.specs.Page.{page_says}
 use Rattle.load.specs.Load.{load_held_rows, load_step}
 use Rattle.load.proofs.ExactLaws.{of_load}
-use Rattle.load.specs.Laying.{says as load_says}
-use Rattle.host_answers.specs.HostAnswers.{answered, done_answer, envelope_answer, fetch_answer, fetched_answer, own_answer, wrote_answer, inventory_answer, acted_answer, tomb_answer, blob_answer}
+use Rattle.host_answers.specs.HostAnswers.{done_answer, envelope_answer, fetched_answer, own_answer, wrote_answer, inventory_answer, acted_answer, tomb_answer, blob_answer}
 use Rattle.host_answers.specs.declared.Answer.{Answer}
 use Rattle.goosetable.specs.Hosts.{Counted, Length}
-use Rattle.goosetable.proofs.StayLaws.{is_other, numbered}
 
--- ---- what a host gets of a result
+-- ---- what a host gets of a result: by the first three of these, several calls alike
 
-abbrev host_contact : Result → Answer
-host_contact o = done_answer (said_of o)
+abbrev host_done : Result → Answer
+host_done o = done_answer (said_of o)
 
-abbrev host_exchange : Result → Answer
-host_exchange o = done_answer (said_of o)
+abbrev host_acted : Result → Answer
+host_acted o = acted_answer (says_stored o)
+
+abbrev host_wrote : Result → Answer
+host_wrote o = wrote_answer (save_says o)
 
 abbrev host_envelope : Result → Answer
 host_envelope o = envelope_answer (envelope_says o)
@@ -59,35 +54,17 @@ host_envelope o = envelope_answer (envelope_says o)
 abbrev host_inventory : Result → Answer
 host_inventory o = inventory_answer (received_says o)
 
-abbrev host_code : Result → Answer
-host_code o = acted_answer (code_says o)
-
 abbrev host_tomb : Result → Answer
 host_tomb o = tomb_answer (length o.replies) (tomb_says o)
 
-abbrev host_stored : Result → Answer
-host_stored o = acted_answer (says_stored o)
-
 abbrev host_own : Result → Answer
 host_own o = own_answer (own_says o)
-
-abbrev host_maintained : Result → Answer
-host_maintained o = acted_answer (maintained_of o)
 
 abbrev host_listed : Result → Answer
 host_listed o = wrote_answer (inventory_says o)
 
 abbrev host_blob : Result → Answer
 host_blob o = blob_answer (blob_says o)
-
-abbrev host_load : Result → Answer
-host_load o = done_answer (load_says o)
-
-abbrev host_save : Result → Answer
-host_save o = wrote_answer (save_says o)
-
-abbrev host_page : Result → Answer
-host_page o = wrote_answer (page_says o)
 
 -- ---- a call by its refusals and what it performs
 
@@ -112,80 +89,80 @@ met s tag secret (own_at i) = counts refl refl refl
 met s tag secret wrong = counts refl refl refl
 met s tag secret unknown = counts refl refl refl
 
-pub contact_counted : (id : ContactId) (v : Verification) → Counts host_contact (contact id v)
+pub contact_counted : (id : ContactId) (v : Verification) → Counts host_done (contact id v)
 unfolding perform set_contact
-contact_counted id v = of_call host_contact (contact id v) (λ why. counts refl refl refl) (λ s. counts refl refl refl)
+contact_counted id v = of_call host_done _ (λ why. counts refl refl refl) (λ s. counts refl refl refl)
 
-pub setting_counted : (enabled : Bool) (copies lifetime : ℕ) → Counts host_contact (setting enabled copies lifetime)
+pub setting_counted : (enabled : Bool) (copies lifetime : ℕ) → Counts host_done (setting enabled copies lifetime)
 unfolding perform set_config
-setting_counted enabled copies lifetime = of_call host_contact (setting enabled copies lifetime) (λ why. counts refl refl refl) (λ s. counts refl refl refl)
+setting_counted enabled copies lifetime = of_call host_done _ (λ why. counts refl refl refl) (λ s. counts refl refl refl)
 
-pub clock_counted : (seconds : ℕ) → Counts host_contact (clock seconds)
+pub clock_counted : (seconds : ℕ) → Counts host_done (clock seconds)
 unfolding perform set_clock
-clock_counted seconds = of_call host_contact (clock seconds) (λ why. counts refl refl refl) (λ s. counts refl refl refl)
+clock_counted seconds = of_call host_done _ (λ why. counts refl refl refl) (λ s. counts refl refl refl)
 
-pub exchange_counted : (peer : ContactId) → Counts host_exchange (open_exchange peer)
+pub exchange_counted : (peer : ContactId) → Counts host_done (open_exchange peer)
 unfolding perform open_exchanged
-exchange_counted peer = of_call host_exchange (open_exchange peer) (λ why. counts refl refl refl) (λ s. counts refl refl refl)
+exchange_counted peer = of_call host_done _ (λ why. counts refl refl refl) (λ s. counts refl refl refl)
 
 pub envelope_counted : (replies actions : ℕ) (area : List ℕ) (peer : ContactId) (head : Header) (ct : List ℕ) → Counts host_envelope (envelope replies actions area peer head ct)
 unfolding perform receive_envelope ours_at answer_custody envelope_says
-envelope_counted replies actions area peer head ct = of_call host_envelope (envelope replies actions area peer head ct) (λ why. counts refl refl refl) (λ s. by_place (CountedBy host_envelope) (lookup (window_rows area) head.tag) (λ i. counts refl refl refl) (counts refl refl refl))
+envelope_counted replies actions area peer head ct = of_call host_envelope _ (λ why. counts refl refl refl) (λ s. by_place (CountedBy host_envelope) (lookup (window_rows area) head.tag) (λ i. counts refl refl refl) (counts refl refl refl))
 
 pub inventory_counted : (replies : ℕ) (area : List ℕ) (peer : ContactId) (listed : List ℕ) → Counts host_inventory (inventory_received replies area peer listed)
 unfolding perform receive_inventory answer_inventory list_more
-inventory_counted replies area peer listed = of_call host_inventory (inventory_received replies area peer listed) (λ why. counts refl refl refl) (λ s.
+inventory_counted replies area peer listed = of_call host_inventory _ (λ why. counts refl refl refl) (λ s.
     by_test (CountedBy host_inventory) (too_many s.session.exchange (length (prefix_rows listed))) (counts refl refl refl)
     (by_test (CountedBy host_inventory) (eqb (length (prefix_rows listed)) 0) (counts refl refl refl) (counts refl refl refl)))
 
-pub code_counted : (actions : ℕ) (peer : ContactId) (tag : List ℕ) (k : Custody) → Counts host_code (custody_answer actions peer tag k)
+pub code_counted : (actions : ℕ) (peer : ContactId) (tag : List ℕ) (k : Custody) → Counts host_acted (custody_answer actions peer tag k)
 unfolding perform receive_custody settle
-code_counted actions peer tag k = of_call host_code (custody_answer actions peer tag k) (λ why. counts refl refl refl) (λ s. by_place (CountedBy host_code) (position (offer_of_tag tag) s.session.exchange.offered) (λ i. counts refl refl refl) (counts refl refl refl))
+code_counted actions peer tag k = of_call host_acted _ (λ why. counts refl refl refl) (λ s. by_place (CountedBy host_acted) (position (offer_of_tag tag) s.session.exchange.offered) (λ i. counts refl refl refl) (counts refl refl refl))
 
 pub tomb_counted : (actions : ℕ) (peer : ContactId) (tag secret : List ℕ) → Counts host_tomb (tomb actions peer tag secret)
 unfolding perform
-tomb_counted actions peer tag secret = of_call host_tomb (tomb actions peer tag secret) (λ why. counts refl refl refl) (λ s. met s tag secret (meets s.own s.carried tag secret))
+tomb_counted actions peer tag secret = of_call host_tomb _ (λ why. counts refl refl refl) (λ s. met s tag secret (meets s.own s.carried tag secret))
 
 pub opened_counted : (replies actions : ℕ) (peer : ContactId) (tag secret : List ℕ) (expiry : ℕ) → Counts host_tomb (opened replies actions peer tag secret expiry)
 unfolding perform report_opened
-opened_counted replies actions peer tag secret expiry = of_call host_tomb (opened replies actions peer tag secret expiry) (λ why. counts refl refl refl) (λ s. counts refl refl refl)
+opened_counted replies actions peer tag secret expiry = of_call host_tomb _ (λ why. counts refl refl refl) (λ s. counts refl refl refl)
 
 pub failed_counted : (peer : ContactId) (tag : List ℕ) → Counts host_tomb (failed peer tag)
 unfolding perform report_failed
-failed_counted peer tag = of_call host_tomb (failed peer tag) (λ why. counts refl refl refl) (λ s. counts refl refl refl)
+failed_counted peer tag = of_call host_tomb _ (λ why. counts refl refl refl) (λ s. counts refl refl refl)
 
-pub stored_counted : (actions : ℕ) (tag secret : List ℕ) (expiry : ℕ) → Counts host_stored (stored_tombstone actions tag secret expiry)
+pub stored_counted : (actions : ℕ) (tag secret : List ℕ) (expiry : ℕ) → Counts host_acted (stored_tombstone actions tag secret expiry)
 unfolding perform stored
-stored_counted actions tag secret expiry = of_call host_stored (stored_tombstone actions tag secret expiry) (λ why. counts refl refl refl) (λ s. counts refl refl refl)
+stored_counted actions tag secret expiry = of_call host_acted _ (λ why. counts refl refl refl) (λ s. counts refl refl refl)
 
 pub own_counted : (id : ContactId) (msgno : ℕ) (key : List ℕ) (dir : Dir) (generation idx : ℕ) (secret ct : List ℕ) → Counts host_own (add_own id msgno key dir generation idx secret ct)
 unfolding perform own_envelope make_own
-own_counted id msgno key dir generation idx secret ct = of_call host_own (add_own id msgno key dir generation idx secret ct) (λ why. counts refl refl refl) (λ s. by_test (CountedBy host_own) (none_made s.own (length ct)) (counts refl refl refl) (counts refl refl refl))
+own_counted id msgno key dir generation idx secret ct = of_call host_own _ (λ why. counts refl refl refl) (λ s. by_test (CountedBy host_own) (none_made s.own (length ct)) (counts refl refl refl) (counts refl refl refl))
 
-pub maintenance_counted : (actions : ℕ) → Counts host_maintained (maintenance actions)
+pub maintenance_counted : (actions : ℕ) → Counts host_acted (maintenance actions)
 unfolding perform maintain_couriers
-maintenance_counted actions = of_call host_maintained (maintenance actions) (λ why. counts refl refl refl) (λ s. counts refl refl refl)
+maintenance_counted actions = of_call host_acted _ (λ why. counts refl refl refl) (λ s. counts refl refl refl)
 
 pub listed_counted : (prefixes : ℕ) (peer : ContactId) → Counts host_listed (inventory_of_ours prefixes peer)
 unfolding perform list_inventory
-listed_counted prefixes peer = of_call host_listed (inventory_of_ours prefixes peer) (λ why. counts refl refl refl) (λ s. counts refl refl refl)
+listed_counted prefixes peer = of_call host_listed _ (λ why. counts refl refl refl) (λ s. counts refl refl refl)
 
 pub blob_counted : (area slot : ℕ) → Counts host_blob (row_blob area slot)
 unfolding perform row_blob_of
-blob_counted area slot = of_call host_blob (row_blob area slot) (λ why. counts refl refl refl) (λ s. by_found (CountedBy host_blob) (find (λ (h : Slotted). eqb h.slot slot) (held_rows s)) (λ h. counts refl refl refl) (counts refl refl refl))
+blob_counted area slot = of_call host_blob _ (λ why. counts refl refl refl) (λ s. by_found (CountedBy host_blob) (find (λ (h : Slotted). eqb h.slot slot) (held_rows s)) (λ h. counts refl refl refl) (counts refl refl refl))
 
-pub save_counted : (file : ℕ) → Counts host_save (save file)
+pub save_counted : (file : ℕ) → Counts host_wrote (save file)
 unfolding perform save_held
-save_counted file = of_call host_save (save file) (λ why. counts refl refl refl) (λ s. counts refl refl refl)
+save_counted file = of_call host_wrote _ (λ why. counts refl refl refl) (λ s. counts refl refl refl)
 
-pub page_counted : (area number : ℕ) → Counts host_page (page area number)
+pub page_counted : (area number : ℕ) → Counts host_wrote (page area number)
 unfolding perform show_page
-page_counted area number = of_call host_page (page area number) (λ why. counts refl refl refl) (λ s. counts refl refl refl)
+page_counted area number = of_call host_wrote _ (λ why. counts refl refl refl) (λ s. counts refl refl refl)
 
-pub load_counted : (file : List ℕ) (s : State) → CountedBy host_load (load_step s file)
+pub load_counted : (file : List ℕ) (s : State) → CountedBy host_done (load_step s file)
 unfolding load_held_rows
 load_counted file s =
-    of_load (CountedBy host_load) s file (λ why. counts refl refl refl) (counts refl refl refl)
+    of_load (CountedBy host_done) s file (λ why. counts refl refl refl) (counts refl refl refl)
 
 -- ---- a count that the code writes down: one reply where a report is done or a fetch finds an envelope, none of a tomb or a failure
 
@@ -195,36 +172,22 @@ Replies n o = tomb_answer n (tomb_says o) ≡ host_tomb o
 
 meeting : (s : State) (tag secret : List ℕ) (m : Met) → Replies 0 (receive_tomb s tag secret m)
 unfolding receive_tomb turn end_own
-meeting s tag secret (carried_at i) = refl
-meeting s tag secret (own_at i) = refl
-meeting s tag secret wrong = refl
-meeting s tag secret unknown = refl
+meeting s tag secret m = grind arith
 
 pub tomb_counts : (actions : ℕ) (peer : ContactId) (tag secret : List ℕ) (s : State) → Replies 0 (step s (tomb actions peer tag secret))
 unfolding step perform
 tomb_counts actions peer tag secret s =
-    of_step (Replies 0) (tests s (tomb actions peer tag secret)) (perform s (tomb actions peer tag secret)) (λ why. refl)
+    of_step (Replies 0) _ _ (λ why. refl)
     (meeting s tag secret (meets s.own s.carried tag secret))
 
 pub opened_counts : (replies actions : ℕ) (peer : ContactId) (tag secret : List ℕ) (expiry : ℕ) (s : State) → Replies 1 (step s (opened replies actions peer tag secret expiry))
 unfolding step perform report_opened
 opened_counts replies actions peer tag secret expiry s =
-    of_step (Replies 1) (tests s (opened replies actions peer tag secret expiry)) (perform s (opened replies actions peer tag secret expiry)) (λ why. refl) refl
+    of_step (Replies 1) _ _ (λ why. refl) refl
 
 pub failed_counts : (peer : ContactId) (tag : List ℕ) (s : State) → Replies 0 (step s (failed peer tag))
 unfolding step perform report_failed
-failed_counts peer tag s = of_step (Replies 0) (tests s (failed peer tag)) (perform s (failed peer tag)) (λ why. refl) refl
-
--- a fetch of no reply, by the two tests on its number
-no_reply_lem : (a b : Bool) (n : ℕ) (o : Result) → 0 ≡ length o.replies → 0 ≡ length o.actions → Length (told_at 0 o) o.answer 0 → Counted (cond a (answered 0 0 0 0) (cond b (answered 130 0 0 0) (answered n 0 0 0))) o
-no_reply_lem true b n o p q l = counts p q l
-no_reply_lem false true n o p q l = counts p q l
-no_reply_lem false false n o p q l = counts p q l
-
--- a fetch that is refused: its number is not 0, and the count is not looked at
-unread : (n : ℕ) → is_other n ≡ false → (k l len : ℕ) → fetch_answer k n len ≡ fetch_answer l n len
-unread zero e k l len = absurd (false≢true (sym e))
-unread (suc n) e k l len = rw (eqb-suc-zero n)
+failed_counts peer tag s = of_step (Replies 0) _ _ (λ why. refl) refl
 
 module _ (own carried : List ℕ) where
   abbrev Fetches : Result → Type 0
@@ -236,16 +199,15 @@ module _ (own carried : List ℕ) where
   pub fetch_counted : (replies : ℕ) (peer : ContactId) (tag : List ℕ) → Counts host_fetch (fetch replies peer tag)
   unfolding perform receive_fetch fetched
   fetch_counted replies peer tag =
-      of_call host_fetch (fetch replies peer tag) (λ why. no_reply_lem (eqb (refusal_number why) 0) (eqb (refusal_number why) 255) (refusal_number why) (only (refused why)) refl refl refl)
+      of_call host_fetch _ (λ why. counts (grind arith) (grind arith) (grind arith))
       (λ s. by_found (CountedBy host_fetch) (find (envelope_of_tag tag) (envelopes s.own s.carried peer)) (λ e. counts refl refl tt) (counts refl refl refl))
 
   finding : (s : State) (f : Option Envelope) → Fetches (match_some f (fetched s) (only missing))
   unfolding fetched
-  finding s (Some e) = refl
-  finding s None = refl
+  finding s f = grind arith
 
   pub fetch_counts : (replies : ℕ) (peer : ContactId) (tag : List ℕ) (s : State) → Fetches (step s (fetch replies peer tag))
   unfolding step perform receive_fetch
   fetch_counts replies peer tag s =
-      of_step Fetches (tests s (fetch replies peer tag)) (perform s (fetch replies peer tag)) (λ why. unread (refusal_number why) (numbered why) 1 0 0)
+      of_step Fetches _ _ (λ why. grind arith)
       (finding s (find (envelope_of_tag tag) (envelopes s.own s.carried peer)))

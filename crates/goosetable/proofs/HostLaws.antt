@@ -1,7 +1,6 @@
 -- From what a call does by value to what it does on small areas, whatever they are.
 -- Assumes nothing.
-use Rattle.std.proofs.Common.{◌≡◌, ℕ, zero, suc, ◌<◌, ◌≤◌, Bool, true, false, cond, eqb, List, sym, refl, ap, ◌∙◌, subst, ap₂, arith, ne_eqb, Some, None}
-use Rattle.wire.specs.Log.{enabled_of}
+use Rattle.std.proofs.Common.{◌≡◌, ℕ, List, sym, refl, ap, ◌∙◌, subst}
 use Rattle.model.specs.State.{State}
 use Rattle.model.specs.Calls.{Result}
 use Rattle.model.specs.Areas.{Areas, AnswerAreas, Written, view}
@@ -60,15 +59,3 @@ module _ {A B : Type 0} {host : B → Answer} (f : A → B) {says : Result → A
         hosts both_kept f tells answers same counts held_by p
         (λ g i. (one.stays (sym one.holds ∙ ap (λ (s : Device × Exchange). s.0) g) i, put.stays (sym put.holds ∙ ap (λ (s : Device × Exchange). s.1) g) i)) r-is (λ i. (dev-is i, ex-is i))
         (λ i. (one.bytes i, put.bytes i)) (λ i. (one.holds i, put.holds i)) w
-
--- the byte for enabled
-pub enabled_wrong : (b : ℕ) → 1 < b → enabled_of b ≡ None
-unfolding enabled_of
-enabled_wrong b h =
-    ap₂ (λ (z o : Bool). cond z (Some false) (cond o (Some true) None)) (ne_eqb b 0 (λ e. omega (arith, e, h))) (ne_eqb b 1 (λ e. omega (arith, e, h)))
-
-pub enabled_right : (b : ℕ) → b ≤ 1 → enabled_of b ≡ Some (eqb b 1)
-unfolding enabled_of
-enabled_right zero h = refl
-enabled_right (suc zero) h = refl
-enabled_right (suc (suc n)) h = absurd (omega (arith, h))

@@ -1,9 +1,8 @@
 -- What else leaves every byte: "Malformed .. leaves everything unchanged", of the two calls that say it beside a failure; and a window call that is refused.
 -- Assumes nothing.
-use Rattle.std.proofs.Common.{◌≡◌, ℕ, ◌≤◌, Bool, true, false, cond, eqb, List, [], ◌∷◌, length, sym, refl, ap, ◌∙◌, arith}
-use mathlib.Core.Bool.{false≢true}
+use Rattle.std.proofs.Common.{◌≡◌, ℕ, ◌≤◌, Bool, true, false, eqb, List, [], ◌∷◌, length, sym, refl, ap, ◌∙◌, arith}
 use Rattle.octets.specs.Bytes.{Bytes}
-use Rattle.courier_core.specs.Core.{first_of, refusal_number}
+use Rattle.courier_core.specs.Core.{first_of}
 use Rattle.courier_core.specs.declared.ContactId.{ContactId}
 use Rattle.courier_core.specs.declared.Refusal.{Refusal}
 use Rattle.rows.specs.declared.Device.{Device}
@@ -12,10 +11,10 @@ use Rattle.chain.specs.Chain.{window, window_tests, window_says, window_area}
 use Rattle.std.specs.Prelude.{Ok, Err}
 use Rattle.model.specs.State.{State}
 use Rattle.model.specs.Calls.{Result, tomb, inventory_received, malformed, only}
-use Rattle.model.specs.Window.{window_rows, prefix_rows}
+use Rattle.model.specs.Window.{prefix_rows}
 use Rattle.model.specs.Exchange.{too_many, answer_inventory, list_more, receive_inventory}
-use Rattle.model.specs.Tombs.{Met, carried_at, own_at, wrong, unknown, meets, turn, end_own, receive_tomb}
-use Rattle.model.specs.Step.{tests, perform, step}
+use Rattle.model.specs.Tombs.{Met, meets, turn, end_own, receive_tomb}
+use Rattle.model.specs.Step.{perform, step}
 use Rattle.model.specs.Areas.{Areas, AnswerAreas, view}
 use Rattle.model.proofs.RefusalLaws.{of_step, by_test}
 use Rattle.inventory.specs.Inventory.{received_says}
@@ -25,30 +24,24 @@ use Rattle.boundary.proofs.AreaLaws.{device_stays, exchange_stays}
 use Rattle.host_answers.specs.HostAnswers.{tomb_answer, inventory_answer, wrote_answer}
 use Rattle.host_answers.specs.declared.Answer.{Answer}
 use Rattle.goosetable.specs.Hosts.{LeavesAll, HostsCall}
-use Rattle.goosetable.proofs.StayLaws.{is_other, numbered, Places, held_by, leaves_all}
+use Rattle.goosetable.proofs.StayLaws.{Places, held_by, leaves_all}
 
 -- ---- 128 is said of a result that only says so
 
 abbrev Malformed : (Result → Answer) → Result → Type 0
 Malformed says o = (says o).said ≡ 128 → o ≡ only malformed
 
-no_number : {A : Type 0} (why : Refusal) → refusal_number why ≡ 128 → A
-no_number why e = absurd (false≢true (sym (numbered why) ∙ ap is_other e))
-
 abbrev tomb_replies : Result → Answer
 tomb_replies o = tomb_answer (length o.replies) (tomb_says o)
 
 meeting : (s : State) (tag secret : List ℕ) (m : Met) → Malformed tomb_replies (receive_tomb s tag secret m)
 unfolding receive_tomb turn end_own
-meeting s tag secret (carried_at i) e = absurd (omega (arith, e))
-meeting s tag secret (own_at i) e = absurd (omega (arith, e))
-meeting s tag secret wrong e = refl
-meeting s tag secret unknown e = absurd (omega (arith, e))
+meeting s tag secret m = grind arith
 
 tomb_malformed : (actions : ℕ) (peer : ContactId) (tag secret : List ℕ) (s : State) → Malformed tomb_replies (step s (tomb actions peer tag secret))
 unfolding step perform
 tomb_malformed actions peer tag secret s =
-    of_step (Malformed tomb_replies) (tests s (tomb actions peer tag secret)) (perform s (tomb actions peer tag secret)) (λ why e. no_number why e)
+    of_step (Malformed tomb_replies) _ _ (λ why. grind arith)
     (meeting s tag secret (meets s.own s.carried tag secret))
 
 abbrev inventory_replies : Result → Answer
@@ -57,11 +50,9 @@ inventory_replies o = inventory_answer (received_says o)
 inventory_malformed : (replies : ℕ) (area : List ℕ) (peer : ContactId) (listed : List ℕ) (s : State) → Malformed inventory_replies (step s (inventory_received replies area peer listed))
 unfolding step perform receive_inventory answer_inventory list_more
 inventory_malformed replies area peer listed s =
-    of_step (Malformed inventory_replies) (tests s (inventory_received replies area peer listed)) (perform s (inventory_received replies area peer listed)) (λ why e. no_number why e)
-    (by_test (Malformed inventory_replies) (too_many s.session.exchange (length (prefix_rows listed))) {x = only malformed}
-    {y = cond (eqb (length (prefix_rows listed)) 0) (answer_inventory s (window_rows area) peer) (list_more s.session.exchange (prefix_rows listed))} (λ e. refl)
-    (by_test (Malformed inventory_replies) (eqb (length (prefix_rows listed)) 0) {x = answer_inventory s (window_rows area) peer}
-    {y = list_more s.session.exchange (prefix_rows listed)} (λ e. absurd (omega (arith, e))) (λ e. absurd (omega (arith, e)))))
+    of_step (Malformed inventory_replies) _ _ (λ why. grind arith)
+    (by_test (Malformed inventory_replies) (too_many s.session.exchange (length (prefix_rows listed))) (λ e. refl)
+    (by_test (Malformed inventory_replies) (eqb (length (prefix_rows listed)) 0) (λ e. absurd (omega (arith, e))) (λ e. absurd (omega (arith, e)))))
 
 -- ---- on areas
 

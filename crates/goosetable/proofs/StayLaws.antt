@@ -1,11 +1,10 @@
 -- What a refused call leaves: "Nothing changes on a refusal", from the number that the host gets alone.
 -- Assumes nothing.
-use Rattle.std.proofs.Common.{◌≡◌, ℕ, Bool, true, false, not, ◌&&◌, leb, List, [], sym, refl, ap, ◌∙◌, subst, ap₂, le-leb}
+use Rattle.std.proofs.Common.{◌≡◌, ℕ, Bool, true, false, not, ◌&&◌, leb, List, [], sym, refl, ap, ◌∙◌, subst, ap₂, le-leb, rules, arith}
 use mathlib.Core.Bool.{false≢true}
 use Rattle.courier_core.specs.declared.ContactId.{ContactId}
 use Rattle.courier_core.specs.Core.{refusal_number}
 use Rattle.courier_core.specs.declared.Refusal.{Refusal}
-use Rattle.courier_core.specs.declared.Refusal.TheVariants as refusal
 use Rattle.rows.specs.declared.Device.{Device}
 use Rattle.rows.specs.declared.Exchange.{Exchange}
 use Rattle.rows.specs.declared.Own.{Own}
@@ -35,19 +34,7 @@ abbrev pub is_other : ℕ → Bool
 is_other n = not (leb 1 n && leb n 127)
 
 pub numbered : (why : Refusal) → is_other (refusal_number why) ≡ false
-numbered refusal.ShortArea = refl
-numbered refusal.UnknownContact = refl
-numbered refusal.WrongExchange = refl
-numbered refusal.NoCell = refl
-numbered refusal.NoTombstoneRow = refl
-numbered refusal.NoSlot = refl
-numbered refusal.Configuration = refl
-numbered refusal.SavedFile = refl
-numbered refusal.NoBadTagRow = refl
-numbered refusal.MessageNumberTaken = refl
-numbered refusal.OwnLength = refl
-numbered refusal.WindowRows = refl
-numbered refusal.LogRecord = refl
+numbered why = grind arith
 
 -- what a call says, by the number alone, tells a refusal from everything else
 abbrev pub Tells : {A : Type 0} → (A → HostAnswer) → (Result → A) → Type 0
@@ -56,26 +43,33 @@ Tells host says = (o : Result) → RefusalNumber (host (says o)).said → Refuse
 other : {A : Type 0} (n : ℕ) → is_other n ≡ true → RefusalNumber n → A
 other n e h = absurd (false≢true (ap₂ (λ (a b : Bool). not (a && b)) (sym (le-leb 1 n h.0)) (sym (le-leb n 127 h.1)) ∙ e))
 
--- by the model's answers: f is what is said of each
-pub by_answers : (f : Answer → HostAnswer) → is_other (f Calls.malformed).said ≡ true → is_other (f Calls.done).said ≡ true
-    → ((c : ContactId) (g i : ℕ) → is_other (f (Calls.ours c g i)).said ≡ true) → ((c : Cells) (p l : ℕ) → is_other (f (Calls.found c p l)).said ≡ true)
-    → is_other (f Calls.missing).said ≡ true → ((r : Own) → is_other (f (Calls.own_row r)).said ≡ true) → is_other (f Calls.no_envelope).said ≡ true
-    → ((n : ℕ) → is_other (f (Calls.wrote n)).said ≡ true) → (a : Answer) → RefusalNumber (f a).said → Refuses a
-by_answers f m d o g n r e w (refused why) h = record { why = why; is = refl }
-by_answers f m d o g n r e w Calls.malformed h = other (f Calls.malformed).said m h
-by_answers f m d o g n r e w Calls.done h = other (f Calls.done).said d h
-by_answers f m d o g n r e w (Calls.ours c k i) h = other (f (Calls.ours c k i)).said (o c k i) h
-by_answers f m d o g n r e w (Calls.found c p l) h = other (f (Calls.found c p l)).said (g c p l) h
-by_answers f m d o g n r e w Calls.missing h = other (f Calls.missing).said n h
-by_answers f m d o g n r e w (Calls.own_row x) h = other (f (Calls.own_row x)).said (r x) h
-by_answers f m d o g n r e w Calls.no_envelope h = other (f Calls.no_envelope).said e h
-by_answers f m d o g n r e w (Calls.wrote c) h = other (f (Calls.wrote c)).said (w c) h
+-- what f says of each answer but a refusal has another number
+pub record Others (f : Answer → HostAnswer) : Type 0 where
+  pub malformed : is_other (f Calls.malformed).said ≡ true
+  pub done : is_other (f Calls.done).said ≡ true
+  pub ours : (c : ContactId) (g i : ℕ) → is_other (f (Calls.ours c g i)).said ≡ true
+  pub found : (c : Cells) (p l : ℕ) → is_other (f (Calls.found c p l)).said ≡ true
+  pub missing : is_other (f Calls.missing).said ≡ true
+  pub own_row : (r : Own) → is_other (f (Calls.own_row r)).said ≡ true
+  pub no_envelope : is_other (f Calls.no_envelope).said ≡ true
+  pub wrote : (n : ℕ) → is_other (f (Calls.wrote n)).said ≡ true
+
+pub by_answers : (f : Answer → HostAnswer) → Others f → (a : Answer) → RefusalNumber (f a).said → Refuses a
+by_answers f o (refused why) h = record { why = why; is = refl }
+by_answers f o Calls.malformed h = other (f Calls.malformed).said o.malformed h
+by_answers f o Calls.done h = other (f Calls.done).said o.done h
+by_answers f o (Calls.ours c g i) h = other (f (Calls.ours c g i)).said (o.ours c g i) h
+by_answers f o (Calls.found c p l) h = other (f (Calls.found c p l)).said (o.found c p l) h
+by_answers f o Calls.missing h = other (f Calls.missing).said o.missing h
+by_answers f o (Calls.own_row r) h = other (f (Calls.own_row r)).said (o.own_row r) h
+by_answers f o Calls.no_envelope h = other (f Calls.no_envelope).said o.no_envelope h
+by_answers f o (Calls.wrote n) h = other (f (Calls.wrote n)).said (o.wrote n) h
 
 -- the same where all else is said in one way
 pub by_refusal : {B : Type 0} (f : B → HostAnswer) (refusing : Refusal → B) (otherwise : B) → is_other (f otherwise).said ≡ true
     → (a : Answer) → RefusalNumber (f (refused_or refusing otherwise a)).said → Refuses a
 by_refusal f refusing otherwise e =
-    by_answers (λ a. f (refused_or refusing otherwise a)) e e (λ c g i. e) (λ c p l. e) e (λ r. e) e (λ n. e)
+    by_answers (λ a. f (refused_or refusing otherwise a)) (search rules)
 
 -- ---- nothing changes
 

@@ -1,7 +1,7 @@
 // The calls as a host of another language links them: numbers, and areas by pointer and length. The device and an exchange lie in
 // small areas of their own (crate boundary); a table of fixed size is a pointer alone. No two areas may overlap, but for ones that are only read.
-// C lends each area and each value by a parameter of its own, and that stays as it is: so envelope, fetch, own envelope, inventory, custody
-// code, tomb and opened have eight parameters and more, one a line.
+// (C lends each area and each value by a parameter of its own: so envelope, fetch, own envelope, inventory, custody code, tomb and opened have
+// eight parameters and more, one a line. The areas' sizes are numbers, which include/check compares with those of the C header.)
 #![tactic(auto)]
 
 ghost use Rattle.std.specs.Prelude.{◌≡◌, [], ◌∷◌, length};
@@ -36,14 +36,15 @@ ghost use Rattle.goosetable.specs.Version.{version};
 use boundary::{device_of, exchange_of, fresh_device, put_device, put_exchange};
 use chain::Dir;
 use courier::{Custody, Header};
-use courier_core::{ContactId, Verification};
+use courier_core::{ContactId, Refusal, Verification};
 use host_answers::{
-    Answer, DONE, Row, acted_answer, answer_of, blob_answer, done_answer, envelope_answer,
-    fetch_answer, inventory_answer, own_answer, own_row, row_of, tomb_answer, wrote_answer,
+    Answer, Row, acted_answer, blob_answer, done_answer, envelope_answer, fetch_answer,
+    inventory_answer, own_answer, own_row, refused, tomb_answer, wrote_answer,
 };
+use wire::enabled_of;
 
-// A call reads the device, works on it and puts it back. One function for that, with the call as a closure, gets no proof: its caller is
-// told nothing of what a closure left in the areas that it borrowed.
+// (A call reads the device, works on it and puts it back. One function for that, with the call as a closure, was tried and gets no proof: its
+// caller is told nothing of what the closure left in the areas that it borrowed beside the device.)
 
 // 0.2.3 as a number: major * 10,000 + minor * 100 + patch.
 const VERSION: u32 = 203;
@@ -68,7 +69,7 @@ pub extern "C" fn goosetable_clock(device: &mut [u8; 60], seconds: u64) -> Answe
     done_answer(Ok(()))
 }
 
-// Enabled other than 0 and 1 is refused with 13.
+// Enabled other than 0 and 1 is refused with `LogRecord`.
 #[unsafe(no_mangle)]
 pub extern "C" fn goosetable_setting(
     device: &mut [u8; 60],
@@ -78,16 +79,16 @@ pub extern "C" fn goosetable_setting(
 ) -> Answer
     ensures { OnRead (enabled_of enabled) (λ on. HostsCall device_kept (λ o. done_answer (said_of o)) (setting_call on copies lifetime) result device.old device.new device_in device_in no_answers no_answers) (Stays 13 result (device.old ∷ []) (device.new ∷ [])) }
 {
-    if 1 < enabled {
-        return answer_of(13, 0, 0, 0);
-    }
+    let Some(on) = enabled_of(enabled) else {
+        return refused(Refusal::LogRecord);
+    };
     let mut d = device_of(device);
-    let said = contacts::setting(&mut d, enabled == 1, copies, lifetime);
+    let said = contacts::setting(&mut d, on, copies, lifetime);
     put_device(device, d);
     done_answer(said)
 }
 
-// A verification above 2 is refused with 13.
+// A verification above 2 is refused with `LogRecord`.
 #[unsafe(no_mangle)]
 pub extern "C" fn goosetable_contact(
     device: &mut [u8; 60],
@@ -100,7 +101,7 @@ pub extern "C" fn goosetable_contact(
         (Stays 13 result (device.old ∷ contacts.old ∷ []) (device.new ∷ contacts.new ∷ [])) }
 {
     let Some(v) = Verification::from_byte(verification) else {
-        return answer_of(13, 0, 0, 0);
+        return refused(Refusal::LogRecord);
     };
     let mut d = device_of(device);
     let said = contacts::contact(&mut d, ContactId(id), v, contacts);
@@ -124,7 +125,7 @@ pub extern "C" fn goosetable_fresh_exchange(
 {
     let d = device_of(device);
     let mut e = exchange_of(exchange);
-    let said = exchange::fresh_exchange(&mut e, d, ContactId(peer), contacts, prefixes, offers);
+    let said = contacts::fresh_exchange(&mut e, d, ContactId(peer), contacts, prefixes, offers);
     put_exchange(exchange, e);
     done_answer(said)
 }
@@ -213,7 +214,7 @@ pub extern "C" fn goosetable_fetch<'c>(
     fetch_answer(fetched, 1)
 }
 
-// A direction other than `I` and `R` is refused with 12. The row is written where there is one.
+// A direction other than `I` and `R` is refused with `WindowRows`. The row is written where there is one.
 #[unsafe(no_mangle)]
 pub extern "C" fn goosetable_own_envelope(
     device: &mut [u8; 60],
@@ -237,7 +238,7 @@ pub extern "C" fn goosetable_own_envelope(
         (Stays 12 result (device.old ∷ own.old ∷ own_cells.old ∷ row.old ∷ []) (device.new ∷ own.new ∷ own_cells.new ∷ row.new ∷ [])) }
 {
     let Some(way) = Dir::from_label(dir) else {
-        return answer_of(12, 0, 0, 0);
+        return refused(Refusal::WindowRows); // neither `I` nor `R`
     };
     let mut d = device_of(device);
     let made = own_envelope::own_envelope(
@@ -303,7 +304,7 @@ pub extern "C" fn goosetable_inventory(
 {
     let d = device_of(device);
     let mut e = exchange_of(exchange);
-    let said = exchange::receive_inventory(
+    let said = inventory::receive_inventory(
         &mut e,
         d,
         ContactId(peer),
@@ -322,7 +323,7 @@ pub extern "C" fn goosetable_inventory(
     inventory_answer(said)
 }
 
-// The custody code that a peer answers an offer with; one above 4 is refused with 13.
+// The custody code that a peer answers an offer with; one above 4 is refused with `LogRecord`.
 #[unsafe(no_mangle)]
 pub extern "C" fn goosetable_custody_code(
     device: &mut [u8; 60],
@@ -347,11 +348,11 @@ pub extern "C" fn goosetable_custody_code(
         (device.new ∷ exchange.new ∷ own.new ∷ carried.new ∷ offers.new ∷ actions.new ∷ [])) }
 {
     let Some(k) = Custody::from_code(code) else {
-        return answer_of(13, 0, 0, 0);
+        return refused(Refusal::LogRecord);
     };
     let mut d = device_of(device);
     let mut e = exchange_of(exchange);
-    let said = exchange::handed_over(
+    let said = handover::handed_over(
         &mut e,
         &mut d,
         ContactId(peer),
@@ -578,7 +579,7 @@ pub extern "C" fn goosetable_window(skipped: &[u8], chains: &[u8], answer: &mut 
     wrote_answer(chain::window(skipped, chains, answer))
 }
 
-// The tag of a message key, under the contact's route key. A direction other than `I` and `R` is refused with 12.
+// The tag of a message key, under the contact's route key. A direction other than `I` and `R` is refused with `WindowRows`.
 #[unsafe(no_mangle)]
 pub extern "C" fn goosetable_route_tag(
     route_key: &[u8; 32],
@@ -590,13 +591,11 @@ pub extern "C" fn goosetable_route_tag(
     ensures { OnRead (dir_of dir) (λ way. Fills (route_tag route_key.now way generation idx) result tag.new)
         (Stays 12 result (tag.old ∷ []) (tag.new ∷ [])) }
 {
-    match Dir::from_label(dir) {
-        Some(way) => {
-            *tag = courier::route_tag(*route_key, way, generation, idx);
-            answer_of(DONE, 0, 0, 0)
-        }
-        None => answer_of(12, 0, 0, 0),
-    }
+    let Some(way) = Dir::from_label(dir) else {
+        return refused(Refusal::WindowRows);
+    };
+    *tag = courier::route_tag(*route_key, way, generation, idx);
+    done_answer(Ok(()))
 }
 
 // The secret of a message key (not the route key), which proves that its envelope was delivered.
@@ -607,7 +606,7 @@ pub extern "C" fn goosetable_delivered(message_key: &[u8; 32], s: &mut [u8; 16])
     *s = courier::delivered(*message_key);
 }
 
-// The commitment that a secret opens. (As the function above, of 16 bytes in place of 32: C has a name for each.)
+// The commitment that a secret opens. (Of the form of the function above; what is computed is another, and C has a name for each.)
 #[unsafe(no_mangle)]
 pub extern "C" fn goosetable_commitment(s: &[u8; 16], c: &mut [u8; 16])
     ensures { c.new ≡ commitment_of s.now }
@@ -620,7 +619,7 @@ pub extern "C" fn goosetable_commitment(s: &[u8; 16], c: &mut [u8; 16])
 pub extern "C" fn goosetable_row_read(blob: &[u8]) -> Row
     ensures { result ≡ row_of (held_read (held_decode blob.now)) }
 {
-    row_of(state::decode(blob))
+    state::decode(blob).into()
 }
 
 // ---- the version

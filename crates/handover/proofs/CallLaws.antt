@@ -29,10 +29,10 @@ use Rattle.model.specs.Custody.{own_of_tag, carried_of_tag, is_accepted}
 use Rattle.model.specs.Exchange.{offer_of_tag, no_offer, handed_over, handed_actions, custody_tests, settle, receive_custody}
 use Rattle.model.specs.Step.{tests, perform, step}
 use Rattle.model.specs.Areas.{Areas, Written, view, view_session, store, store_device, store_session, bytes_after}
-use Rattle.model.specs.Lent.{contacts_in, tombstones_in, actions_lent}
+use Rattle.model.specs.Lent.{device_in, contacts_in, own_in, carried_in, tombstones_in, exchange_in, actions_lent}
 use Rattle.model.proofs.CallLaws.{refused_here, not_here, no_test, answering_call, quiet_call, refused_call}
 use Rattle.tombs.proofs.WriteLaws.{acted}
-use Rattle.handover.specs.Handing.{HandedAs, exchange_with, says, settle_lent, code_lent, Settles}
+use Rattle.handover.specs.Handing.{HandedAs, exchange_with, Cleared, says, code_lent}
 use Rattle.handover.proofs.HandLaws.{change_by}
 
 -- ---- what the code compares
@@ -59,10 +59,22 @@ other_peer eq peer same to e h = sym (same_peer eq peer same to) ∙ not_back _ 
 
 -- ---- an offer that is settled
 
-module _ (i : ℕ) (tag : List ℕ) (code : Custody) (d : Device) (e : Exchange) (own carried offers ac : List ℕ) (inside : i < held (length offers) 17 (min 512 e.offered))
-    (prefixes : List ℕ) (a : Areas) where
+-- the offer at i is read, and then taken out
+pub clears : (i : ℕ) (e : Exchange) (offers : List ℕ) → i < held (length offers) 17 (min 512 e.offered) → {o : Offer} {m : ℕ} {f : Exchange} {w : List ℕ}
+    → o ≡ offer_of (part offers (i * 17) 17) → f ≡ exchange_with m e
+    → TableNow offer_codec offers (remove_at i (table_of offer_codec (min 512 e.offered) offers)) m w → Cleared i e offers o.copies f w
+clears i e offers inside eo ef N = record {
+  copies = ap (λ (o : Offer). o.copies) (eo ∙ sym (get_d_table offer_codec (min 512 e.offered) offers i no_offer inside));
+  exchange = ef ∙ ap (λ (k : ℕ). exchange_with k e) N.count;
+  table = N.area;
+}
+
+module _ (i : ℕ) (tag : List ℕ) (code : Custody) (d : Device) (e : Exchange) (own carried offers ac prefixes : List ℕ) (a : Areas) where
+  abbrev with : Device → Exchange → (own' carried' offers' : List ℕ) → Areas
+  with d' e' own' carried' offers' = device_in d' (own_in own' (carried_in carried' (exchange_in e' prefixes offers' a)))
+
   abbrev S : Areas
-  S = settle_lent d e own carried prefixes offers a
+  S = with d e own carried offers
 
   abbrev To : List Own
   To = table_of own_codec d.own own
@@ -76,43 +88,41 @@ module _ (i : ℕ) (tag : List ℕ) (code : Custody) (d : Device) (e : Exchange)
   abbrev settled : Bool → ℕ → Outcome
   settled b n = result done [] (cond b (handed_actions To Tc tag) []) (offered_now left and cond b (handed_over To Tc tag n) nothing)
 
-  settled_by : {b : Bool} {o : Offer} → b ≡ is_accepted code → o ≡ offer_of (part offers (i * 17) 17) → settle (view S) tag code i ≡ settled b o.copies
-  unfolding view view_session settle
-  settled_by eb eo =
-      λ j. settled (sym eb j) ((get_d_table offer_codec (min 512 e.offered) offers i no_offer inside ∙ sym eo) j).copies
-
   abbrev Settled : Result ℕ Refusal → Device → Exchange → (own' carried' offers' ac' : List ℕ) → Type 0
   Settled r d' e' own' carried' offers' ac' =
-      Written says (settle (view S) tag code i) r S (settle_lent d' e' own' carried' prefixes offers' a) (actions_lent ac) (actions_lent ac')
+      Written says (settle (view S) tag code i) r S (with d' e' own' carried' offers') (actions_lent ac) (actions_lent ac')
 
-  module _ {b : Bool} {o : Offer} {m : ℕ} {w : List ℕ} {f : Exchange} (eb : b ≡ is_accepted code) (eo : o ≡ offer_of (part offers (i * 17) 17))
-      (N : TableNow offer_codec offers left m w) (ef : f ≡ exchange_with m e) where
+  module _ {n : ℕ} {f : Exchange} {w : List ℕ} (C : Cleared i e offers n f w) where
+    settled_by : {b : Bool} → is_accepted code ≡ b → settle (view S) tag code i ≡ settled b n
+    unfolding view view_session settle
+    settled_by eb = λ j. settled (eb j) (sym C.copies j)
+
     lent_after : (d' : Device) (own' carried' : List ℕ)
-        → settle_lent d' f own' carried' prefixes w a ≡ settle_lent d' (exchange_with (length left) e) own' carried' prefixes (with_table offer_codec offers left) a
-    lent_after d' own' carried' = λ j. settle_lent d' ((ef ∙ ap (λ (k : ℕ). exchange_with k e) N.count) j) own' carried' prefixes (N.area j) a
+        → with d' f own' carried' w ≡ with d' (exchange_with (length left) e) own' carried' (with_table offer_codec offers left)
+    lent_after d' own' carried' = λ j. with d' (C.exchange j) own' carried' (C.table j)
 
-    pub not_accepted : b ≡ false → Settled (Ok 0) d f own carried w ac
+    pub not_accepted : is_accepted code ≡ false → Settled (Ok 0) d f own carried w ac
     unfolding store store_device store_session
-    not_accepted h = quiet_call done (offered_now left) (settled_by eb eo ∙ ap (λ (x : Bool). settled x o.copies) h) refl (lent_after d own carried)
+    not_accepted h = quiet_call done (offered_now left) (settled_by h) refl (lent_after d own carried)
 
     -- what is handed over, by the places of the two rows
     abbrev by : Option ℕ → Option ℕ → Change
-    by = change_by d tag o.copies own carried ac
+    by = change_by d tag n own carried ac
 
     stored_by : (p q : Option ℕ)
-        → settle_lent (store_device d (by p q)) (exchange_with (length left) e) (bytes_after own_codec own (by p q).own) (bytes_after carried_codec carried (by p q).carried) prefixes
-        (with_table offer_codec offers left) a ≡ store S (offered_now left and by p q)
+        → with (store_device d (by p q)) (exchange_with (length left) e) (bytes_after own_codec own (by p q).own) (bytes_after carried_codec carried (by p q).carried)
+        (with_table offer_codec offers left) ≡ store S (offered_now left and by p q)
     unfolding store store_device store_session
     stored_by (Some i) q = refl
     stored_by None (Some i) = refl
     stored_by None None = refl
 
-    pub accepted : b ≡ true → {r : Device} {k : ℕ} {x y z : List ℕ} → HandedAs d tag o.copies own carried ac r k x y z → Settled (Ok k) r f x y w z
+    pub accepted : is_accepted code ≡ true → {r : Device} {k : ℕ} {x y z : List ℕ} → HandedAs d tag n own carried ac r k x y z → Settled (Ok k) r f x y w z
     unfolding handed_over
     accepted h {r} {x = x} {y} H =
-        answering_call (settled true o.copies) (settled_by eb eo ∙ ap (λ (t : Bool). settled t o.copies) h) (ap Ok H.count)
+        answering_call (settled true n) (settled_by h) (ap Ok H.count)
         (lent_after r x y
-        ∙ (λ j. settle_lent (H.device j) (exchange_with (length left) e) (H.owned j) (H.held j) prefixes (with_table offer_codec offers left) a)
+        ∙ (λ j. with (H.device j) (exchange_with (length left) e) (H.owned j) (H.held j) (with_table offer_codec offers left))
         ∙ stored_by (position (carried_of_tag tag) Tc) (position (own_of_tag tag) To))
         (acted done _ _ ac _ H.actions)
 
@@ -162,10 +172,11 @@ module _ (d : Device) (e : Exchange) (peer : ContactId) (tag : List ℕ) (code :
             not_here _ _ _ long (not_here _ _ _ (ap not k) (not_here _ _ _ (ap not w) (no_test _)))
             ∙ ap (λ (g : Option ℕ). match_found g (settle (view B) tag code) (only done)) (sym q)
 
-        pub code_settled : {i : ℕ} → f ≡ Some i → {r : Result ℕ Refusal} {d' : Device} {e' : Exchange} {own' carried' offers' ac' : List ℕ}
-            → Settles i tag code d e own carried offers ac r d' e' own' carried' offers' ac' → Codes r d' e' own' carried' offers' ac'
-        code_settled h s =
-            let p = met ∙ ap (λ (g : Option ℕ). match_found g (settle (view B) tag code) (only done)) h in rw p (s prefixes (contacts_in contacts (tombstones_in to a)))
+        -- the offer that is found is settled as the model says
+        module _ {i : ℕ} (h : f ≡ Some i) {r : Result ℕ Refusal} {d' : Device} {e' : Exchange} {own' carried' offers' ac' : List ℕ} where
+          pub code_settled : ((x : Areas) → Settled i tag code d e own carried offers ac prefixes x r d' e' own' carried' offers' ac') → Codes r d' e' own' carried' offers' ac'
+          code_settled s =
+              let p = met ∙ ap (λ (g : Option ℕ). match_found g (settle (view B) tag code) (only done)) h in rw p (s (contacts_in contacts (tombstones_in to a)))
 
         pub code_unknown : f ≡ None → Codes (Ok 0) d e own carried offers ac
         unfolding store store_device store_session

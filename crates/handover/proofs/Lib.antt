@@ -1,2 +1,3 @@
 pub mod HandLaws
 pub mod CallLaws
+pub mod LeaveLaws

@@ -1,21 +1,23 @@
 -- What taking copies off a row leaves, what the call answers, and what it is lent.
 -- Assumes nothing.
-use Rattle.std.specs.Prelude.{◌≡◌, ℕ, List, length, slice_index_or, Result, Ok, Err}
+use Rattle.std.specs.Prelude.{◌≡◌, ℕ, ◌-◌, min, List, length, slice_index_or, Result, Ok, Err}
 use Rattle.octets.specs.Bytes.{splice}
 use Rattle.courier_core.specs.declared.Refusal.{Refusal}
-use Rattle.table.specs.Lists.{replace_at}
+use Rattle.table.specs.Lists.{position, remove_at, replace_at}
 use Rattle.table.specs.Codec.{Codec, table_of, with_table, TableNow}
-use Rattle.courier.specs.declared.Custody.{Custody}
 use Rattle.rows.specs.declared.Device.{Device}
 use Rattle.rows.specs.declared.Exchange.{Exchange}
 use Rattle.rows.specs.declared.Own.{Own}
 use Rattle.rows.specs.declared.Carried.{Carried}
 use Rattle.rows.specs.declared.Action.{Action}
-use Rattle.rows.specs.Rows.{own_codec, carried_codec, action_codec, action_bytes}
+use Rattle.rows.specs.Rows.{own_codec, carried_codec, offer_codec, action_codec, action_bytes}
+use Rattle.model.specs.Basics.{match_found}
+use Rattle.model.specs.State.{State}
 use Rattle.model.specs.Calls.{Result as Outcome, put_courier, put_queued}
-use Rattle.model.specs.Exchange.{no_carried, no_own, lowered, own_lowered, handed_over, handed_actions, settle}
-use Rattle.model.specs.Areas.{Areas, Written, view, store_device, bytes_after}
-use Rattle.model.specs.Lent.{refused_or, device_in, contacts_in, own_in, carried_in, tombstones_in, exchange_in, actions_lent}
+use Rattle.model.specs.Exchange.{no_carried, no_own, no_offer, lowered, own_lowered, handed_over, handed_actions, offer_of_tag}
+use Rattle.model.specs.Areas.{Areas, store_device, bytes_after}
+use Rattle.model.specs.Lent.{refused_or, device_in, contacts_in, own_in, carried_in, tombstones_in, exchange_in}
+use Rattle.contacts.specs.Lends.{exchange_of}
 
 -- ---- what is left: a row with fewer copies at i, and its action
 
@@ -53,19 +55,22 @@ pub record HandedAs (d : Device) (tag : List ℕ) (n : ℕ) (own carried ac : Li
 abbrev pub exchange_with : ℕ → Exchange → Exchange
 exchange_with offered e = record e { offered = offered }
 
+-- the offer at i is cleared, with which n copies were handed: the exchange e is now f, and its offers are now those in w
+pub record Cleared (i : ℕ) (e : Exchange) (offers : List ℕ) (n : ℕ) (f : Exchange) (w : List ℕ) : Type 0 where
+  pub copies : n ≡ (slice_index_or (table_of offer_codec (min 512 e.offered) offers) i no_offer).copies
+  pub exchange : f ≡ exchange_with (length (remove_at i (table_of offer_codec (min 512 e.offered) offers))) e
+  pub table : w ≡ with_table offer_codec offers (remove_at i (table_of offer_codec (min 512 e.offered) offers))
+
 -- a refusal, or how many actions are listed
 abbrev pub says : Outcome → Result ℕ Refusal
 says o = refused_or Err (Ok (length o.actions)) o.answer
-
-abbrev pub settle_lent : Device → Exchange → (own carried prefixes offers : List ℕ) → Areas → Areas
-settle_lent d e own carried prefixes offers a = device_in d (own_in own (carried_in carried (exchange_in e prefixes offers a)))
 
 abbrev pub code_lent : Device → Exchange → (contacts own carried tombstones prefixes offers : List ℕ) → Areas → Areas
 code_lent d e contacts own carried tombstones prefixes offers a =
     device_in d (contacts_in contacts (own_in own (carried_in carried (tombstones_in tombstones (exchange_in e prefixes offers a)))))
 
--- the offer at i is settled as the model says, whatever prefixes lie beside it
-abbrev pub Settles : ℕ → List ℕ → Custody → Device → Exchange → (own carried offers ac : List ℕ) → Result ℕ Refusal → Device → Exchange → (own' carried' offers' ac' : List ℕ) → Type 0
-Settles i tag code d e own carried offers ac r d' e' own' carried' offers' ac' =
-    (prefixes : List ℕ) (a : Areas) → Written says (settle (view (settle_lent d e own carried prefixes offers a)) tag code i) r
-    (settle_lent d e own carried prefixes offers a) (settle_lent d' e' own' carried' prefixes offers' a) (actions_lent ac) (actions_lent ac')
+-- what the call leaves that is done, where the exchange e stood and the model's state was s: one offer less, if there is one with the tag
+unfoldable pub code_leaves : (tag : List ℕ) → Exchange → State → Exchange
+code_leaves tag e s =
+    match_found (position (offer_of_tag tag) s.session.exchange.offered)
+    (λ i. exchange_of e.peer e.complete e.listed (length s.session.exchange.offered - 1)) e

@@ -8,30 +8,24 @@ ghost use Rattle.table.specs.Tables.{rows_in};
 ghost use Rattle.rows.specs.Rows.{own_width, carried_width, offer_width, offer_codec};
 ghost use Rattle.model.specs.Calls.{custody_answer};
 ghost use Rattle.model.specs.Exchange.{offer_of_tag};
-ghost use Rattle.model.specs.Lent.{Does, actions_lent};
-ghost use Rattle.handover.specs.Handing.{TakenOffCarried, TakenOffOwn, HandedAs, Settles, says, code_lent};
+ghost use Rattle.model.specs.Lent.{actions_lent};
+ghost use Rattle.contacts.specs.Lends.{Lends};
+ghost use Rattle.handover.specs.Handing.{TakenOffCarried, TakenOffOwn, HandedAs, Cleared, says, code_lent, code_leaves};
 
 use contacts::known;
 use courier::Custody;
 use courier_core::{ContactId, Refusal};
-use rows::{CARRIED_WIDTH, Carried, Device, Exchange, OFFER_WIDTH, OWN_WIDTH, Offer, Own, Row};
+use rows::{
+    CARRIED_AREA, CARRIED_WIDTH, CONTACT_AREA, Carried, Device, Exchange, MAX_OFFERS, OFFER_WIDTH,
+    OWN_AREA, OWN_WIDTH, Offer, Own, Row,
+};
 use table::Table;
-
-// The exchange after the call, and what the call answers: a refusal, or how many actions are listed.
-#[derive(Drop)]
-pub struct Outcome {
-    pub exchange: Exchange,
-    pub said: Result<usize, Refusal>,
-}
-
-// Offers of an exchange, at most: a count above that is that.
-const MAX_OFFERS: usize = 512;
 
 // Where the offer of a tag stands.
 fn offer_of_tag(offers: Table<OFFER_WIDTH>, tag: [u8; 16]) -> Option<usize>
     ensures { result ≡ position (offer_of_tag tag) (rows_in offer_codec offers.entry) }
 {
-    offers.find(0, &tag)
+    offers.find(Offer::TAG, &tag)
 }
 
 // ---- copies taken off a row, stopping at 0
@@ -103,88 +97,66 @@ fn hand_over(
 fn too_short(prefixes: &[u8], offers: &[u8], actions: &[u8], tombstones: &[u8]) -> bool
     ensures { result ≡ ((nat_lt (length prefixes.now) 4096 || nat_lt (length offers.now) 8704) || nat_lt (length actions.now) (13 * (512 + length tombstones.now / 44))) }
 {
-    prefixes.len() < 4096
-        || offers.len() < 8704
-        || tombstones::short_actions(actions.len(), tombstones.len())
+    contacts::short_exchange(prefixes.len(), offers.len())
+        || answers::short_actions(actions.len(), tombstones.len())
 }
 
-// Clears the offer at i, whatever the code; Accepted takes its copies off. (Each area that it changes is lent by itself, as to the call.)
-fn settle(
-    device: &mut Device,
-    exchange: Exchange,
-    i: usize,
-    tag: [u8; 16],
-    code: Custody,
-    own: &mut [u8],
-    carried: &mut [u8],
-    offers: &mut [u8],
-    actions: &mut [u8],
-) -> Outcome
-    requires { (i < held (length offers.old) offer_width (min 512 exchange.offered)) × (13 ≤ length actions.old) }
-    ensures { Settles i tag code device.old exchange own.old carried.old offers.old actions.old
-        result.said device.new result.exchange own.new carried.new offers.new actions.new }
+// Clears the offer at i; answers how many copies were handed with it.
+fn clear_offer(exchange: &mut Exchange, offers: &mut [u8], i: usize) -> u8
+    requires { i < held (length offers.old) offer_width (min 512 exchange.old.offered) }
+    ensures { Cleared i exchange.old offers.old result exchange.new offers.new }
 {
     let copies = Offer::read(offers, i * OFFER_WIDTH).copies;
-    let exchange = Exchange {
-        offered: Offer::remove(offers, MAX_OFFERS.min(exchange.offered), i),
-        ..exchange
-    };
-    if code != Custody::Accepted {
-        let said = Ok(0);
-        return Outcome { exchange, said };
-    }
-    let said = Ok(hand_over(device, tag, copies, own, carried, actions));
-    Outcome { exchange, said }
+    // (Cut again, as where the offer was looked for: this function is lent the exchange, whose count may be above MAX_OFFERS, and not the cut count.)
+    exchange.offered = Offer::remove(offers, MAX_OFFERS.min(exchange.offered), i);
+    copies
 }
 
-// A custody code clears the offer with its tag, whatever the code; only Accepted takes the handed copies off.
-// (As the C interface lends them, each area is a parameter.)
+// A custody code clears the offer with its tag, whatever the code; only Accepted takes the handed copies off. Answers how many actions are listed.
+// (A call is lent what the exported functions of crate goosetable are lent, each area and each value by itself.)
 pub fn handed_over(
+    exchange: &mut Exchange,
     device: &mut Device,
-    exchange: Exchange,
     peer: ContactId,
     tag: [u8; 16],
     code: Custody,
-    contacts: &[u8; 2304],
-    own: &mut [u8; 13824],
-    carried: &mut [u8; 14592],
+    contacts: &[u8; CONTACT_AREA],
+    own: &mut [u8; OWN_AREA],
+    carried: &mut [u8; CARRIED_AREA],
     tombstones: &[u8],
     prefixes: &[u8],
     offers: &mut [u8],
     actions: &mut [u8],
-) -> Outcome
-    ensures { Does says (custody_answer (length actions.old) peer tag code) result.said
-        (code_lent device.old exchange contacts.now own.old carried.old tombstones.now prefixes.now offers.old)
-        (code_lent device.new result.exchange contacts.now own.new carried.new tombstones.now prefixes.now offers.new)
-        (actions_lent actions.old) (actions_lent actions.new) }
+) -> Result<usize, Refusal>
+    ensures { Lends says (custody_answer (length actions.old) peer tag code) result
+        (code_lent device.old exchange.old contacts.now own.old carried.old tombstones.now prefixes.now offers.old)
+        (code_lent device.new exchange.new contacts.now own.new carried.new tombstones.now prefixes.now offers.new)
+        (actions_lent actions.old) (actions_lent actions.new)
+        (code_leaves tag exchange.old) exchange.old exchange.new }
 {
     if too_short(prefixes, offers, actions, tombstones) {
-        let said = Err(Refusal::ShortArea);
-        return Outcome { exchange, said };
+        return Err(Refusal::ShortArea);
     }
     let known_contacts = Table {
         area: contacts,
         count: device.contacts,
     };
     if !known(known_contacts, peer) {
-        let said = Err(Refusal::UnknownContact);
-        return Outcome { exchange, said };
+        return Err(Refusal::UnknownContact);
     }
     if exchange.peer != Some(peer) {
-        let said = Err(Refusal::WrongExchange);
-        return Outcome { exchange, said };
+        return Err(Refusal::WrongExchange);
     }
     let handed = Table {
         area: offers,
         count: MAX_OFFERS.min(exchange.offered),
     };
-    match offer_of_tag(handed, tag) {
-        Some(i) => settle(
-            device, exchange, i, tag, code, own, carried, offers, actions,
-        ),
-        None => Outcome {
-            exchange,
-            said: Ok(0),
-        },
+    let Some(i) = offer_of_tag(handed, tag) else {
+        return Ok(0);
+    };
+    let copies = clear_offer(exchange, offers, i);
+    if code != Custody::Accepted {
+        return Ok(0);
     }
+    Ok(hand_over(device, tag, copies, own, carried, actions))
 }

@@ -1,5 +1,5 @@
 -- A hasher takes more bytes. Assumes nothing.
-use mathlib.Core.Path.{◌≡◌, refl, sym, ap, ap₂, ◌∙◌}
+use mathlib.Core.Path.{◌≡◌, refl, sym, subst, ap, ap₂, ◌∙◌}
 use mathlib.Core.List.{List, [], ◌++◌, append_assoc}
 use Rattle.std.proofs.lemmas.Grind.{common_steps}
 use Prim.Native.Nat.{ℕ, ◌+◌, ◌-◌, ◌*◌, ◌/◌, ◌%◌, ◌≤◌, ◌<◌}
@@ -12,7 +12,7 @@ use Rattle.sha_block.specs.Loop.{turns}
 use Rattle.sha384.specs.Padding.{padding, padded}
 use Rattle.sha384.specs.Sha384.{H0, hashed, digest, sha384}
 use Rattle.sha384.proofs.Whole.{hashed_append}
-use Rattle.hasher.specs.Taken.{behind, Taken}
+use Rattle.hasher.specs.Taken.{behind, Taken, Adds}
 use Rattle.hasher.specs.declared.Hasher.{Hasher}
 
 -- ---- less than a block, and a block
@@ -123,10 +123,18 @@ finished s h d v room ev eh ed x t =
 
 -- ---- a message in parts
 
--- cut in two places
-pub cut_twice : (x m : List ℕ) (i j : ℕ) {f r w e : List ℕ} → f ≡ take i m → r ≡ drop i m → w ≡ take j r → e ≡ drop j r → ((x ++ f) ++ w) ++ e ≡ x ++ m
-cut_twice x m i j {f} {r} {w} {e} ef er ew ee = grind (arith, take-append-drop j r, take-append-drop i m, append_assoc)
+-- three parts of m, one behind the other
+pub added_by : (s r t u : Hasher) {a b c : List ℕ} (m : List ℕ) → Adds s a r → Adds r b t → Adds t c u → a ++ b ++ c ≡ m → Adds s m u
+added_by s r t u {a} {b} {c} m p q k e = record {
+  by_index = λ x h. subst (Taken u) (regroup x a b c ∙ ap (λ (z : List ℕ). x ++ z) e) (k.by_index _ (q.by_index _ (p.by_index _ h)));
+  count =
+      let l : length (a ++ b ++ c) ≡ length m = ap length e in
+      omega (arith, p.count, q.count, k.count, length-append (a ++ b) c, length-append a b, l);
+}
+  where
+    regroup : (x a b c : List ℕ) → ((x ++ a) ++ b) ++ c ≡ x ++ (a ++ b ++ c)
+    regroup x a b c = simp append_assoc
 
--- three parts, one behind the other
-pub regroup : (p a b c : List ℕ) → p ++ a ++ b ++ c ≡ p ++ (a ++ b ++ c)
-regroup p a b c = simp append_assoc
+-- cut in two places
+pub cut_twice : (m : List ℕ) (i j : ℕ) {f r w e : List ℕ} → f ≡ take i m → r ≡ drop i m → w ≡ take j r → e ≡ drop j r → f ++ w ++ e ≡ m
+cut_twice m i j {f} {r} {w} {e} ef er ew ee = grind (arith, take-append-drop j r, take-append-drop i m, append_assoc)

@@ -1,6 +1,6 @@
 -- SHA-384 of a message that comes in parts: what a hasher holds of what it has taken.
 -- Assumes nothing.
-use Rattle.std.specs.Prelude.{ℕ, ◌*◌, ◌/◌, ◌%◌, ◌≡◌, List, length, take, drop}
+use Rattle.std.specs.Prelude.{ℕ, ◌+◌, ◌*◌, ◌/◌, ◌%◌, ◌≡◌, List, ◌++◌, length, take, drop}
 use Rattle.sha384.specs.Sha384.{H0, hashed}
 use Rattle.hasher.specs.declared.Hasher.{Hasher}
 
@@ -13,3 +13,8 @@ pub record Taken (s : Hasher) (x : List ℕ) : Type 0 where
   pub state : s.state ≡ hashed H0 x
   pub held : take (length x % 128) s.block ≡ behind x
   pub len : s.len ≡ length x
+
+-- the hasher r has taken what s had, and then the bytes m
+pub record Adds (s : Hasher) (m : List ℕ) (r : Hasher) : Type 0 where
+  pub by_index : (x : List ℕ) → Taken s x → Taken r (x ++ m)
+  pub count : r.len ≡ s.len + length m

@@ -3,21 +3,36 @@
 
 ghost use Rattle.std.specs.Prelude.{◌≡◌, List, [], ◌++◌, ℕ, ◌+◌, ◌%◌, ◌^◌, ◌≤◌, ◌<◌, length};
 ghost use Rattle.sha384.specs.Sha384.{sha384};
-ghost use Rattle.hasher.specs.Taken.{Taken};
+ghost use Rattle.hasher.specs.Taken.{Taken, Adds};
 ghost use Rattle.hasher.specs.Parts.{joined};
 
 pub mod parts;
 
 use parts::Parts;
+use sha_block::BLOCK;
 
-// The hash value after the whole blocks, the bytes after them (the first len % 128 of block), and how many bytes in all.
+impl<'a> Parts<'a> {
+    // A text in one part.
+    pub fn one(text: &'a [u8]) -> Parts<'a>
+        ensures { joined result ≡ text.now }
+    {
+        Parts {
+            first: b"",
+            second: b"",
+            third: text,
+        }
+    }
+}
+
+// The hash value after the whole blocks, the bytes after them (the first len % BLOCK of block), and how many bytes in all.
 #[derive(Drop)]
 pub struct Hasher {
     pub state: [u64; 8],
-    pub block: [u8; 128],
+    pub block: [u8; BLOCK],
     pub len: usize,
 }
 
+// (An array that a call answers goes into a field through a local: put there straight, the borrow check does not cover it.)
 impl Hasher {
     pub fn new() -> Hasher
         ensures { Taken result [] }
@@ -25,7 +40,7 @@ impl Hasher {
         let state = sha384::start();
         Hasher {
             state,
-            block: [0; 128],
+            block: [0; BLOCK],
             len: 0,
         }
     }
@@ -33,18 +48,17 @@ impl Hasher {
     // Puts m behind what is held: a block at most, with what is held.
     fn push(self, m: &[u8]) -> Hasher
         requires m_bound { (self.len % 128 + length m.now ≤ 128) × (self.len + length m.now < 2 ^ 64) }
-        ensures by_index { (x : List ℕ) → Taken self x → Taken result (x ++ m.now) }
-        ensures len_value { result.len ≡ self.len + length m.now }
+        ensures { Adds self m.now result }
     {
         let Hasher {
             state,
             mut block,
             len,
         } = self;
-        let at = len % 128;
+        let at = len % BLOCK;
         let len = len + m.len();
         octets::copy_in(&mut block, at, m);
-        if at + m.len() == 128 {
+        if at + m.len() == BLOCK {
             let next = sha384::blocks(state, &block);
             return Hasher {
                 state: next,
@@ -58,8 +72,7 @@ impl Hasher {
     // Whole blocks, where no bytes are held.
     fn push_blocks(self, m: &[u8]) -> Hasher
         requires m_bound { (length m.now % 128 ≡ 0) × (self.len % 128 ≡ 0) × (self.len + length m.now < 2 ^ 64) }
-        ensures by_index { (x : List ℕ) → Taken self x → Taken result (x ++ m.now) }
-        ensures len_value { result.len ≡ self.len + length m.now }
+        ensures { Adds self m.now result }
     {
         let Hasher { state, block, len } = self;
         let next = sha384::blocks(state, m);
@@ -73,23 +86,21 @@ impl Hasher {
     // The bytes of m, after those that it has taken.
     pub fn update(self, m: &[u8]) -> Hasher
         requires m_bound { self.len + length m.now < 2 ^ 64 }
-        ensures by_index { (x : List ℕ) → Taken self x → Taken result (x ++ m.now) }
-        ensures len_value { result.len ≡ self.len + length m.now }
+        ensures { Adds self m.now result }
     {
-        let room = 128 - self.len % 128;
+        let room = BLOCK - self.len % BLOCK;
         if m.len() < room {
             return self.push(m);
         }
         let (front, rest) = m.split_at(room);
-        let (whole, end) = rest.split_at(rest.len() - rest.len() % 128);
+        let (whole, end) = rest.split_at(rest.len() - rest.len() % BLOCK);
         self.push(front).push_blocks(whole).push(end)
     }
 
     // The bytes of a text in parts.
     pub fn update_parts(self, text: Parts<'_>) -> Hasher
         requires text_bound { self.len + length (joined text) < 2 ^ 64 }
-        ensures by_index { (x : List ℕ) → Taken self x → Taken result (x ++ joined text.entry) }
-        ensures len_value { result.len ≡ self.len + length (joined text.entry) }
+        ensures { Adds self (joined text.entry) result }
     {
         self.update(text.first)
             .update(text.second)
@@ -97,10 +108,10 @@ impl Hasher {
     }
 
     // The hash of what it has taken.
-    pub fn finish(self) -> [u8; 48]
+    pub fn finish(self) -> [u8; sha384::DIGEST]
         ensures { (x : List ℕ) → Taken self x → result ≡ sha384 x }
     {
-        let held = self.len % 128;
+        let held = self.len % BLOCK;
         sha384::digest_of(sha384::hash_rest(self.state, self.len - held, &self.block[..held]))
     }
 }

@@ -1,36 +1,23 @@
 -- Laws of cells: the free one that a new row gets, and the ciphertexts that stay where they are.
 -- Assumes nothing.
-use Rattle.std.proofs.Common.{◌≡◌, ℕ, zero, suc, ◌+◌, ◌*◌, ◌/◌, ◌<◌, ◌≤◌, Bool, true, false, cond, not, ◌||◌, eqb, ltb, List, [], ◌∷◌, length, sym, refl, ap, ◌∙◌, arith, ltb-false, ltb-true, ne_eqb, eqb-true, Option, Some, None}
+use Rattle.std.proofs.Common.{◌≡◌, ℕ, zero, suc, ◌+◌, ◌*◌, ◌<◌, ◌≤◌, Bool, true, false, cond, not, ◌||◌, eqb, ltb, List, [], ◌∷◌, length, sym, refl, ap, ◌∙◌, arith, ltb-false, ltb-true, ne_eqb, eqb-true, Option, Some, None}
 use mathlib.Core.Bool.{false≢true}
-use native.Mathlib.Nat.{min-le_left, min-le_right}
 use borrow.Author.Tests.{eqb-false}
 use Rattle.octets.specs.Bytes.{part, splice}
 use Rattle.octets.proofs.Parts.{length_splice, read_same, read_before, read_past}
 use Rattle.table.specs.Lists.{All, any, filter, count_by, is_at}
 use Rattle.table.proofs.ListLaws.{all_imp}
-use Rattle.table.proofs.RowLaws.{row_of_lem}
 use Rattle.table.proofs.FindLaws.{any_none}
 use Rattle.model.specs.Cells.{ciphertext, cell_count, free_from, free_cell, cells_used}
 use Rattle.model.proofs.Laws.{ciphertext_inside}
+use Rattle.model.proofs.CellLaws.{free_counts, in_area as cell_inside}
 
 -- ---- the free cell
 
-free_at : (n i : ℕ) (named : List ℕ) (c : ℕ) → free_from n i named ≡ Some c → (c < i + n) × (any (λ (m : ℕ). eqb m c) named ≡ false)
-unfolding free_from
-free_at zero i named c e = cc
-free_at (suc n) i named c e = go (any (λ (m : ℕ). eqb m i) named) refl e (free_at n (suc i) named c)
-  where
-    go : (b : Bool) → any (λ (m : ℕ). eqb m i) named ≡ b → cond b (free_from n (suc i) named) (Some i) ≡ Some c
-        → (free_from n (suc i) named ≡ Some c → (c < suc i + n) × (any (λ (m : ℕ). eqb m c) named ≡ false))
-        → (c < i + suc n) × (any (λ (m : ℕ). eqb m c) named ≡ false)
-    go true q e f = let z = f e in (omega (arith, z.0), z.1)
-    go false q e f = let z : i ≡ c = cc in (omega arith, ap (λ (k : ℕ). any (λ (m : ℕ). eqb m k) named) (sym z) ∙ q)
-
 pub cell_free : (size : ℕ) (named : List ℕ) (c : ℕ) → free_cell size named ≡ Some c → (c < cell_count size) × All (λ (m : ℕ). m ≡ c → ⊥) named
-unfolding free_cell
 cell_free size named c e =
-    let z = free_at (cell_count size) 0 named c e in
-    (omega (arith, z.0), all_imp (λ m q. eqb-false m c q) named (any_none (λ (m : ℕ). eqb m c) named z.1))
+    let z = free_counts size named c e in
+    (z.0, all_imp (λ m q. eqb-false m c q) named (any_none (λ (m : ℕ). eqb m c) named z.1))
 
 -- ---- there is a free cell while there are fewer rows than cells
 
@@ -103,14 +90,13 @@ cells_left size named h = go (free_from (cell_count size) 0 named) refl
 -- ---- ciphertexts
 
 pub in_area : (size c : ℕ) → c < cell_count size → c * 2064 + 2064 ≤ size
-unfolding cell_count
-in_area size c h = row_of_lem c 2064 size (omega (arith, min-le_right 256 (size / 2064)))
+in_area size c h = (cell_inside size c h).1
 
 -- a ciphertext that lies inside its cell
 pub inside : (area : List ℕ) (d len : ℕ) → d < cell_count (length area) → len ≤ 2064 → ciphertext area d len ≡ part area (d * 2064) len
-unfolding cell_count
 inside area d len h k =
-    ciphertext_inside area d len (omega (arith, min-le_left 256 (length area / 2064))) k (omega (arith, in_area (length area) d h))
+    let z = cell_inside (length area) d h in
+    ciphertext_inside area d len z.0 k (omega (arith, z.1))
 
 module _ (area : List ℕ) (c : ℕ) (ct : List ℕ) (h : c < cell_count (length area)) (k : length ct ≤ 2064) where
   fits : c * 2064 + length ct ≤ length area

@@ -9,13 +9,20 @@ ghost use Rattle.hmac.specs.Hkdf.{extract as extract_of, expand as expand_of, lo
 
 use hasher::Hasher;
 use hasher::parts::Parts;
+use sha_block::BLOCK;
+use sha384::DIGEST;
+
+// The bytes of the inner and of the outer pad.
+const IPAD: u8 = 0x36;
+
+const OPAD: u8 = 0x5c;
 
 // Section 4, steps 1 to 3: the key as one block.
-fn block_key(key: &[u8]) -> [u8; 128]
+fn block_key(key: &[u8]) -> [u8; BLOCK]
     ensures { result ≡ K0 key.now }
 {
-    let mut k0 = [0; 128];
-    if 128 < key.len() {
+    let mut k0 = [0; BLOCK];
+    if BLOCK < key.len() {
         let hashed = sha384::hash(key);
         octets::copy_in(&mut k0, 0, &hashed);
         return k0;
@@ -26,7 +33,7 @@ fn block_key(key: &[u8]) -> [u8; 128]
 
 // Steps 4 and 7: the block xor a pad.
 #[tactic(auto, using(crate::proofs::HmacLaws::map_all), unfolding(crate::specs::Hmac::padded))]
-fn pad(k0: [u8; 128], byte: u8) -> [u8; 128]
+fn pad(k0: [u8; BLOCK], byte: u8) -> [u8; BLOCK]
     ensures { result ≡ padded k0 byte }
 {
     let mut out = k0;
@@ -37,26 +44,26 @@ fn pad(k0: [u8; 128], byte: u8) -> [u8; 128]
 }
 
 // Steps 4 and 5, of a text that comes in parts: a hasher that is to take them.
-fn begin(k0: [u8; 128]) -> Hasher
+fn begin(k0: [u8; BLOCK]) -> Hasher
     ensures taken { Taken result (padded k0 ipad) }
     ensures len_value { result.len ≡ 128 }
 {
-    let inner = pad(k0, 0x36);
+    let inner = pad(k0, IPAD);
     Hasher::new().update(&inner)
 }
 
 // Steps 6 to 9, with the hasher that has taken the text.
 #[tactic(auto, unfolding(crate::specs::Hmac::keyed))]
-fn end(k0: [u8; 128], s: Hasher) -> [u8; 48]
+fn end(k0: [u8; BLOCK], s: Hasher) -> [u8; DIGEST]
     ensures { (text : List ℕ) → Taken s (padded k0 ipad ++ text) → result ≡ keyed k0 text }
 {
     let h = s.finish();
-    let outer = pad(k0, 0x5c);
+    let outer = pad(k0, OPAD);
     sha384::hash_after(&outer, &h)
 }
 
 // HMAC of a text in parts.
-pub fn hmac_parts(key: &[u8], text: Parts<'_>) -> [u8; 48]
+pub fn hmac_parts(key: &[u8], text: Parts<'_>) -> [u8; DIGEST]
     ensures { result ≡ hmac_of key.now (joined text.entry) }
 {
     let k0 = block_key(key);
@@ -64,30 +71,25 @@ pub fn hmac_parts(key: &[u8], text: Parts<'_>) -> [u8; 48]
 }
 
 // HMAC of a text under a key, both of any length.
-pub fn hmac(key: &[u8], text: &[u8]) -> [u8; 48]
+pub fn hmac(key: &[u8], text: &[u8]) -> [u8; DIGEST]
     ensures { result ≡ hmac_of key.now text.now }
 {
-    let text = Parts {
-        first: b"",
-        second: b"",
-        third: text,
-    };
-    hmac_parts(key, text)
+    hmac_parts(key, Parts::one(text))
 }
 
 // RFC 5869, 2.2.
 #[tactic(auto, unfolding(crate::specs::Hkdf::extract))]
-pub fn extract(salt: &[u8], ikm: &[u8]) -> [u8; 48]
+pub fn extract(salt: &[u8], ikm: &[u8]) -> [u8; DIGEST]
     ensures { result ≡ extract_of salt.now ikm.now }
 {
     if salt.is_empty() {
-        return hmac(&[0; 48], ikm);
+        return hmac(&[0; DIGEST], ikm);
     }
     hmac(salt, ikm)
 }
 
 // 2.3: HMAC of T(i - 1) | info | i, which is T(i).
-fn next_block(k0: [u8; 128], previous: &[u8], info: Parts<'_>, i: u8) -> [u8; 48]
+fn next_block(k0: [u8; BLOCK], previous: &[u8], info: Parts<'_>, i: u8) -> [u8; DIGEST]
     requires previous_len_bound { length previous.now ≤ 48 }
     ensures { result ≡ keyed k0 (previous.now ++ joined info.entry ++ (i ∷ [])) }
 {
@@ -95,26 +97,27 @@ fn next_block(k0: [u8; 128], previous: &[u8], info: Parts<'_>, i: u8) -> [u8; 48
     end(k0, s)
 }
 
-// 2.3: T(1) to T(N), one behind the other, as far as there is room. T(i) is the first `have` bytes of t: T(0) has none.
+// 2.3: T(1) to T(N), one behind the other, as far as there is room. T(i) is the first `have` bytes of t: T(0) has none. (An Option of t would be
+// matched to lend the same slice.)
 // Not `chunks_mut`: after it, a proof knows only the length of `out`.
-pub fn expand(prk: [u8; 48], info: Parts<'_>, out: &mut [u8])
+pub fn expand(prk: [u8; DIGEST], info: Parts<'_>, out: &mut [u8])
     requires { length out.old ≤ longest }
     ensures { out.new ≡ expand_of prk (joined info.entry) (length out.old) }
 {
     let k0 = block_key(&prk);
-    let mut t = [0; 48];
+    let mut t = [0; DIGEST];
     let mut have = 0;
-    for i in 0..out.len().div_ceil(48) {
+    for i in 0..out.len().div_ceil(DIGEST) {
         let next = next_block(k0, &t[..have], info, (i + 1) as u8);
-        let room = (out.len() - 48 * i).min(48);
-        octets::copy_in(out, 48 * i, &next[..room]);
+        let room = (out.len() - DIGEST * i).min(DIGEST);
+        octets::copy_in(out, DIGEST * i, &next[..room]);
         t = next;
-        have = 48;
+        have = DIGEST;
     }
 }
 
 // The longest output that the standard allows.
-pub const LONGEST: usize = 255 * 48;
+pub const LONGEST: usize = 255 * DIGEST;
 
 // The output is longer than that.
 #[derive(Clone, Copy, PartialEq, Eq)]
@@ -130,11 +133,6 @@ pub fn hkdf(ikm: &[u8], salt: &[u8], info: &[u8], out: &mut [u8]) -> Result<(), 
         return Err(TooLong);
     }
     let prk = extract(salt, ikm);
-    let info = Parts {
-        first: b"",
-        second: b"",
-        third: info,
-    };
-    expand(prk, info, out);
+    expand(prk, Parts::one(info), out);
     Ok(())
 }

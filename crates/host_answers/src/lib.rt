@@ -6,10 +6,10 @@ ghost use Rattle.fetch.specs.Fetch.{fetched_said};
 ghost use Rattle.host_answers.specs.HostAnswers.{answered, refusing, done_answer, acted_answer, wrote_answer, envelope_answer, fetched_answer, own_answer, own_row_area, inventory_answer, tomb_answer, blob_answer, carried_row, tombstone_row, no_row, row_of};
 
 use courier_core::Refusal;
-use rows::{Own, Row as _};
+use rows::{OWN_WIDTH, Own, Row as _};
 use state::{Carried, Held, Tombstone};
 
-// What a call says: a refusal's number from 1 to 13, or one of these.
+// What a call says: a refusal's number (crate courier_core), or one of these.
 pub const DONE: u8 = 0;
 
 pub const MALFORMED: u8 = 128;
@@ -20,7 +20,7 @@ pub const MISSING: u8 = 130;
 
 pub const NO_ENVELOPE: u8 = 131;
 
-// The answer of every call: what it says, how many rows lie in front of the reply and action areas, and how many rows or bytes in front
+// The answer of every call: what it says, how many rows lie at the front of the reply and action areas, and how many rows or bytes at the front
 // of another answer area, how long a fetched ciphertext is, or for how many rows an inventory's end searched the tombstones. Contact,
 // generation and index are those of an envelope that is ours. `said` is a number, since C reads the struct.
 #[repr(C)]
@@ -35,8 +35,8 @@ pub struct Answer {
     pub said: u8,
 }
 
-// A held row that was read: kind 0 none, 1 carried, 2 a tombstone, as a number, since C reads the struct. The second run of 16 bytes is
-// a commitment or a secret. A carried row's ciphertext is the blob from byte 46 on.
+// A held row that was read, its kind as a number, since C reads the struct. The second run of 16 bytes is a commitment or a secret. A
+// carried row's ciphertext is the blob from byte 46 on.
 #[repr(C)]
 #[derive(Drop)]
 pub struct Row {
@@ -46,6 +46,15 @@ pub struct Row {
     pub second: [u8; 16],
     pub copies: u8,
     pub kind: u8,
+}
+
+impl Row {
+    // Of a blob that is no row.
+    pub const NONE: u8 = 0;
+
+    pub const CARRIED: u8 = 1;
+
+    pub const TOMBSTONE: u8 = 2;
 }
 
 // ---- answers
@@ -71,36 +80,29 @@ pub fn refused(why: Refusal) -> Answer
     answer_of(why.number(), 0, 0, 0)
 }
 
-// Of a call that says no more where it is done: contact, setting, clock, fresh exchange, load.
+// Of a call that says no more where it is done: contact, setting, clock, fresh exchange, load, route tag.
 pub fn done_answer(said: Result<(), Refusal>) -> Answer
     ensures { result ≡ done_answer said }
 {
-    match said {
-        Ok(()) => answer_of(DONE, 0, 0, 0),
-        Err(why) => refused(why),
-    }
+    said.map_or_else(refused, |()| answer_of(DONE, 0, 0, 0))
 }
 
 // Of a call that lists so many actions: custody code, stored tombstone, maintenance.
 pub fn acted_answer(acted: Result<usize, Refusal>) -> Answer
     ensures { result ≡ acted_answer acted }
 {
-    match acted {
-        Ok(actions) => answer_of(DONE, 0, actions, 0),
-        Err(why) => refused(why),
-    }
+    acted.map_or_else(refused, |actions| answer_of(DONE, 0, actions, 0))
 }
 
 // Of a call that writes so many prefixes, rows or bytes: inventory of ours, window, save, page.
 pub fn wrote_answer(wrote: Result<usize, Refusal>) -> Answer
     ensures { result ≡ wrote_answer wrote }
 {
-    match wrote {
-        Ok(length) => answer_of(DONE, 0, 0, length),
-        Err(why) => refused(why),
-    }
+    wrote.map_or_else(refused, |length| answer_of(DONE, 0, 0, length))
 }
 
+// (This and the five that follow match each: what a call tells differs, and so does the number of an answer that tells nothing. One function for
+// them would take both, and be no shorter at a call.)
 pub fn envelope_answer(said: Result<envelope::Answer, Refusal>) -> Answer
     ensures { result ≡ envelope_answer said }
 {
@@ -116,7 +118,8 @@ pub fn envelope_answer(said: Result<envelope::Answer, Refusal>) -> Answer
     }
 }
 
-// Of a fetch, which replies so many rows where it finds an envelope.
+// Of a fetch, which replies so many rows where it finds an envelope. (The number is a parameter as of `tomb_answer`: both definitions speak of the replies
+// that lie in the area.)
 pub fn fetch_answer(fetched: Result<Option<&[u8]>, Refusal>, replies: usize) -> Answer
     ensures { result ≡ fetched_answer replies (fetched_said fetched.entry) }
 {
@@ -169,7 +172,7 @@ pub fn blob_answer(blob: Result<Option<usize>, Refusal>) -> Answer
 }
 
 // The bytes of an own row where there is one, or those that were there.
-pub fn own_row(made: Result<Option<Own>, Refusal>, before: [u8; 54]) -> [u8; 54]
+pub fn own_row(made: Result<Option<Own>, Refusal>, before: [u8; OWN_WIDTH]) -> [u8; OWN_WIDTH]
     ensures { result ≡ own_row_area before made }
 {
     match made {
@@ -178,7 +181,8 @@ pub fn own_row(made: Result<Option<Own>, Refusal>, before: [u8; 54]) -> [u8; 54]
     }
 }
 
-// ---- a held row; an array goes into the struct through a local, where the check gives it a proof
+// ---- a held row
+// (An array field goes into a literal through a local: put there straight, the borrow check does not cover it.)
 
 impl From<Carried> for Row {
     ghost from_gives = { λ row r. r ≡ carried_row row };
@@ -193,7 +197,7 @@ impl From<Carried> for Row {
             tag,
             second,
             copies: header.copies,
-            kind: 1,
+            kind: Row::CARRIED,
         }
     }
 }
@@ -210,12 +214,12 @@ impl From<Tombstone> for Row {
             tag,
             second,
             copies: 0,
-            kind: 2,
+            kind: Row::TOMBSTONE,
         }
     }
 }
 
-// Of a blob that is no row: kind 0, and zeros.
+// Of a blob that is no row: zeros. (No derived Default: tried; of an array it ensures what holds of each element, and the proof that the array is zeros did not close.)
 fn no_row() -> Row
     ensures { result ≡ no_row }
 {
@@ -225,16 +229,18 @@ fn no_row() -> Row
         tag: [0u8; 16],
         second: [0u8; 16],
         copies: 0,
-        kind: 0,
+        kind: Row::NONE,
     }
 }
 
-pub fn row_of(read: Option<Held>) -> Row
-    ensures { result ≡ row_of read }
-{
-    match read {
-        Some(Held::Carried(row)) => row.into(),
-        Some(Held::Tombstone(row)) => row.into(),
-        None => no_row(),
+impl From<Option<Held>> for Row {
+    ghost from_gives = { λ read r. r ≡ row_of read };
+
+    fn from(read: Option<Held>) -> Row {
+        match read {
+            Some(Held::Carried(row)) => row.into(),
+            Some(Held::Tombstone(row)) => row.into(),
+            None => no_row(),
+        }
     }
 }

@@ -3,3 +3,4 @@ pub mod OursLaws
 pub mod ListedLaws
 pub mod TestLaws
 pub mod ReceiveLaws
+pub mod LeaveLaws

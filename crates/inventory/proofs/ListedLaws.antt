@@ -1,16 +1,18 @@
 -- What a listed prefix is answered with: a fetch, a tomb.
 -- Assumes nothing.
-use Rattle.std.proofs.Common.{◌≡◌, ℕ, ◌+◌, ◌*◌, ◌/◌, ◌<◌, ◌≤◌, Bool, true, false, cond, List, [], ◌∷◌, ◌++◌, map, length, get_or, take, drop, replicate, sym, refl, ap, ◌∙◌, ap₂, arith, length-append, drop_of_length-le, take-take, Option, Some, None}
+use Rattle.std.proofs.Common.{◌≡◌, ℕ, ◌+◌, ◌*◌, ◌/◌, ◌<◌, ◌≤◌, Bool, true, false, List, [], ◌∷◌, ◌++◌, map, length, get_or, take, drop, replicate, sym, refl, ap, ◌∙◌, arith, length-append, append-nil, take-take, Option, Some, None}
 use mathlib.Core.List.{flat_map}
 use lib.ListN.{length-replicate}
+use Rattle.std.proofs.lemmas.List.{map-id}
 use Rattle.octets.specs.Bytes.{part, splice, same_bytes}
-use Rattle.octets.proofs.Parts.{part_part, length_part}
+use Rattle.octets.proofs.Parts.{part_part}
 use Rattle.courier_core.specs.declared.ContactId.{ContactId}
-use Rattle.table.specs.Rows.{held}
+use Rattle.table.specs.Lists.{position, filter}
+use Rattle.table.specs.Rows.{held, rows, has_key}
 use Rattle.table.specs.Codec.{table_of}
 use Rattle.table.proofs.RowLaws.{held_all, held_inside}
-use Rattle.table.proofs.TableLaws.{length_table, get_d_table, table_next}
-use Rattle.table.proofs.FindLaws.{position_first}
+use Rattle.table.proofs.TableLaws.{length_table, get_d_table, table_find}
+use Rattle.table.proofs.FindLaws.{position_first, key_run}
 use Rattle.rows.specs.declared.Reachable.{Reachable}
 use Rattle.rows.specs.declared.BadTag.{BadTag}
 use Rattle.rows.specs.declared.Tombstone.{Tombstone}
@@ -21,10 +23,10 @@ use Rattle.model.specs.Calls.{fetch_reply, tomb_reply}
 use Rattle.model.specs.Window.{no_reachable, window_rows, prefix_codec, lookup, is_bad}
 use Rattle.model.specs.Exchange.{fetch_for, has_prefix, tomb_for}
 use Rattle.model.specs.Tombs.{tombstoned}
+use Rattle.model.proofs.SearchLaws.{find_at, find_past, filter_all}
 use Rattle.answers.proofs.Laws.{length_reply}
 use Rattle.offers.specs.Appended.{Appended}
 use Rattle.offers.proofs.AppendLaws.{append_none, append_one}
-use Rattle.inventory.specs.Inventory.{tomb_of}
 use Rattle.inventory.proofs.FillLaws.{Filling, filling_start, filling_next, filling_end, map_flat}
 
 -- ---- the bytes of a reply
@@ -50,13 +52,14 @@ module _ (window prefix : List ℕ) (i : ℕ) (e : Some i ≡ lookup (window_row
         length_table reachable_codec (length window / 30) window,
       )
 
-  pub window_row_lem : i * 30 + 30 ≤ length window
-  window_row_lem = omega (arith, inside, held_inside (length window) 30 (length window / 30))
-
   window_tag : (get_or (window_rows window) i no_reachable).tag ≡ part window (i * 30 + 14) 16
   unfolding window_rows reachable_of
   window_tag =
       ap (λ (r : Reachable). r.tag) (get_d_table reachable_codec (length window / 30) window i no_reachable inside) ∙ part_part window (i * 30) 30 14 16 (omega arith)
+
+-- and so is the whole row
+pub window_row : (window prefix : List ℕ) (i : ℕ) → lookup (window_rows window) prefix ≡ Some i → i * 30 + 30 ≤ length window
+window_row window prefix i e = omega (arith, inside window prefix i (sym e), held_inside (length window) 30 (length window / 30))
 
 module _ (bad : List BadTag) (ts : List Tombstone) (window : List ℕ) (peer : ContactId) (prefix : List ℕ) where
   abbrev F : List Reply
@@ -89,79 +92,59 @@ fetch_put a x tag k l h ex = append_one 40 a x (reply_bytes (fetch_reply tag)) k
 
 -- ---- the tomb of a prefix
 
-front : (r : List ℕ) → take 8 (part r 8 16) ≡ part r 8 8
-unfolding part
-front r = take-take 8 16 (drop 8 r) (omega arith)
+-- a search for a place, and for what stands there
+module _ {A : Type 0} (p : A → Bool) (xs : List A) where
+  whole : xs ≡ map (λ (x : A). x) (filter (λ (x : A). true) xs) ++ []
+  whole = sym (append-nil _ ∙ map-id (filter (λ (x : A). true) xs) ∙ filter_all xs)
 
--- g tombstones, and the search among them from the one at j on
-module _ (tombs : List ℕ) (g : ℕ) (prefix : List ℕ) where
-  abbrev T : List Tombstone
-  T = table_of tombstone_codec g tombs
+  find_some : (d : A) (i : ℕ) → position p xs ≡ Some i → find p xs ≡ Some (get_or xs i d)
+  find_some d i e = ap (find p) whole ∙ find_at (λ (x : A). x) p (λ (x : A). true) [] d xs i e
 
-  abbrev Left : ℕ → Option Tombstone
-  Left j = find (has_prefix prefix) (drop j T)
-
-  -- j tombstones seen, and nothing written yet
-  pub record Searching (a : List ℕ) (k j : ℕ) (x : List ℕ) (m : ℕ) : Type 0 where
-    pub within : j ≤ g
-    pub left : Left 0 ≡ Left j
-    pub area : x ≡ a
-    pub size : length x ≡ length a
-    pub count : m ≡ k
-
-  pub search_start : (a : List ℕ) (k : ℕ) → Searching a k 0 a k
-  search_start a k = record { within = omega arith; left = refl; area = refl; size = refl; count = refl }
-
-module _ (tombs : List ℕ) (g : ℕ) (prefix : List ℕ) (fits : g * 44 ≤ length tombs) where
-  abbrev Ts : List Tombstone
-  Ts = table_of tombstone_codec g tombs
-
-  abbrev From : ℕ → Option Tombstone
-  From = Left tombs g prefix
-
-  length_tombs : held (length tombs) 44 g ≡ g
-  length_tombs = held_all (length tombs) 44 g (omega arith) fits
-
-  -- the tombstone at j has the prefix, or the search goes on behind it
-  pub tomb_next : (j : ℕ) (b d : Bool) → j < g → d ≡ same_bytes (part tombs (j * 44 + 8) 8) prefix → d ≡ b
-      → From j ≡ cond b (Some (tombstone_of (part tombs (j * 44) 44))) (From (j + 1))
-  unfolding find tombstone_of
-  tomb_next j b d h e f =
-      let t : take 8 (part (part tombs (j * 44) 44) 8 16) ≡ part tombs (j * 44 + 8) 8 = front (part tombs (j * 44) 44) ∙ part_part tombs (j * 44) 44 8 8 (omega arith) in
-      ap (find (has_prefix prefix)) (table_next tombstone_codec g tombs j (omega (arith, length_tombs)))
-      ∙ ap (λ (z : Bool). cond z (Some (tombstone_of (part tombs (j * 44) 44))) (From (j + 1))) (ap (λ (p : List ℕ). same_bytes p prefix) t ∙ sym e ∙ f)
-
-  pub tomb_end : (j : ℕ) → g ≤ j → From j ≡ None
+  find_none : position p xs ≡ None → find p xs ≡ None
   unfolding find
-  tomb_end j h = ap (find (has_prefix prefix)) (drop_of_length-le Ts {i = j} (omega (arith, length_table tombstone_codec g tombs, length_tombs)))
+  find_none e = ap (find p) whole ∙ find_past (λ (x : A). x) p (λ (x : A). true) [] xs 0 e
+
+-- the tombstones, and the one at the place that is found
+module _ (count : ℕ) (tombs prefix : List ℕ) (l : length prefix ≡ 8) (f : Option ℕ)
+    (e : f ≡ position (has_key 8 prefix) (rows 44 (held (length tombs) 44 count) tombs)) where
+  abbrev Ts : List Tombstone
+  Ts = table_of tombstone_codec count tombs
+
+  no_tombstone : Tombstone
+  no_tombstone = tombstone_of []
+
+  key_prefix : (b : List ℕ) → has_key 8 prefix b ≡ has_prefix prefix (tombstone_of b)
+  unfolding tombstone_of part
+  key_prefix b = key_run 8 8 prefix b l ∙ ap (λ (p : List ℕ). same_bytes p prefix) (sym (take-take 8 16 (drop 8 b) (omega arith)))
+
+  found : f ≡ position (has_prefix prefix) Ts
+  found = table_find tombstone_codec count (held (length tombs) 44 count) tombs refl (has_key 8 prefix) (has_prefix prefix) key_prefix f e
+
+  module _ {j : ℕ} (h : f ≡ Some j) where
+    tomb_inside : j < held (length tombs) 44 count
+    tomb_inside =
+        omega (arith, (position_first (has_prefix prefix) Ts no_tombstone j (sym found ∙ h)).inside, length_table tombstone_codec count tombs)
+
+    pub tomb_row : j * 44 + 44 ≤ length tombs
+    tomb_row = omega (arith, tomb_inside, held_inside (length tombs) 44 count)
+
+    tomb_there : {t : Tombstone} → t ≡ tombstone_of (part tombs (j * 44) 44) → find (has_prefix prefix) Ts ≡ Some t
+    tomb_there et =
+        find_some (has_prefix prefix) Ts no_tombstone j (sym found ∙ h) ∙ ap Some (get_d_table tombstone_codec count tombs j no_tombstone tomb_inside ∙ sym et)
 
   module _ (a : List ℕ) (k : ℕ) where
-    module _ {j : ℕ} {x : List ℕ} {m : ℕ} (S : Searching tombs g prefix a k j x m) where
-      pub search_next : {d : Bool} → j < g → d ≡ same_bytes (part tombs (j * 44 + 8) 8) prefix → d ≡ false → Searching tombs g prefix a k (j + 1) x m
-      search_next {d} h e f = record {
-        within = omega arith;
-        left = S.left ∙ tomb_next j false d h e f;
-        area = S.area;
-        size = S.size;
-        count = S.count;
-      }
+    abbrev Now : ℕ → List ℕ → Type 0
+    Now n y = Appended 40 a k (map reply_bytes (tomb_for Ts prefix)) n y
 
-      abbrev Now : ℕ → List ℕ → Type 0
-      Now n y = Appended 40 a k (map reply_bytes (tomb_for Ts prefix)) n y
+    pub tomb_none : f ≡ None → Now k a
+    unfolding tomb_for
+    tomb_none h = rw (find_none (has_prefix prefix) Ts (sym found ∙ h)) (append_none 40 a k)
 
-      pub search_miss : g ≤ j → Now m x
-      unfolding tomb_for
-      search_miss h = rw (S.area, S.count, S.left ∙ tomb_end j h) (append_none 40 a k)
-
-      pub search_hit : {d : Bool} {y : List ℕ} → j < g → d ≡ same_bytes (part tombs (j * 44 + 8) 8) prefix → d ≡ true → k * 40 + 40 ≤ length a
-          → y ≡ splice x (m * 40) (reply_bytes (tomb_of (tombstone_of (part tombs (j * 44) 44)))) → Now (m + 1) y
-      unfolding tomb_for tombstone_of
-      search_hit {d} {y} h e f r ey =
-          let p : List ℕ = part tombs (j * 44) 44 in
-          let q : length p ≡ 44 = length_part tombs (j * 44) 44 (omega arith) in
-          rw (S.count, S.left ∙ tomb_next j true d h e f) (append_one 40 a y (reply_bytes (tomb_of (tombstone_of p))) k
-          (length_tomb (part p 8 16) (part p 24 16) (length_part p 8 16 (omega arith)) (length_part p 24 16 (omega arith))) r
-          (ey ∙ ap₂ (λ (z : List ℕ) (i : ℕ). splice z (i * 40) (reply_bytes (tomb_of (tombstone_of p)))) S.area S.count))
+    pub tomb_put : {j : ℕ} → f ≡ Some j → {y : List ℕ} {t : Tombstone} → t ≡ tombstone_of (part tombs (j * 44) 44) → length t.tag ≡ 16 → length t.s ≡ 16
+        → k * 40 + 40 ≤ length a → y ≡ splice a (k * 40) (reply_bytes (tomb_reply t.tag t.s)) → Now (k + 1) y
+    unfolding tomb_for
+    tomb_put h {y} {t} et lt ls r ey =
+        rw (tomb_there h et) (append_one 40 a y (reply_bytes (tomb_reply t.tag t.s)) k (length_tomb t.tag t.s lt ls) r ey)
 
 -- ---- the walk through the listed prefixes: of each comes a list of replies
 

@@ -1,6 +1,6 @@
 -- The call inventory of ours: what is written is the model's list, and each way out is the model's step.
 -- Assumes nothing.
-use Rattle.std.proofs.Common.{◌≡◌, ℕ, ◌+◌, ◌*◌, ◌<◌, ◌≤◌, Bool, true, false, cond, not, List, [], ◌∷◌, map, length, take, sym, refl, ap, ◌∙◌, ap₂, zero-add, arith, length-take-le, le-ltb, lt-ltb, Result, Ok, Err}
+use Rattle.std.proofs.Common.{◌≡◌, ℕ, ◌+◌, ◌*◌, ◌<◌, ◌≤◌, Bool, true, false, cond, not, List, [], ◌∷◌, map, length, take, sym, refl, ap, ◌∙◌, ap₂, zero-add, arith, length-take-le, le-ltb, lt-ltb, Option, Some, None, Result, Ok, Err}
 use mathlib.Core.List.{flat_map}
 use Rattle.octets.specs.Bytes.{splice}
 use Rattle.courier_core.specs.declared.ContactId.{ContactId}
@@ -30,15 +30,15 @@ use Rattle.inventory.proofs.FillLaws.{map_flat, flat_same, Filling, filling_next
 
 -- ---- a row's prefix
 
-module _ (a x : List ℕ) (k : ℕ) (row : Row) where
-  pub prefix_put : row.goes ≡ true → length row.tag ≡ 16 → k * 8 + 8 ≤ length a → x ≡ splice a (k * 8) (take 8 row.tag)
+module _ (a : List ℕ) (k : ℕ) {row : Option Row} where
+  pub prefix_put : (x : List ℕ) {r : Row} → row ≡ Some r → length r.tag ≡ 16 → k * 8 + 8 ≤ length a → x ≡ splice a (k * 8) (take 8 r.tag)
       → Appended 8 a k (prefix_for row) (k + 1) x
   unfolding prefix_for
-  prefix_put g l h e = rw g (append_one 8 a x (take 8 row.tag) k (length-take-le 8 row.tag (omega arith)) h e)
+  prefix_put x {r} is l h e = rw is (append_one 8 a x (take 8 r.tag) k (length-take-le 8 r.tag (omega arith)) h e)
 
-  pub prefix_none : row.goes ≡ false → Appended 8 a k (prefix_for row) k a
+  pub prefix_none : row ≡ None → Appended 8 a k (prefix_for row) k a
   unfolding prefix_for
-  prefix_none g = rw g (append_none 8 a k)
+  prefix_none is = rw is (append_none 8 a k)
 
 -- ---- the walk through the rows
 
@@ -53,7 +53,7 @@ module _ (peer : ContactId) (own carried : List ℕ) (n m : ℕ) (lent : List �
     total : length E ≡ n + m
     total = length_held (own_entry peer) carried_entry own carried n m fits_own fits_carried
 
-    pub listing_next : {j : ℕ} {y : List ℕ} {row : Row} → i < n + m → j * 8 ≤ length lent → row ≡ row_of (entry_at peer own n carried i)
+    pub listing_next : {j : ℕ} {y : List ℕ} {row : Option Row} → i < n + m → j * 8 ≤ length lent → row ≡ row_of (entry_at peer own n carried i)
         → Appended 8 x k (prefix_for row) j y → j ≤ k + 1 → Listing (i + 1) j y
     listing_next h room e A b =
         filling_next 8 prefix_of E lent 0 L (carried_entry no_carried) (omega (arith, total))
@@ -75,7 +75,7 @@ listed_are peer own carried =
     ap (map prefix) (envelopes_sent peer own carried) ∙ map_flat sent prefix (entries peer own carried)
     ∙ flat_same (λ (e : Entry). map prefix (sent e)) prefix_of (λ e. go e.goes e.envelope) (entries peer own carried)
   where
-    go : (b : Bool) (e : Envelope) → map prefix (cond b (e ∷ []) []) ≡ cond b (prefix e ∷ []) []
+    go : (b : Bool) (e : Envelope) → map prefix (cond b (e ∷ []) []) ≡ prefix_for (cond b (Some (record { tag = e.head.tag; copies = e.head.copies })) None)
     go true e = refl
     go false e = refl
 

@@ -15,7 +15,6 @@ use Rattle.rows.specs.declared.Device.{Device}
 use Rattle.rows.specs.declared.Exchange.{Exchange}
 use Rattle.rows.specs.declared.Own.{Own}
 use Rattle.rows.specs.declared.Carried.{Carried}
-use Rattle.rows.specs.declared.BadTag.{BadTag}
 use Rattle.rows.specs.declared.Tombstone.{Tombstone}
 use Rattle.rows.specs.declared.Reply.{Reply}
 use Rattle.rows.specs.Rows.{own_codec, carried_codec, tombstone_codec, bad_tag_codec, reply_bytes}
@@ -33,7 +32,7 @@ use Rattle.offers.specs.Offers.{ListsOffers, halves_of, WritesOffers}
 use Rattle.offers.proofs.AppendLaws.{append_then}
 use Rattle.offers.proofs.SentLaws.{offers_sent, searched_counted}
 use Rattle.inventory.specs.declared.Lookup.{Lookup}
-use Rattle.inventory.specs.declared.Received.{Received}
+use Rattle.inventory.specs.declared.Said.{Said}
 use Rattle.inventory.specs.declared.Said.TheVariants as said
 use Rattle.inventory.specs.Inventory.{tombs, fetches, Answers, offers_of, searched_of, replies_for, completed_with, lengthened_to, Terminated, Lengthened, received_says, received_in, Reads}
 use Rattle.inventory.proofs.TestLaws.{first_refused, first_passed, Tests}
@@ -42,11 +41,11 @@ use Rattle.inventory.proofs.TestLaws.{first_refused, first_passed, Tests}
 
 module _ (e : Exchange) (fs ms : List Reply) (es : List Envelope) (n : ℕ) (replies x y z offers w : List ℕ) (f t : ℕ) where
   -- three lists of replies, one behind the other
-  terminated : (r : Received) (k c : ℕ) → Appended 40 replies 0 (map reply_bytes fs) f x → Appended 40 x f (map reply_bytes ms) t y
-      → WritesOffers es y t offers k z c w → t * 40 ≤ length replies → r.exchange ≡ completed_with e c → r.said ≡ Ok (said.Done k n)
-      → Terminated e (fs ++ ms ++ map reply_for es) es n replies offers r z w
+  terminated : (e' : Exchange) (r : Said) (k c : ℕ) → Appended 40 replies 0 (map reply_bytes fs) f x → Appended 40 x f (map reply_bytes ms) t y
+      → WritesOffers es y t offers k z c w → t * 40 ≤ length replies → e' ≡ completed_with e c → r ≡ said.Done k n
+      → Terminated e (fs ++ ms ++ map reply_for es) es n replies offers e' r z w
   unfolding with_table
-  terminated r k c F T A h ex sa =
+  terminated e' r k c F T A h ex sa =
       let s : map reply_bytes fs ++ map reply_bytes ms ++ map reply_bytes (map reply_for es) ≡ map reply_bytes (fs ++ ms ++ map reply_for es) =
       ap (λ (l : List (List ℕ)). l ++ map reply_bytes (map reply_for es)) (sym (map-append reply_bytes fs ms)) ∙ sym (map-append reply_bytes (fs ++ ms) (map reply_for es)) in
       let both : Appended 40 replies 0 (map reply_bytes fs ++ map reply_bytes ms) t y = append_then 40 F T h in
@@ -54,21 +53,21 @@ module _ (e : Exchange) (fs ms : List Reply) (es : List Envelope) (n : ℕ) (rep
       rw (sym s) (append_then 40 both A.rows (omega (arith, A.room, both.size))) in
       record {
         exchange = ex ∙ ap (completed_with e) A.table.count;
-        said = sa ∙ ap (λ (m : ℕ). Ok (said.Done m n)) (all.count ∙ zero-add _ ∙ length-map (fs ++ ms ++ map reply_for es) reply_bytes);
+        said = sa ∙ ap (λ (m : ℕ). said.Done m n) (all.count ∙ zero-add _ ∙ length-map (fs ++ ms ++ map reply_for es) reply_bytes);
         rows = all.area ∙ sym (written_splice replies (map reply_bytes (fs ++ ms ++ map reply_for es)));
         table = A.table.area;
       }
 
 -- what the call writes, by what the lookup has and by the rows held
 module _ (e : Exchange) (v : Lookup) (own : List Own) (carried : List Carried) (ls : List (List ℕ)) (replies offers : List ℕ) where
-  pub answered : {r : Received} {x y z w : List ℕ} {f t k c a : ℕ} {flags fs : List Bool} → Appended 40 replies 0 (map reply_bytes (flat_map (fetches v) ls)) f x
+  pub answered : {e' : Exchange} {r : Said} {x y z w : List ℕ} {f t k c a : ℕ} {flags fs : List Bool} → Appended 40 replies 0 (map reply_bytes (flat_map (fetches v) ls)) f x
       → Appended 40 x f (map reply_bytes (flat_map (tomb_for (tombs v)) ls)) t y → ListsOffers (tombs v) ls (entries v.peer own carried) flags a fs
-      → WritesOffers (halves_of fs (held_envelopes own carried)) y t offers k z c w → t * 40 ≤ length replies → r.exchange ≡ completed_with e c → r.said ≡ Ok (said.Done k a)
-      → Answers e v own carried ls replies offers r z w
-  answered {r} {x} {y} {z} {w} {f} {t} {k} {c} {a} {flags} {fs} F T L W h ex sa =
-      terminated e (flat_map (fetches v) ls) (flat_map (tomb_for (tombs v)) ls) (offers_of v.peer (tombs v) ls own carried) (length (searched_of v.peer ls own carried)) replies x y z offers w f t r k c F T
+      → WritesOffers (halves_of fs (held_envelopes own carried)) y t offers k z c w → t * 40 ≤ length replies → e' ≡ completed_with e c → r ≡ said.Done k a
+      → Answers e v own carried ls replies offers e' r z w
+  answered {e'} {r} {x} {y} {z} {w} {f} {t} {k} {c} {a} {flags} {fs} F T L W h ex sa =
+      terminated e (flat_map (fetches v) ls) (flat_map (tomb_for (tombs v)) ls) (offers_of v.peer (tombs v) ls own carried) (length (searched_of v.peer ls own carried)) replies x y z offers w f t e' r k c F T
       (subst (λ (es : List Envelope). WritesOffers es y t offers k z c w) (offers_sent v.peer own carried (tombs v) ls a fs L) W) h ex
-      (sa ∙ ap (λ (m : ℕ). Ok (said.Done k m)) (searched_counted v.peer own carried (tombs v) ls a fs L))
+      (sa ∙ ap (λ (m : ℕ). said.Done k m) (searched_counted v.peer own carried (tombs v) ls a fs L))
 
 -- ---- more prefixes
 
@@ -87,10 +86,10 @@ module _ (e : Exchange) (prefixes : List ℕ) (l : ℕ) (v : List ℕ) (whole : 
   joined : Ls ≡ rows 8 l prefixes ++ rows 8 (length v / 8) v
   joined = ap₂ (λ (x y : List (List ℕ)). x ++ y) (prefixes_are prefixes l l (held_all (length prefixes) 8 l (omega arith) (omega arith))) (more_listed v)
 
-  pub lengthens : (r : Received) (k : ℕ) (x : List ℕ) → k ≡ l + length v / 8 → r.exchange ≡ lengthened_to e k → r.said ≡ Ok (said.Done 0 0)
-      → x ≡ splice prefixes (l * 8) v → Lengthened e Ls prefixes r x
+  pub lengthens : (e' : Exchange) (k : ℕ) (x : List ℕ) → k ≡ l + length v / 8 → e' ≡ lengthened_to e k
+      → x ≡ splice prefixes (l * 8) v → Lengthened e Ls prefixes e' x
   unfolding with_table
-  lengthens r k x ek ex sa h =
+  lengthens e' k x ek ex h =
       let n : k ≡ length Ls =
       omega (arith, ap length joined, length-append (rows 8 l prefixes) (rows 8 (length v / 8) v), length_rows 8 l prefixes, length_rows 8 (length v / 8) v) in
       let j : join (rows 8 l prefixes ++ rows 8 (length v / 8) v) ≡ take (l * 8) prefixes ++ v =
@@ -98,7 +97,6 @@ module _ (e : Exchange) (prefixes : List ℕ) (l : ℕ) (v : List ℕ) (whole : 
       ∙ ap₂ (λ (y z : List ℕ). y ++ z) (join_rows 8 l prefixes) (join_rows 8 (length v / 8) v ∙ take_all (length v / 8 * 8) v (omega arith)) in
       record {
         exchange = ex ∙ ap (lengthened_to e) n;
-        said = sa;
         table = h ∙ splice_written prefixes v (l * 8) (rows 8 l prefixes ++ rows 8 (length v / 8) v) (omega arith) j
             ∙ ap (written prefixes) (sym joined ∙ sym (map-id Ls));
       }
@@ -112,8 +110,8 @@ module _ (d : Device) (peer : ContactId) (own carried tombs bad window v : List 
   abbrev S : State
   S = view (B e prefixes area)
 
-  abbrev Says : Outcome → Received → List ℕ → List ℕ → List ℕ → Type 0
-  Says o r p os back = Written received_says o r.said (B e prefixes area) (B r.exchange p os) (replies_lent lent) (replies_lent back)
+  abbrev Says : Outcome → Result Said Refusal → Exchange → List ℕ → List ℕ → List ℕ → Type 0
+  Says o r e' p os back = Written received_says o r (B e prefixes area) (B e' p os) (replies_lent lent) (replies_lent back)
 
   abbrev O : Outcome
   O = receive_inventory S (window_rows window) peer (prefix_rows v)
@@ -130,7 +128,7 @@ module _ (d : Device) (peer : ContactId) (own carried tombs bad window v : List 
     unfolding too_many view view_session
     many_are = ap₂ (λ (x y : ℕ). e.complete || ltb 512 (x + y)) size more
 
-    pub says_malformed : (e.complete || ltb 512 (l + length v / 8)) ≡ true → Says O (record { exchange = e; said = Ok said.Malformed }) prefixes area lent
+    pub says_malformed : (e.complete || ltb 512 (l + length v / 8)) ≡ true → Says O (Ok said.Malformed) e prefixes area lent
     unfolding receive_inventory store store_device store_session
     says_malformed h = quiet_call malformed nothing (rw (many_are ∙ h)) refl refl
 
@@ -159,30 +157,31 @@ module _ (d : Device) (peer : ContactId) (own carried tombs bad window v : List 
       abbrev Cs : List Carried
       Cs = table_of carried_codec d.carried carried
 
-      -- the terminator is answered, by these bad tags, tombstones, prefixes and rows
-      abbrev Ended : Received → List ℕ → List ℕ → List BadTag → List Tombstone → List (List ℕ) → List Own → List Carried → Type 0
-      Ended r w back bs ts ls os cs =
-          Terminated e (replies_for bs (window_rows window) peer ts ls (offers_of peer ts ls os cs)) (offers_of peer ts ls os cs) (length (searched_of peer ls os cs)) lent area r back w
+      -- the terminator is answered, by these prefixes and rows
+      abbrev Ended : Exchange → Said → List ℕ → List ℕ → List (List ℕ) → List Own → List Carried → Type 0
+      Ended e' r w back ls os cs =
+          Terminated e (replies_for (table_of bad_tag_codec d.bad_tags bad) (window_rows window) peer Tombs ls (offers_of peer Tombs ls os cs)) (offers_of peer Tombs ls os cs)
+          (length (searched_of peer ls os cs)) lent area e' r back w
 
-      pub says_answered : (r : Received) (w back : List ℕ) {bs : List BadTag} {ts : List Tombstone} {os : List Own} {cs : List Carried} → length v / 8 ≡ 0
-          → bs ≡ table_of bad_tag_codec d.bad_tags bad → ts ≡ Tombs → os ≡ Os → cs ≡ Cs → Ended r w back bs ts Before os cs → Says O r prefixes w back
+      pub says_answered : (e' : Exchange) (r : Said) (w back : List ℕ) {os : List Own} {cs : List Carried} → length v / 8 ≡ 0
+          → os ≡ Os → cs ≡ Cs → Ended e' r w back Before os cs → Says O (Ok r) e' prefixes w back
       unfolding answer_inventory offers searched_rows view view_session store store_device store_session answer_areas with_table written join splice
-      says_answered r w back z eb et eo ec T =
-          let G : Ended r w back (table_of bad_tag_codec d.bad_tags bad) Tombs S.session.exchange.listed Os Cs =
-          rw (sym eb, sym et, sym eo, sym ec, sym before_is) T in
+      says_answered e' r w back z eo ec T =
+          let G : Ended e' r w back S.session.exchange.listed Os Cs = rw (sym eo, sym ec, sym before_is) T in
           rw (answers z) (record {
-            answer = G.said;
+            answer = ap Ok G.said;
             areas = ap₂ (λ (x : Exchange) (o : List ℕ). B x prefixes o) G.exchange G.table;
             answers = ap replies_lent G.rows;
           })
 
-      pub says_listed : (r : Received) (p : List ℕ) → (length v / 8 ≡ 0 → ⊥) → Lengthened e (Before ++ prefix_rows v) prefixes r p → Says O r p area lent
+      pub says_listed : (e' : Exchange) (p : List ℕ) → (length v / 8 ≡ 0 → ⊥) → Lengthened e (Before ++ prefix_rows v) prefixes e' p
+          → Says O (Ok (said.Done 0 0)) e' p area lent
       unfolding list_more view view_session store store_device store_session answer_areas with_table written join splice
-      says_listed r p z L =
-          let G : Lengthened e (S.session.exchange.listed ++ prefix_rows v) prefixes r p =
-          subst (λ (ls : List (List ℕ)). Lengthened e (ls ++ prefix_rows v) prefixes r p) before_is L in
+      says_listed e' p z L =
+          let G : Lengthened e (S.session.exchange.listed ++ prefix_rows v) prefixes e' p =
+          subst (λ (ls : List (List ℕ)). Lengthened e (ls ++ prefix_rows v) prefixes e' p) before_is L in
           rw (lists z) (record {
-            answer = G.said;
+            answer = refl;
             areas = ap₂ (λ (x : Exchange) (q : List ℕ). B x q area) G.exchange G.table;
             answers = refl;
           })
@@ -199,10 +198,10 @@ module _ (d : Device) (peer : ContactId) (own carried tombs bad window v : List 
     abbrev Ts : List (Bool × Refusal)
     Ts = receive_inventory_tests S (length lent) window peer v
 
-    pub says_refused : {why : Refusal} → t ≡ Err why → Says (step S C) (record { exchange = e; said = Err why }) prefixes area lent
+    pub says_refused : {why : Refusal} → t ≡ Err why → Says (step S C) (Err why) e prefixes area lent
     unfolding step step_of tests perform
     says_refused {why} q = refused_call why (first_refused (λ (w : Refusal). only (refused w)) O Ts (sym q ∙ T S reads)) refl refl
 
-    pub says_performed : {r : Received} {p os back : List ℕ} → t ≡ Ok tt → Says O r p os back → Says (step S C) r p os back
+    pub says_performed : {r : Result Said Refusal} {e' : Exchange} {p os back : List ℕ} → t ≡ Ok tt → Says O r e' p os back → Says (step S C) r e' p os back
     unfolding step step_of tests perform
     says_performed q W = rw (first_passed (λ (w : Refusal). only (refused w)) O Ts (sym q ∙ T S reads)) W

@@ -1,6 +1,6 @@
 -- What the calls of the inventory say, by the model's definitions.
 -- Assumes nothing.
-use Rattle.std.specs.Prelude.{◌≡◌, ℕ, true, cond, List, [], ◌∷◌, ◌++◌, map, length, Option, Some, None, Result, Ok, Err}
+use Rattle.std.specs.Prelude.{◌≡◌, ℕ, ◌+◌, ◌==◌, true, cond, List, [], ◌∷◌, ◌++◌, map, length, Option, Some, None, Result, Ok, Err}
 use mathlib.Core.List.{flat_map}
 use Rattle.courier_core.specs.declared.ContactId.{ContactId}
 use Rattle.courier_core.specs.declared.Refusal.{Refusal}
@@ -18,22 +18,24 @@ use Rattle.rows.specs.Rows.{contact_codec, tombstone_codec, bad_tag_codec, offer
 use Rattle.model.specs.Basics.{trunc8}
 use Rattle.model.specs.State.{State}
 use Rattle.model.specs.Window.{window_rows, prefix_codec}
-use Rattle.model.specs.Calls.{Answer, Result as Outcome, refused, malformed, done, ours, found, missing, own_row, no_envelope, wrote, fetch_reply, tomb_reply}
+use Rattle.model.specs.Calls.{Answer, Result as Outcome, refused, malformed, done, ours, found, missing, own_row, no_envelope, wrote, fetch_reply}
 use Rattle.model.specs.Areas.{Areas}
-use Rattle.model.specs.Exchange.{Envelope, envelopes, reply_for, in_question, is_offered, halved, insert_offers, fetch_for, tomb_for, searched_count}
+use Rattle.model.specs.Exchange.{Envelope, envelopes, reply_for, in_question, is_offered, halved, offers, insert_offers, fetch_for, tomb_for, searched_count}
 use Rattle.model.specs.Lent.{device_in, contacts_in, own_in, carried_in, tombstones_in, bad_tags_in, exchange_in}
+use Rattle.contacts.specs.Lends.{exchange_of}
 use Rattle.offers.specs.declared.Row.{Row}
-use Rattle.offers.specs.Areas.{rows_of}
+use Rattle.table.specs.Tables.{rows_in}
 use Rattle.offers.specs.Entries.{Entry, row_of}
-use Rattle.inventory.specs.declared.Received.{Received}
 use Rattle.inventory.specs.declared.Said.{Said}
 use Rattle.inventory.specs.declared.Said.TheVariants as said
 use Rattle.inventory.specs.declared.Lookup.{Lookup}
 
 -- ---- inventory of ours
 
-unfoldable pub prefix_for : Row → List (List ℕ)
-prefix_for r = cond r.goes (trunc8 r.tag ∷ []) []
+-- the prefix of a row, if one may go
+unfoldable pub prefix_for : Option Row → List (List ℕ)
+prefix_for (Some r) = trunc8 r.tag ∷ []
+prefix_for None = []
 
 abbrev pub prefix_of : Entry → List (List ℕ)
 prefix_of e = prefix_for (row_of e)
@@ -61,18 +63,15 @@ held_in d contacts own carried a = device_in d (contacts_in contacts (own_in own
 
 -- the tombstones, and the fetches of a listed prefix
 abbrev pub tombs : Lookup → List Tombstone
-tombs x = rows_of tombstone_codec x.tombstones
+tombs x = rows_in tombstone_codec x.tombstones
 
 abbrev pub fetches : Lookup → List ℕ → List Reply
-fetches x = fetch_for (rows_of bad_tag_codec x.bad_tags) (tombs x) (window_rows x.window.now) x.peer
+fetches x = fetch_for (rows_in bad_tag_codec x.bad_tags) (tombs x) (window_rows x.window.now) x.peer
 
 -- the fetch of a tag, if there is one
 abbrev pub fetch_of : Option (List ℕ) → List Reply
 fetch_of (Some tag) = fetch_reply tag ∷ []
 fetch_of None = []
-
-abbrev pub tomb_of : Tombstone → Reply
-tomb_of t = tomb_reply t.tag t.s
 
 -- half of each envelope that is offered, and the envelopes for which the tombstones are searched
 abbrev pub offers_of : ContactId → List Tombstone → List (List ℕ) → List Own → List Carried → List Envelope
@@ -94,22 +93,21 @@ abbrev pub lengthened_to : Exchange → ℕ → Exchange
 lengthened_to e listed = record { peer = e.peer; complete = e.complete; listed = listed; offered = e.offered }
 
 -- the terminator is answered: with the replies rs and the offers of es, the tombstones searched for so many rows
-pub record Terminated (e : Exchange) (rs : List Reply) (es : List Envelope) (searched : ℕ) (replies offers : List ℕ) (r : Received) (replies' offers' : List ℕ) : Type 0 where
-  pub exchange : r.exchange ≡ completed_with e (length (insert_offers es []))
-  pub said : r.said ≡ Ok (said.Done (length rs) searched)
+pub record Terminated (e : Exchange) (rs : List Reply) (es : List Envelope) (searched : ℕ) (replies offers : List ℕ) (e' : Exchange) (r : Said) (replies' offers' : List ℕ) : Type 0 where
+  pub exchange : e' ≡ completed_with e (length (insert_offers es []))
+  pub said : r ≡ said.Done (length rs) searched
   pub rows : replies' ≡ with_table reply_codec replies rs
   pub table : offers' ≡ with_table offer_codec offers (insert_offers es [])
 
 -- the same, by what a lookup has and by the rows held
-abbrev pub Answers : Exchange → Lookup → List Own → List Carried → List (List ℕ) → (replies offers : List ℕ) → Received → (replies' offers' : List ℕ) → Type 0
+abbrev pub Answers : Exchange → Lookup → List Own → List Carried → List (List ℕ) → (replies offers : List ℕ) → Exchange → Said → (replies' offers' : List ℕ) → Type 0
 Answers e x own carried ls =
-    Terminated e (replies_for (rows_of bad_tag_codec x.bad_tags) (window_rows x.window.now) x.peer (tombs x) ls (offers_of x.peer (tombs x) ls own carried))
+    Terminated e (replies_for (rows_in bad_tag_codec x.bad_tags) (window_rows x.window.now) x.peer (tombs x) ls (offers_of x.peer (tombs x) ls own carried))
     (offers_of x.peer (tombs x) ls own carried) (length (searched_of x.peer ls own carried))
 
 -- the prefixes ls are listed now
-pub record Lengthened (e : Exchange) (ls : List (List ℕ)) (prefixes : List ℕ) (r : Received) (prefixes' : List ℕ) : Type 0 where
-  pub exchange : r.exchange ≡ lengthened_to e (length ls)
-  pub said : r.said ≡ Ok (said.Done 0 0)
+pub record Lengthened (e : Exchange) (ls : List (List ℕ)) (prefixes : List ℕ) (e' : Exchange) (prefixes' : List ℕ) : Type 0 where
+  pub exchange : e' ≡ lengthened_to e (length ls)
   pub table : prefixes' ≡ with_table prefix_codec prefixes ls
 
 -- ---- the call
@@ -139,3 +137,11 @@ pub record Reads (s : State) (d : Device) (area : List ℕ) (to : Option Contact
   pub peer : s.session.exchange.peer ≡ to
   pub prefix_area : s.session.prefix_area ≡ prefixes
   pub offer_area : s.session.offer_area ≡ offers
+
+-- what the call leaves that is done, where the exchange e stood and the model's state was s: the empty list, which ends it, sets the flag, takes the listed
+-- prefixes out and counts the offers; any other list adds its prefixes to the count of those before it
+unfoldable pub inventory_leaves : ContactId → (listed : List (List ℕ)) → Exchange → State → Exchange
+inventory_leaves peer listed e s =
+    cond (length listed == 0)
+    (exchange_of e.peer true 0 (length (insert_offers (offers s peer) [])))
+    (exchange_of e.peer e.complete (length s.session.exchange.listed + length listed) e.offered)

@@ -4,48 +4,71 @@
 ghost use Rattle.std.specs.Prelude.{◌≡◌, ◌+◌, ◌*◌, ◌/◌, ◌%◌, ◌<◌, ◌≤◌, min, not, ◌||◌, ◌++◌, map, length, take, nat_lt};
 ghost use mathlib.Core.List.{flat_map};
 ghost use Rattle.courier_core.specs.Core.{first_of};
-ghost use Rattle.octets.specs.Bytes.{part, splice};
+ghost use Rattle.octets.specs.Bytes.{splice};
 ghost use Rattle.table.specs.Rows.{ragged};
 ghost use Rattle.table.specs.Codec.{table_of};
 ghost use Rattle.table.specs.Tables.{rows_in};
-ghost use Rattle.rows.specs.Rows.{tombstone_codec, tombstone_of, contact_codec, reply_bytes};
+ghost use Rattle.rows.specs.Rows.{own_codec, carried_codec, tombstone_codec, contact_codec, reply_bytes};
 ghost use Rattle.model.specs.State.{State};
 ghost use Rattle.model.specs.Calls.{inventory_of_ours, inventory_received};
 ghost use Rattle.model.specs.Contacts.{known};
 ghost use Rattle.model.specs.Window.{window_rows, prefix_rows, prefix_codec, wrong_window, strangers};
 ghost use Rattle.model.specs.Exchange.{tomb_for, receive_inventory_tests};
 ghost use Rattle.model.specs.Lent.{Does, replies_lent, bytes_lent};
+ghost use Rattle.contacts.specs.Lends.{Lends};
 ghost use Rattle.offers.specs.Appended.{Appended};
 ghost use Rattle.offers.specs.Areas.{rows_of, how_many, own_of, carried_of};
 ghost use Rattle.offers.specs.Entries.{entries};
-ghost use Rattle.inventory.specs.Inventory.{prefix_for, prefix_of, inventory_says, held_in, fetch_of, fetches, tomb_of, Answers, Lengthened, received_says, received_in, Reads};
+ghost use Rattle.inventory.specs.Inventory.{prefix_for, prefix_of, inventory_says, held_in, fetch_of, fetches, Answers, Lengthened, received_says, received_in, inventory_leaves, Reads};
 
 use courier_core::{ContactId, Refusal};
 use offers::{Held, Row, Rows};
 use rows::{
-    BAD_TAG_WIDTH, CONTACT_WIDTH, Device, Exchange, REACHABLE_WIDTH, REPLY_WIDTH, Row as _,
-    TOMBSTONE_WIDTH, Tombstone,
+    BAD_TAG_WIDTH, CARRIED_AREA, CONTACT_AREA, Device, Exchange, MAX_PREFIXES, MAX_ROWS, OWN_AREA,
+    PREFIX_AREA, PREFIX_WIDTH, REACHABLE_WIDTH, REPLY_WIDTH, Reachable, Row as _, TOMBSTONE_WIDTH,
+    Tombstone,
 };
 use table::Table;
 
-// Rows that are held, at most: 256 own and 256 carried ones.
-const MAX_ROWS: usize = 512;
+// ---- the rows held here
 
-const PREFIX_WIDTH: usize = 8;
+// The own rows and the carried rows: of each as many as the device counts, or as its area has room for.
+fn held_here<'a>(
+    device: Device,
+    own: &'a [u8; OWN_AREA],
+    carried: &'a [u8; CARRIED_AREA],
+) -> Held<'a>
+    ensures own { own_of result ≡ table_of own_codec device.own own.now }
+    ensures carried { carried_of result ≡ table_of carried_codec device.carried carried.now }
+    ensures few { how_many result ≤ 512 }
+{
+    Held {
+        own: Rows::fit(Table {
+            area: own,
+            count: device.own,
+        }),
+        carried: Rows::fit(Table {
+            area: carried,
+            count: device.carried,
+        }),
+    }
+}
 
 // ---- inventory of ours
-// (Here and below, prefixes and replies are written into lent areas, with the number of those that are there beside: no heap.)
+// (Prefixes and replies are written into lent areas, with the number of those that are there beside, in place of a Vec: the library has no heap.)
 
-// Writes a row's prefix, the first 8 bytes of its tag, behind the k that are there, if the row may go to the peer; answers how many there are then.
-fn push_prefix(prefixes: &mut [u8], k: usize, row: Row) -> usize
+// Writes the prefix of a row that may go to the peer, the first 8 bytes of its tag, behind the k that are there; answers how many there are then.
+fn push_prefix(prefixes: &mut [u8], k: usize, row: Option<Row>) -> usize
     requires { k * 8 + 8 ≤ length prefixes.old }
     ensures { Appended 8 prefixes.old k (prefix_for row) result prefixes.new × (result ≤ k + 1) }
 {
-    if row.goes {
-        octets::copy_in(prefixes, k * PREFIX_WIDTH, &row.tag[..PREFIX_WIDTH]);
-        return k + 1;
+    match row {
+        Some(row) => {
+            octets::copy_in(prefixes, k * PREFIX_WIDTH, &row.tag[..PREFIX_WIDTH]);
+            k + 1
+        }
+        None => k,
     }
-    k
 }
 
 // Writes the prefixes of the held rows; answers how many there are.
@@ -64,9 +87,9 @@ fn list_prefixes(held: &Held, peer: ContactId, prefixes: &mut [u8]) -> usize
 pub fn inventory(
     device: Device,
     peer: ContactId,
-    contacts: &[u8; 2304],
-    own: &[u8; 13824],
-    carried: &[u8; 14592],
+    contacts: &[u8; CONTACT_AREA],
+    own: &[u8; OWN_AREA],
+    carried: &[u8; CARRIED_AREA],
     prefixes: &mut [u8],
 ) -> Result<usize, Refusal>
     ensures { Does inventory_says (inventory_of_ours (length prefixes.old) peer) result
@@ -74,7 +97,7 @@ pub fn inventory(
         (held_in device contacts.now own.now carried.now)
         (bytes_lent prefixes.old) (bytes_lent prefixes.new) }
 {
-    if prefixes.len() < 4096 {
+    if prefixes.len() < PREFIX_AREA {
         return Err(Refusal::ShortArea);
     }
     let contacts = Table {
@@ -84,49 +107,33 @@ pub fn inventory(
     if !contacts::known(contacts, peer) {
         return Err(Refusal::UnknownContact);
     }
-    let held = Held {
-        own: Rows::fit(Table {
-            area: own,
-            count: device.own,
-        }),
-        carried: Rows::fit(Table {
-            area: carried,
-            count: device.carried,
-        }),
-    };
+    let held = held_here(device, own, carried);
     Ok(list_prefixes(&held, peer, prefixes))
 }
 
 // ---- what a listed prefix is answered with
 
-// Where a listed prefix is looked up for the peer.
+// Where a listed prefix is looked up for the peer. (A lifetime for each area: a literal that has one for areas of three lifetimes gets no generated proof.)
 #[derive(Clone, Copy)]
-struct Lookup<'a> {
+struct Lookup<'w, 'b, 't> {
     peer: ContactId,
-    window: &'a [u8],
-    bad_tags: Rows<'a, BAD_TAG_WIDTH>,
-    tombstones: Rows<'a, TOMBSTONE_WIDTH>,
+    window: &'w [u8],
+    bad_tags: Table<'b, BAD_TAG_WIDTH>,
+    tombstones: Table<'t, TOMBSTONE_WIDTH>,
 }
 
-impl<'a> Lookup<'a> {
+impl Lookup<'_, '_, '_> {
     // The tag of the first window row with the prefix, if it is neither bad for the peer nor a tombstone's.
+    #[tactic(auto, using(crate::proofs::ListedLaws::window_row))]
     fn tag_to_fetch(&self, prefix: [u8; 8]) -> Option<[u8; 16]>
         ensures { fetch_of result ≡ fetches self.now prefix }
     {
         let i = custody::lookup_prefix(self.window, prefix)?;
-        let tag = octets::get_array(self.window, i * REACHABLE_WIDTH + 14);
-        let bad_tags = Table {
-            area: self.bad_tags.area,
-            count: self.bad_tags.n,
-        };
-        let tombstones = Table {
-            area: self.tombstones.area,
-            count: self.tombstones.n,
-        };
-        if custody::is_bad(bad_tags, self.peer, tag) {
+        let tag = octets::get_array(self.window, i * REACHABLE_WIDTH + Reachable::TAG);
+        if custody::is_bad(self.bad_tags, self.peer, tag) {
             return None;
         }
-        if tombstones::tombstoned(tombstones, tag) {
+        if tombstones::tombstoned(self.tombstones, tag) {
             return None;
         }
         Some(tag)
@@ -161,37 +168,43 @@ fn push_fetches(replies: &mut [u8], listed: Rows<PREFIX_WIDTH>, lookup: &Lookup)
     k
 }
 
-// Writes the tomb of the tombstone at a place.
-fn put_tomb_of(replies: &mut [u8], at: usize, tombstones: &[u8], from: usize)
-    requires { (at + 40 ≤ length replies.old) × (from + 44 ≤ length tombstones.now) }
-    ensures { replies.new ≡ splice replies.old at (reply_bytes (tomb_of (tombstone_of (part tombstones.now from 44)))) }
+// Writes the tomb of the first tombstone with the prefix, which is the one of lowest slot, if there is one, behind the k replies that are there;
+// answers how many there are then.
+fn push_tomb(
+    replies: &mut [u8],
+    k: usize,
+    tombstones: Table<TOMBSTONE_WIDTH>,
+    prefix: [u8; 8],
+) -> usize
+    requires { k * 40 + 40 ≤ length replies.old }
+    ensures { Appended 40 replies.old k (map reply_bytes (tomb_for (rows_in tombstone_codec tombstones.entry) prefix)) result replies.new × (result ≤ k + 1) }
 {
-    let row = Tombstone::read(tombstones, from);
-    answers::put_tomb(replies, at, row.tag, row.s);
+    match tombstones.find(Tombstone::TAG, &prefix) {
+        Some(j) => {
+            let row = Tombstone::read(tombstones.area, j * TOMBSTONE_WIDTH);
+            answers::put_tomb(replies, k * REPLY_WIDTH, row.tag, row.s);
+            k + 1
+        }
+        None => k,
+    }
 }
 
-// Writes the tombs for the listed prefixes behind the n replies that are there: for each the first tombstone with the prefix, which is
-// the one of lowest slot. Answers how many replies there are then.
+// Writes the tombs for the listed prefixes, in their order, behind the n replies that are there; answers how many replies there are then.
+// (A walk of its own, since all fetches come before the tombs; one function for both would take a closure that writes into an area which the walk lends it: no plainer.)
 fn push_tombs(
     replies: &mut [u8],
     n: usize,
     listed: Rows<PREFIX_WIDTH>,
-    tombstones: Rows<TOMBSTONE_WIDTH>,
+    tombstones: Table<TOMBSTONE_WIDTH>,
 ) -> usize
     requires { (n + listed.n) * 40 ≤ length replies.old }
-    ensures { Appended 40 replies.old n (map reply_bytes (flat_map (tomb_for (rows_of tombstone_codec tombstones.entry)) (rows_of prefix_codec listed.entry))) result replies.new
+    ensures { Appended 40 replies.old n (map reply_bytes (flat_map (tomb_for (rows_in tombstone_codec tombstones.entry)) (rows_of prefix_codec listed.entry))) result replies.new
         × (result ≤ n + listed.entry.n) }
 {
     let mut k = n;
     for i in 0..listed.n {
-        'search: for j in 0..tombstones.n {
-            let from = j * TOMBSTONE_WIDTH;
-            if octets::same(tombstones.area, from + 8, listed.area, i * PREFIX_WIDTH, 8) {
-                put_tomb_of(replies, k * REPLY_WIDTH, tombstones.area, from);
-                k += 1;
-                break 'search;
-            }
-        }
+        let prefix = octets::get_array(listed.area, i * PREFIX_WIDTH);
+        k = push_tomb(replies, k, tombstones, prefix);
     }
     k
 }
@@ -199,78 +212,70 @@ fn push_tombs(
 // ---- inventory received
 
 // What the call says: malformed, or how many replies there are and for how many rows the tombstones were searched.
-// (No Option: its None would not say malformed, which is an answer and no refusal.)
+// (No Option: its None would not say malformed, which is an answer and no refusal. Crate tombs has a `Said` of one number: over what `Done` holds, the two would be
+// one type in a crate below both, and say less at each call.)
 #[derive(Clone, Copy)]
 pub enum Said {
     Malformed,
     Done(usize, usize),
 }
 
-// The exchange after the call, and what the call says.
-#[derive(Drop)]
-pub struct Received {
-    pub exchange: Exchange,
-    pub said: Result<Said, Refusal>,
-}
-
 // Answers the terminator: fetches and tombs for the listed prefixes, then offers, and for how many rows the tombstones were searched. The listed prefixes are taken out.
 fn answer_inventory(
-    exchange: Exchange,
+    exchange: &mut Exchange,
     held: &Held,
     lookup: &Lookup,
     listed: Rows<PREFIX_WIDTH>,
     offers: &mut [u8],
     replies: &mut [u8],
-) -> Received
+) -> Said
     requires few { (how_many held.now ≤ 512) × (listed.n ≤ 512) }
     requires in_bounds { (8704 ≤ length offers.old) × (61440 ≤ length replies.old) }
-    ensures { Answers exchange lookup.now (own_of held.now) (carried_of held.now) (rows_of prefix_codec listed.entry) replies.old offers.old result replies.new offers.new }
+    ensures { Answers exchange.old lookup.now (own_of held.now) (carried_of held.now) (rows_of prefix_codec listed.entry) replies.old offers.old exchange.new result replies.new offers.new }
 {
     let f = push_fetches(replies, listed, lookup);
     let t = push_tombs(replies, f, listed, lookup.tombstones);
     let mut flags = [false; MAX_ROWS];
-    let searched = offers::list_offers(held, lookup.peer, listed, lookup.tombstones, &mut flags);
+    let tombstones = Rows::fit(lookup.tombstones);
+    let searched = offers::list_offers(held, lookup.peer, listed, tombstones, &mut flags);
     let sent = offers::write_offers(held, &flags, replies, t, offers);
-    Received {
-        exchange: Exchange {
-            complete: true,
-            listed: 0,
-            offered: sent.offers,
-            ..exchange
-        },
-        said: Ok(Said::Done(sent.replies, searched)),
-    }
+    exchange.complete = true;
+    exchange.listed = 0;
+    exchange.offered = sent.offers;
+    Said::Done(sent.replies, searched)
 }
 
 // Lists more prefixes behind the l that are there.
-fn list_more(exchange: Exchange, prefixes: &mut [u8], l: usize, listed: &[u8]) -> Received
+fn list_more(exchange: &mut Exchange, prefixes: &mut [u8], l: usize, listed: &[u8])
     requires { (length listed.now % 8 ≡ 0) × (l * 8 + length listed.now ≤ length prefixes.old) }
-    ensures { Lengthened exchange (table_of prefix_codec l prefixes.old ++ prefix_rows listed.now) prefixes.old result prefixes.new }
+    ensures { Lengthened exchange.old (table_of prefix_codec l prefixes.old ++ prefix_rows listed.now) prefixes.old exchange.new prefixes.new }
 {
     octets::copy_in(prefixes, l * PREFIX_WIDTH, listed);
-    Received {
-        exchange: Exchange {
-            listed: l + listed.len() / PREFIX_WIDTH,
-            ..exchange
-        },
-        said: Ok(Said::Done(0, 0)),
-    }
+    exchange.listed = l + listed.len() / PREFIX_WIDTH;
 }
 
-// 513 in all is malformed, and so is any inventory after the terminator.
+// More than `MAX_PREFIXES` in all are malformed, and so is any inventory after the terminator.
 fn too_many(complete: bool, l: usize, more: usize) -> bool
     requires { (l ≤ 512) × (more < 2305843009213693952) }
     ensures { result ≡ (complete || nat_lt 512 (l + more)) }
 {
-    complete || 512 < l + more
+    complete || MAX_PREFIXES < l + more
 }
 
 // ---- its refusals
 
-fn too_short(replies: usize, prefixes: usize, offers: usize) -> bool
-    ensures { result ≡ (nat_lt replies 61440 || (nat_lt prefixes 4096 || nat_lt offers 8704)) }
+// How long the areas are that the call needs room in.
+#[derive(Clone, Copy)]
+struct Room {
+    prefixes: usize,
+    offers: usize,
+    replies: usize,
+}
+
+fn too_short(room: Room) -> bool
+    ensures { result ≡ (nat_lt room.replies 61440 || (nat_lt room.prefixes 4096 || nat_lt room.offers 8704)) }
 {
-    replies < 61440 || prefixes < 4096 || offers < 8704
+    answers::short_replies(room.replies) || contacts::short_exchange(room.prefixes, room.offers)
 }
 
 fn wrong_rows(window: &[u8], listed: &[u8]) -> bool
@@ -279,14 +284,7 @@ fn wrong_rows(window: &[u8], listed: &[u8]) -> bool
     custody::wrong_window(window) || 0 < listed.len() % PREFIX_WIDTH
 }
 
-fn unknown(contacts: Table<CONTACT_WIDTH>, peer: ContactId, window: &[u8]) -> bool
-    ensures { result ≡ (not (known (rows_in contact_codec contacts.entry) peer)
-        || strangers (rows_in contact_codec contacts.entry) (window_rows window.now)) }
-{
-    !contacts::known(contacts, peer) || contacts::strangers(contacts, window)
-}
-
-// The first test that refuses the call, of areas of prefixes, of offers and of replies with so much room.
+// The first test that refuses the call.
 fn tested(
     device: Device,
     to: Option<ContactId>,
@@ -294,12 +292,12 @@ fn tested(
     contacts: &[u8],
     window: &[u8],
     listed: &[u8],
-    room: (usize, usize, usize),
+    room: Room,
 ) -> Result<(), Refusal>
-    ensures { (s : State) → Reads s device contacts.now to room.0 room.1
-        → result ≡ first_of (receive_inventory_tests s room.2 window.now peer listed.now) Err (Ok tt) }
+    ensures { (s : State) → Reads s device contacts.now to room.prefixes room.offers
+        → result ≡ first_of (receive_inventory_tests s room.replies window.now peer listed.now) Err (Ok tt) }
 {
-    if too_short(room.2, room.0, room.1) {
+    if too_short(room) {
         return Err(Refusal::ShortArea);
     }
     if wrong_rows(window, listed) {
@@ -309,7 +307,7 @@ fn tested(
         area: contacts,
         count: device.contacts,
     };
-    if unknown(contacts, peer, window) {
+    if custody::unknown(contacts, peer, window) {
         return Err(Refusal::UnknownContact);
     }
     if to != Some(peer) {
@@ -319,14 +317,14 @@ fn tested(
 }
 
 // A peer's list of prefixes: more of it are listed, and the empty list, which ends it, is answered with fetches, tombs and offers.
-// (As the C interface lends them, each area is a parameter.)
+// (A call is lent what the exported functions of crate goosetable are lent, each area and each value by itself.)
 pub fn receive_inventory(
+    exchange: &mut Exchange,
     device: Device,
-    exchange: Exchange,
     peer: ContactId,
-    contacts: &[u8; 2304],
-    own: &[u8; 13824],
-    carried: &[u8; 14592],
+    contacts: &[u8; CONTACT_AREA],
+    own: &[u8; OWN_AREA],
+    carried: &[u8; CARRIED_AREA],
     tombstones: &[u8],
     bad_tags: &[u8],
     window: &[u8],
@@ -334,51 +332,45 @@ pub fn receive_inventory(
     prefixes: &mut [u8],
     offers: &mut [u8],
     replies: &mut [u8],
-) -> Received
-    ensures { Does received_says (inventory_received (length replies.old) window.now peer listed.now) result.said
-        (received_in device contacts.now own.now carried.now tombstones.now bad_tags.now exchange prefixes.old offers.old)
-        (received_in device contacts.now own.now carried.now tombstones.now bad_tags.now result.exchange prefixes.new offers.new)
-        (replies_lent replies.old) (replies_lent replies.new) }
+) -> Result<Said, Refusal>
+    ensures { Lends received_says (inventory_received (length replies.old) window.now peer listed.now) result
+        (received_in device contacts.now own.now carried.now tombstones.now bad_tags.now exchange.old prefixes.old offers.old)
+        (received_in device contacts.now own.now carried.now tombstones.now bad_tags.now exchange.new prefixes.new offers.new)
+        (replies_lent replies.old) (replies_lent replies.new)
+        (inventory_leaves peer (prefix_rows listed.now) exchange.old) exchange.old exchange.new }
 {
-    let room = (prefixes.len(), offers.len(), replies.len());
-    if let Err(why) = tested(device, exchange.peer, peer, contacts, window, listed, room) {
-        let said = Err(why);
-        return Received { exchange, said };
-    }
-    let l = table::fit(prefixes.len(), PREFIX_WIDTH, exchange.listed.min(512));
+    let room = Room {
+        prefixes: prefixes.len(),
+        offers: offers.len(),
+        replies: replies.len(),
+    };
+    tested(device, exchange.peer, peer, contacts, window, listed, room)?;
+    let before = exchange.listed.min(MAX_PREFIXES);
+    let l = table::fit(room.prefixes, PREFIX_WIDTH, before);
     let more = listed.len() / PREFIX_WIDTH;
     if too_many(exchange.complete, l, more) {
-        let said = Ok(Said::Malformed);
-        return Received { exchange, said };
+        return Ok(Said::Malformed);
     }
     if more > 0 {
-        return list_more(exchange, prefixes, l, listed);
+        list_more(exchange, prefixes, l, listed);
+        return Ok(Said::Done(0, 0));
     }
-    let held = Held {
-        own: Rows::fit(Table {
-            area: own,
-            count: device.own,
-        }),
-        carried: Rows::fit(Table {
-            area: carried,
-            count: device.carried,
-        }),
-    };
+    let held = held_here(device, own, carried);
     let lookup = Lookup {
         peer,
         window,
-        bad_tags: Rows::fit(Table {
+        bad_tags: Table {
             area: bad_tags,
             count: device.bad_tags,
-        }),
-        tombstones: Rows::fit(Table {
+        },
+        tombstones: Table {
             area: tombstones,
             count: device.tombstones,
-        }),
+        },
     };
     let all = Rows {
         area: prefixes,
         n: l,
     };
-    answer_inventory(exchange, &held, &lookup, all, offers, replies)
+    Ok(answer_inventory(exchange, &held, &lookup, all, offers, replies))
 }

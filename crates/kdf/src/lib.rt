@@ -8,33 +8,42 @@ ghost use Rattle.kdf.specs.Kdf.{longest_label, longest_tag, head as head_of, hea
 use hasher::Hasher;
 use hasher::parts::Parts;
 use octets::get_array;
+use sha384::DIGEST;
+
+// A label's head: the length of prefix and label in two bytes, and this prefix.
+const PREFIX: &[u8; PREFIX_LEN] = b"cairn-r1 ";
+
+const PREFIX_LEN: usize = 9;
+
+const HEAD: usize = 2 + PREFIX_LEN;
 
 // The longest label: `cairn-r1 ` and the label have a length of two bytes.
-const LONGEST_LABEL: usize = 65526;
+pub const LONGEST_LABEL: usize = 65_535 - PREFIX_LEN;
 
 // The longest tag: all bytes of HMAC.
-const LONGEST_TAG: usize = 48;
+const LONGEST_TAG: usize = DIGEST;
 
-// Why a lent area stays as it is. A label that is too long is told before an area that is.
+// Why a lent area stays as it is. A label that is too long is the answer also where the area is too long.
 #[derive(Clone, Copy, PartialEq, Eq)]
 pub enum Refused {
     LabelTooLong,
     OutTooLong,
 }
 
-// The head of a label whose length fits.
-fn head_of(label: &[u8]) -> [u8; 11]
+// The head of a label whose length fits. (Where it is hashed, head, label and the rest stand as a literal of Parts: made by a function, each of
+// the three proofs would rewrite by its equation.)
+fn head_of(label: &[u8]) -> [u8; HEAD]
     requires { length label.now ≤ longest_label }
     ensures { result ≡ head_of label.now }
 {
-    let mut bytes = [0; 11];
-    octets::put_u16(&mut bytes, 0, (9 + label.len()) as u16);
-    octets::copy_in(&mut bytes, 2, b"cairn-r1 ");
+    let mut bytes = [0; HEAD];
+    octets::put_u16(&mut bytes, 0, (PREFIX_LEN + label.len()) as u16);
+    octets::copy_in(&mut bytes, 2, PREFIX);
     bytes
 }
 
 // `labelled`, but for the label itself, which stands behind the head. None: the label's length does not fit two bytes.
-pub fn labelled(label: &[u8]) -> Option<[u8; 11]>
+pub fn labelled(label: &[u8]) -> Option<[u8; HEAD]>
     ensures { result ≡ head_as label.now }
 {
     if LONGEST_LABEL < label.len() {
@@ -84,7 +93,8 @@ pub fn mac(key: &[u8], label: &[u8], x: &[u8]) -> Option<[u8; 16]>
     Some(bytes)
 }
 
-// `kdf`: fills out with HKDF's output, for the info `labelled(label)` and info.
+// `kdf`: fills out with HKDF's output, for the info `labelled(label)` and info. (Extract and expand, as in `hmac::hkdf`: that takes an info in
+// one part, and tests the output's limit again.)
 pub fn kdf(
     ikm: &[u8],
     salt: &[u8],
@@ -107,7 +117,7 @@ pub fn kdf(
     Ok(())
 }
 
-// `kdf` for 16 bytes.
+// `kdf` for 16 bytes. (As `mac`, of another function: crate courier calls each of the two once.)
 pub fn kdf_16(ikm: &[u8], salt: &[u8], label: &[u8], info: &[u8]) -> Option<[u8; 16]>
     ensures { result ≡ key_as label.now (kdf_of ikm.now salt.now label.now info.now 16) }
 {
@@ -117,7 +127,7 @@ pub fn kdf_16(ikm: &[u8], salt: &[u8], label: &[u8], info: &[u8]) -> Option<[u8;
 }
 
 // `hash` of a labelled label, whose length fits, and x: SHA-384 of both.
-fn hash_of(label: &[u8], x: &[u8]) -> [u8; 48]
+fn hash_of(label: &[u8], x: &[u8]) -> [u8; DIGEST]
     requires { length label.now ≤ longest_label }
     ensures { result ≡ hash_of label.now x.now }
 {
@@ -130,8 +140,9 @@ fn hash_of(label: &[u8], x: &[u8]) -> [u8; 48]
     Hasher::new().update_parts(text).finish()
 }
 
-// `hash`. None: the label's length does not fit two bytes.
-pub fn hash(label: &[u8], x: &[u8]) -> Option<[u8; 48]>
+// `hash`. None: the label's length does not fit two bytes. (Tested as in `labelled`: `hash_of` makes the head itself, so that
+// `commit`, whose label fits, need not test.)
+pub fn hash(label: &[u8], x: &[u8]) -> Option<[u8; DIGEST]>
     ensures { result ≡ digest_as label.now (hash_of label.now x.now) }
 {
     if LONGEST_LABEL < label.len() {

@@ -14,7 +14,7 @@ use Rattle.model.specs.Lent.{no_answers}
 use Rattle.model.proofs.CallLaws.{quiet_call, refused_call}
 use Rattle.load_tests.specs.Tests.{next_in, carried_count, tombstone_count, load_tests, tested_as}
 use Rattle.load_tests.proofs.TestLaws.{fine_none, fine_long, fine_kinds}
-use Rattle.load.specs.declared.Have.{Have}
+use Rattle.load.specs.declared.Counts.{Counts}
 use Rattle.load.specs.Load.{loaded, held_now, load_held_rows, load_step}
 use Rattle.load.specs.Laying.{Laid, Fine, says, load_lent}
 
@@ -46,7 +46,7 @@ load_cases s file P f g = subst P (sym (step_tested (load_held_rows s file) ts))
     go (Ok u) e = g (sym e)
 
 pub not_done : (why : Refusal) → refused why ≡ done → ⊥
-not_done why e = let z : ◌≡◌ {A = ℕ} 0 1 = cc in omega arith
+not_done why e = cc
 
 -- a file that is fine, and room for it in the areas
 module _ (cs : List Contact) (file : List ℕ) where
@@ -86,7 +86,7 @@ module _ (d : Device) (contacts carried tombs cells file : List ℕ) where
     pub load_refused : (why : Refusal) → Says (Err why) → Written says (load_step (view B) file) (Err why) B B no_answers no_answers
     load_refused why e = refused_call why (step_of_lem (Err why) e) refl refl
 
-    pub load_performed : Says (Ok tt) → {h : Have} {x y z : List ℕ} {next : ℕ} → Laid carried tombs (loaded cells file) h x y z → next ≡ next_in file
+    pub load_performed : Says (Ok tt) → {h : Counts} {x y z : List ℕ} {next : ℕ} → Laid carried tombs (loaded cells file) h x y z → next ≡ next_in file
         → Written says (load_step (view B) file) (Ok tt) B
         (load_lent (record d { carried = h.carried; tombstones = h.tombstones; next_slot = next }) contacts x y z a) no_answers no_answers
     unfolding load_held_rows view store store_device store_session

@@ -1,7 +1,8 @@
 -- Conditions of number 8 that do not hold of a saved file: length, place of `HN`, mark, blob and kind, slot past the next or twice, carried
 -- tag twice, unknown depositor, over 32 of one.
 -- Assumes nothing.
-use Rattle.std.proofs.Common.{◌≡◌, ℕ, suc, ◌+◌, ◌<◌, ◌≤◌, Bool, true, false, cond, not, ◌&&◌, ◌||◌, eqb, leb, List, [], ◌∷◌, ◌++◌, map, length, take, drop, sym, refl, ap, ◌∙◌, subst, ap₂, append-nil, arith, length-append, drop-drop, le-ltb, eq-eqb, Some}
+use Rattle.std.proofs.Common.{◌≡◌, ℕ, suc, ◌+◌, ◌<◌, ◌≤◌, Bool, true, false, cond, not, ◌&&◌, eqb, leb, List, [], ◌∷◌, ◌++◌, map, length, take, drop, sym, refl, ap, ◌∙◌, subst, ap₂, append-nil, arith, length-append, drop-drop, le-ltb, eq-eqb, Some}
+use Rattle.std.proofs.lemmas.Bool.{cond_both, false_from_ne_true}
 use mathlib.Core.Bool.{false≢true}
 use borrow.Author.Tests.{lt-leb}
 use Rattle.octets.specs.Bytes.{part, num, be, same_bytes}
@@ -14,39 +15,35 @@ use Rattle.table.specs.Rows.{join, has_key}
 use Rattle.table.proofs.ListLaws.{all_imp, count_append, count_map}
 use Rattle.table.proofs.FindLaws.{key_run}
 use Rattle.courier.specs.Courier.{header_of}
-use Rattle.state.specs.Held.{Held, held_row, held_decode, carried_of}
+use Rattle.state.specs.Held.{Held, held_row, held_decode, held_read, carried_of}
 use Rattle.state.specs.Held as held
 use Rattle.state.specs.declared.Carried.{Carried as HeldCarried}
 use Rattle.rows.specs.declared.Contact.{Contact}
 use Rattle.model.specs.Contacts.{known}
-use Rattle.model.specs.Basics.{match_some, merge}
+use Rattle.model.specs.Basics.{merge}
 use Rattle.model.specs.Saved.{Slotted, held_mark, saved_record, saved_file}
-use Rattle.history.specs.Order.{Sorted, empty, next}
+use Rattle.history.specs.Order.{Sorted, next}
 use Rattle.history.proofs.EffectLaws.{and_true}
 use Rattle.model.proofs.Laws.{all_merge}
 use Rattle.load_tests.specs.Records.{records, slot_in, depositor_in, tag_in, is_carried, is_tombstone, counted}
-use Rattle.load_tests.specs.Tests.{strange_mark, refused_blob, other_kind, slot_past, slot_twice, tag_twice, unknown_depositor, many_of_one, kind_tests, fails, cut_short}
-use Rattle.load_tests.proofs.BlobLaws.{Decoded, decoded}
-use Rattle.load.proofs.SavedLaws.{carried_kind, of_carried, of_tombstone, Back, Short, records_saved, length_saved, slot_saved, blob_saved, mark_saved}
+use Rattle.load_tests.specs.Tests.{slot_past, slot_twice, tag_twice, unknown_depositor, many_of_one, kind_tests, fails, cut_short}
+use Rattle.load_tests.proofs.BlobLaws.{Decoded, decoded, kind_tested}
+use Rattle.load.proofs.OrderLaws.{rest_of, head_of, sorted_with}
+use Rattle.load.proofs.SavedLaws.{carried_kind, of_carried, of_tombstone, Back, Short, records_saved, length_saved, slot_saved, blob_saved, mark_saved, sorted_map}
 
 -- ---- at most one
+
+pub count_none : {A : Type 0} (p : A → Bool) (xs : List A) → All (λ (x : A). p x ≡ false) xs → count_by p xs ≡ 0
+unfolding count_by
+count_none p [] a = refl
+count_none p (x ∷ xs) (lists.more e a) = rw (e, count_none p xs a)
 
 pub at_most_one : {A : Type 0} (p : A → Bool) (xs : List A) → Sorted (λ (a b : A). p a ≡ true → p b ≡ true → ⊥) xs → count_by p xs ≤ 1
 unfolding count_by
 at_most_one p [] s = omega arith
-at_most_one p (x ∷ xs) (next a s) = go (p x) refl (at_most_one p xs s)
-  where
-    others : (ys : List _) → p x ≡ true → All (λ (y : _). p x ≡ true → p y ≡ true → ⊥) ys → count_by p ys ≡ 0
-    others [] e b = refl
-    others (y ∷ ys) e (lists.more f b) = pick (p y) refl (others ys e b)
-      where
-        pick : (t : Bool) → p y ≡ t → count_by p ys ≡ 0 → cond t (suc (count_by p ys)) (count_by p ys) ≡ 0
-        pick true q r = absurd (f e q)
-        pick false q r = r
-
-    go : (t : Bool) → p x ≡ t → count_by p xs ≤ 1 → cond t (suc (count_by p xs)) (count_by p xs) ≤ 1
-    go true e h = omega (arith, others xs e a)
-    go false e h = h
+at_most_one p (x ∷ xs) (next a s) =
+    cond_both (p x) _ _ (λ (n : ℕ). n ≤ 1) (λ e. omega (arith, count_none p xs (all_imp (λ y f. false_from_ne_true (p y) (f e)) xs a)))
+    (λ e. at_most_one p xs s)
 
 -- two lists whose elements differ, and differ from each other's, merged
 pub sorted_merge : {R : Slotted → Slotted → Type 0} (key : Slotted → ℕ) → ((a b : Slotted) → R a b → R b a) → (xs ys : List Slotted) → Sorted R xs → Sorted R ys
@@ -55,37 +52,21 @@ unfolding merge
 sorted_merge key turn [] ys s t c = t
 sorted_merge key turn (x ∷ xs) [] s t c = s
 sorted_merge {R} key turn (x ∷ xs) (y ∷ ys) (next a s) (next b t) (lists.more (lists.more r d) c) =
-    go (leb (key x) (key y)) (sorted_merge key turn xs (y ∷ ys) s (next b t) c) (sorted_merge key turn (x ∷ xs) ys (next a s) t (lists.more d (all_imp rest xs c)))
-    (all_merge key xs (y ∷ ys) a (lists.more r d)) (all_merge key (x ∷ xs) ys (lists.more (turn x y r) (all_imp (λ z k. turn z y (head_of k)) xs c)) b)
-  where
-    head_of : {P : Slotted → Type 0} → All P (y ∷ ys) → P y
-    head_of (lists.more p q) = p
-
-    rest : (z : Slotted) → All (R z) (y ∷ ys) → All (R z) ys
-    rest z (lists.more p q) = q
-
-    go : (u : Bool) → Sorted R (merge key xs (y ∷ ys)) → Sorted R (merge key (x ∷ xs) ys) → All (R x) (merge key xs (y ∷ ys)) → All (R y) (merge key (x ∷ xs) ys)
-        → Sorted R (cond u (x ∷ merge key xs (y ∷ ys)) (y ∷ merge key (x ∷ xs) ys))
-    go true p q f g = next f p
-    go false p q f g = next g q
+    cond_both (leb (key x) (key y)) _ _ (Sorted R)
+    (λ e. next (all_merge key xs (y ∷ ys) a (lists.more r d)) (sorted_merge key turn xs (y ∷ ys) s (next b t) c))
+    (λ e. next (all_merge key (x ∷ xs) ys (lists.more (turn x y r) (all_imp (λ z k. turn z y (head_of k)) xs c)) b)
+    (sorted_merge key turn (x ∷ xs) ys (next a s) t (lists.more d (all_imp (λ z k. rest_of k) xs c))))
 
 -- ---- mark, blob and kind of a saved record
 
 module _ (h : Slotted) (B : Back h) where
   pub kind_saved : fails kind_tests (saved_record h) ≡ false
-  unfolding fails any strange_mark refused_blob other_kind is_carried is_tombstone has_key same_bytes
-  kind_saved = go h.held (mark_saved h) (ap held_decode (blob_saved h) ∙ B.read)
+  unfolding has_key same_bytes
+  kind_saved = go h.held (mark_saved h) (ap held_read (sym (ap held_decode (blob_saved h) ∙ B.read)))
     where
-      go : (x : Held) → part (saved_record h) 0 2 ≡ held_mark x → held_decode (drop 12 (saved_record h)) ≡ Some x
-          → (not (same_bytes (part (saved_record h) 0 2) (72 ∷ 67 ∷ []) || same_bytes (part (saved_record h) 0 2) (72 ∷ 84 ∷ []))
-          || (match_some (held_decode (drop 12 (saved_record h))) (λ (k : Held). false) true
-          || (match_some (held_decode (drop 12 (saved_record h))) (λ (k : Held). not (has_key 0 (held_mark k) (saved_record h))) false || false))) ≡ false
-      go x e d = rw (e, d) (by_kind x e)
-        where
-          by_kind : (y : Held) → part (saved_record h) 0 2 ≡ held_mark y
-              → (not (same_bytes (held_mark y) (72 ∷ 67 ∷ []) || same_bytes (held_mark y) (72 ∷ 84 ∷ [])) || (false || (not (has_key 0 (held_mark y) (saved_record h)) || false))) ≡ false
-          by_kind (held.carried r ct) q = ap (λ (l : List ℕ). not (same_bytes l (72 ∷ 67 ∷ [])) || false) q
-          by_kind (held.tombstone t) q = ap (λ (l : List ℕ). not (same_bytes l (72 ∷ 84 ∷ [])) || false) q
+      go : (x : Held) → part (saved_record h) 0 2 ≡ held_mark x → held_read (Some x) ≡ held_read (held_decode (drop 12 (saved_record h))) → fails kind_tests (saved_record h) ≡ false
+      go (held.carried r ct) e d = sym (kind_tested (saved_record h) _ d) ∙ ap (λ (l : List ℕ). not (same_bytes l (72 ∷ 67 ∷ []))) e
+      go (held.tombstone t) e d = sym (kind_tested (saved_record h) _ d) ∙ ap (λ (l : List ℕ). not (same_bytes l (72 ∷ 84 ∷ []))) e
 
   pub past_saved : (limit : ℕ) → h.slot < limit → slot_past limit (saved_record h) ≡ false
   unfolding slot_past
@@ -102,12 +83,7 @@ module _ (h : Slotted) (B : Back h) where
 sorted_records : {R : Slotted → Slotted → Type 0} (p : List ℕ → Bool)
     → ((x y : Slotted) → Back x → Back y → R x y → p (saved_record x) ≡ true → p (saved_record y) ≡ true → ⊥)
     → (hs : List Slotted) → All Back hs → Sorted R hs → Sorted (λ (c d : List ℕ). p c ≡ true → p d ≡ true → ⊥) (map saved_record hs)
-sorted_records p f [] b t = empty
-sorted_records {R} p f (h ∷ hs) (lists.more H b) (next n t) = next (away hs b n) (sorted_records p f hs b t)
-  where
-    away : (ks : List Slotted) → All Back ks → All (R h) ks → All (λ (c : List ℕ). p (saved_record h) ≡ true → p c ≡ true → ⊥) (map saved_record ks)
-    away [] b n = lists.none
-    away (k ∷ ks) (lists.more K b) (lists.more m n) = lists.more (f h k H K m) (away ks b n)
+sorted_records p f hs b t = sorted_map saved_record (λ x y k. k) hs (sorted_with f hs b t)
 
 -- each slot is there once
 pub once_saved : (hs : List Slotted) → All Back hs → Sorted (λ (a b : Slotted). a.slot ≡ b.slot → ⊥) hs → (h : Slotted) → Back h
@@ -171,6 +147,16 @@ marked_tomb h = ap (λ (l : List ℕ). same_bytes l (72 ∷ 84 ∷ [])) (mark_sa
 
 -- ---- the depositor and the tag of a carried record
 
+-- as they are read of its blob
+module _ (b : List ℕ) where
+  pub tag_read : (carried_of (drop 12 b)).header.tag ≡ tag_in b
+  unfolding carried_of header_of part
+  tag_read = part_part (drop 12 b) 9 37 0 16 (omega arith) ∙ ap (λ (l : List ℕ). take 16 l) (drop-drop 9 12 b)
+
+  pub depositor_read : (carried_of (drop 12 b)).depositor.0 ≡ num (depositor_in b)
+  unfolding carried_of part
+  depositor_read = ap (λ (l : List ℕ). num (take 8 l)) (drop-drop 1 12 b)
+
 abbrev pub depositor_of : Held → ℕ
 depositor_of (held.carried r ct) = r.depositor.0
 depositor_of (held.tombstone t) = 0
@@ -191,39 +177,22 @@ module _ (h : Slotted) (B : Back h) where
   is_carried_lem m = sym (marked_saved h) ∙ m
 
   -- what is read of its blob is the row
-  seen : (r : HeldCarried) (ct : List ℕ) → h.held ≡ held.carried r ct → (carried_of (drop 12 b) ≡ r) × (58 ≤ length b)
-  seen r ct e =
-      let D : Decoded (held_row h.held) (Some (held.carried r ct)) =
-      subst (Decoded (held_row h.held)) (B.read ∙ ap (λ (x : Held). Some x) e) (decoded (held_row h.held)) in
-      (ap carried_of (blob_saved h) ∙ sym D.0, omega (arith, D.1.1.0, length_saved h))
-
-  depositor_saved : of_carried h ≡ true → num (depositor_in b) ≡ depositor_of h.held
-  unfolding carried_of part
-  depositor_saved c = go h.held refl c
+  seen : of_carried h ≡ true → (num (depositor_in b) ≡ depositor_of h.held) × ((tag_in b ≡ tag_of h.held) × (58 ≤ length b))
+  seen c = go h.held refl c
     where
-      go : (x : Held) → h.held ≡ x → carried_kind x ≡ true → num (part b 13 8) ≡ depositor_of x
-      go (held.carried r ct) e c = ap (λ (l : List ℕ). num (take 8 l)) (sym (drop-drop 1 12 b)) ∙ ap (λ (k : HeldCarried). k.depositor.0) (seen r ct e).0
-      go (held.tombstone t) e c = absurd (false≢true c)
-
-  tag_saved : of_carried h ≡ true → tag_in b ≡ tag_of h.held
-  unfolding carried_of header_of part
-  tag_saved c = go h.held refl c
-    where
-      go : (x : Held) → h.held ≡ x → carried_kind x ≡ true → part b 21 16 ≡ tag_of x
+      go : (x : Held) → h.held ≡ x → carried_kind x ≡ true → (num (depositor_in b) ≡ depositor_of x) × ((tag_in b ≡ tag_of x) × (58 ≤ length b))
       go (held.carried r ct) e c =
-          ap (λ (l : List ℕ). take 16 l) (sym (drop-drop 9 12 b)) ∙ sym (part_part (drop 12 b) 9 37 0 16 (omega arith)) ∙ ap (λ (k : HeldCarried). k.header.tag) (seen r ct e).0
-      go (held.tombstone t) e c = absurd (false≢true c)
-
-  long_saved_row : of_carried h ≡ true → 58 ≤ length b
-  long_saved_row c = go h.held refl c
-    where
-      go : (x : Held) → h.held ≡ x → carried_kind x ≡ true → 58 ≤ length b
-      go (held.carried r ct) e c = (seen r ct e).1
+          let D : Decoded (held_row h.held) (Some (held.carried r ct)) =
+          subst (Decoded (held_row h.held)) (B.read ∙ ap (λ (x : Held). Some x) e) (decoded (held_row h.held)) in
+          let q : carried_of (drop 12 b) ≡ r = ap carried_of (blob_saved h) ∙ sym D.0 in (
+            sym (depositor_read b) ∙ ap (λ (k : HeldCarried). k.depositor.0) q,
+            (sym (tag_read b) ∙ ap (λ (k : HeldCarried). k.header.tag) q, omega (arith, D.1.1.0, length_saved h)),
+          )
       go (held.tombstone t) e c = absurd (false≢true c)
 
   pub known_saved : (cs : List Contact) → (of_carried h ≡ true → known cs (record { 0 = depositor_of h.held }) ≡ true) → unknown_depositor cs b ≡ false
   unfolding unknown_depositor
-  known_saved cs k = and_no (is_carried b) _ (λ m. ap (λ (i : ℕ). not (known cs (record { 0 = i }))) (depositor_saved (is_carried_lem m)) ∙ ap not (k (is_carried_lem m)))
+  known_saved cs k = and_no (is_carried b) _ (λ m. ap (λ (i : ℕ). not (known cs (record { 0 = i }))) (seen (is_carried_lem m)).0 ∙ ap not (k (is_carried_lem m)))
 
   -- a carried record with bytes of this one at their place: they are its own there
   shares : (k : Slotted) → Back k → (o n : ℕ) → o + n ≤ 58 → of_carried h ≡ true → counted true o (part b o n) (saved_record k) ≡ true
@@ -231,7 +200,7 @@ module _ (h : Slotted) (B : Back h) where
   unfolding counted
   shares k K o n le c e =
       let q = and_true (is_carried (saved_record k)) (has_key o (part b o n) (saved_record k)) e in
-      let l : length (part b o n) ≡ n = length_part b o n (omega (arith, long_saved_row c)) in
+      let l : length (part b o n) ≡ n = length_part b o n (omega (arith, (seen c).1.1)) in
       (sym (marked_saved k) ∙ q.0, same_eq (part (saved_record k) o n) (part b o n) (sym (key_run o n (part b o n) (saved_record k) l) ∙ q.1))
 
 -- of two rows that are both carried: their tags differ
@@ -253,33 +222,23 @@ tag_once_saved hs a s h B =
     apart c x y X Y ne p q =
         let u = shares h B x X 21 16 (omega arith) c p in
         let v = shares h B y Y 21 16 (omega arith) c q in
-        ne u.0 v.0 (sym (tag_saved x X u.0) ∙ u.1 ∙ sym v.1 ∙ tag_saved y Y v.0)
+        ne u.0 v.0 (sym (seen x X u.0).1.0 ∙ u.1 ∙ sym v.1 ∙ (seen y Y v.0).1.0)
 
 -- ---- counts
 
 pub count_merge : (p : Slotted → Bool) (key : Slotted → ℕ) (xs ys : List Slotted) → count_by p (merge key xs ys) ≡ count_by p xs + count_by p ys
 unfolding merge
-count_merge p key [] ys = refl_zero
-  where
-    refl_zero : count_by p ys ≡ count_by p [] + count_by p ys
-    refl_zero = count_append p [] ys
+count_merge p key [] ys = count_append p [] ys
 count_merge p key (x ∷ xs) [] = omega (arith, ap (count_by p) (append-nil (x ∷ xs)), count_append p (x ∷ xs) [])
-count_merge p key (x ∷ xs) (y ∷ ys) = go (leb (key x) (key y)) (count_merge p key xs (y ∷ ys)) (count_merge p key (x ∷ xs) ys)
-  where
-    go : (t : Bool) → count_by p (merge key xs (y ∷ ys)) ≡ count_by p xs + count_by p (y ∷ ys) → count_by p (merge key (x ∷ xs) ys) ≡ count_by p (x ∷ xs) + count_by p ys
-        → count_by p (cond t (x ∷ merge key xs (y ∷ ys)) (y ∷ merge key (x ∷ xs) ys)) ≡ count_by p (x ∷ xs) + count_by p (y ∷ ys)
-    go true q r = omega (arith, q, count_append p (x ∷ []) (merge key xs (y ∷ ys)), count_append p (x ∷ []) xs)
-    go false q r = omega (arith, r, count_append p (y ∷ []) (merge key (x ∷ xs) ys), count_append p (y ∷ []) ys)
-
-pub count_none : {A : Type 0} (p : A → Bool) (xs : List A) → All (λ (x : A). p x ≡ false) xs → count_by p xs ≡ 0
-unfolding count_by
-count_none p [] a = refl
-count_none p (x ∷ xs) (lists.more e a) = ap (λ (t : Bool). cond t (suc (count_by p xs)) (count_by p xs)) e ∙ count_none p xs a
+count_merge p key (x ∷ xs) (y ∷ ys) =
+    cond_both (leb (key x) (key y)) _ _ (λ (l : List Slotted). count_by p l ≡ count_by p (x ∷ xs) + count_by p (y ∷ ys))
+    (λ e. omega (arith, count_merge p key xs (y ∷ ys), count_append p (x ∷ []) (merge key xs (y ∷ ys)), count_append p (x ∷ []) xs))
+    (λ e. omega (arith, count_merge p key (x ∷ xs) ys, count_append p (y ∷ []) (merge key (x ∷ xs) ys), count_append p (y ∷ []) ys))
 
 pub count_all : {A : Type 0} (p : A → Bool) (xs : List A) → All (λ (x : A). p x ≡ true) xs → count_by p xs ≡ length xs
 unfolding count_by
 count_all p [] a = refl
-count_all p (x ∷ xs) (lists.more e a) = ap (λ (t : Bool). cond t (suc (count_by p xs)) (count_by p xs)) e ∙ ap suc (count_all p xs a)
+count_all p (x ∷ xs) (lists.more e a) = rw (e, count_all p xs a)
 
 -- so many records of a kind as rows
 pub counts_saved : (p : List ℕ → Bool) (q : Slotted → Bool) (hs : List Slotted) → All (λ (h : Slotted). p (saved_record h) ≡ q h) hs → count_by p (map saved_record hs) ≡ count_by q hs
@@ -290,13 +249,9 @@ counts_saved p q (h ∷ hs) (lists.more e a) = ap₂ (λ (t : Bool) (n : ℕ). c
 pub count_imp : {A : Type 0} (p q : A → Bool) (xs : List A) → All (λ (x : A). p x ≡ true → q x ≡ true) xs → count_by p xs ≤ count_by q xs
 unfolding count_by
 count_imp p q [] a = omega arith
-count_imp p q (x ∷ xs) (lists.more f a) = go (p x) (q x) refl refl (count_imp p q xs a)
-  where
-    go : (u v : Bool) → p x ≡ u → q x ≡ v → count_by p xs ≤ count_by q xs → cond u (suc (count_by p xs)) (count_by p xs) ≤ cond v (suc (count_by q xs)) (count_by q xs)
-    go true true i j le = omega arith
-    go true false i j le = absurd (false≢true (sym j ∙ f i))
-    go false true i j le = omega arith
-    go false false i j le = omega arith
+count_imp p q (x ∷ xs) (lists.more f a) =
+    let h = count_imp p q xs a in
+    cond_both (p x) _ _ (λ (n : ℕ). n ≤ count_by q (x ∷ xs)) (λ e. rw (f e) (omega arith)) (λ e. omega (arith, count_append q (x ∷ []) xs))
 
 -- a carried row of the depositor
 abbrev pub of_depositor : ℕ → Slotted → Bool
@@ -322,5 +277,5 @@ few_of_one_saved hs a h B n =
         → (of_carried k && eqb (depositor_of k.held) (depositor_of h.held)) ≡ true
     one c k K p =
         let u = shares h B k K 13 8 (omega arith) c p in
-        let e : depositor_of k.held ≡ depositor_of h.held = sym (depositor_saved k K u.0) ∙ ap num u.1 ∙ depositor_saved h B c in
+        let e : depositor_of k.held ≡ depositor_of h.held = sym (seen k K u.0).0 ∙ ap num u.1 ∙ (seen h B c).0 in
         ap₂ (λ (x y : Bool). x && y) u.0 (eq-eqb (depositor_of k.held) (depositor_of h.held) e)

@@ -63,13 +63,6 @@ module _ {A : Type 0} {c : Codec A} {P : A → Type 0} (laws : CodecLaws c P) (k
         proper = p;
       }
 
--- the place of a row, and the row put in there
-pub inserted_at : (w n m : ℕ) (a x b : List ℕ) (slot i : ℕ) → slot ≡ num (part b 0 8) → i ≡ unwrap_or n (position (higher slot) (rows w n a))
-    → RowsNow w a (insert_at i b (rows w n a)) m x
-    → RowsNow w a (insert_at (unwrap_or n (position (higher (num (part b 0 8))) (rows w n a))) b (rows w n a)) m x
-inserted_at w n m a x b slot i e q N =
-    subst (λ (j : ℕ). RowsNow w a (insert_at j b (rows w n a)) m x) (q ∙ ap (λ (k : ℕ). unwrap_or n (position (higher k) (rows w n a))) e) N
-
 pub carried_starts : (b : List ℕ) → num (part b 0 8) ≡ (carried_codec.decode b).slot
 unfolding carried_of
 carried_starts b = refl

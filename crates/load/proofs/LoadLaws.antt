@@ -25,27 +25,26 @@ use Rattle.history.specs.Order.{empty}
 use Rattle.load_tests.specs.Records.{records, is_carried, is_tombstone}
 use Rattle.load_tests.specs.Tests.{kind_tests, fails}
 use Rattle.load_tests.proofs.BlobLaws.{Decoded, decoded, kind_tested}
+use Rattle.load_tests.proofs.RecordLaws.{turn_count}
 use Rattle.load_tests.proofs.TestLaws.{none_here, none_next}
-use Rattle.load.specs.declared.Have.{Have}
+use Rattle.load.specs.declared.Counts.{Counts}
 use Rattle.load.specs.Load.{insert_by, carried_slot, tombstone_slot, carried_row, tombstone_row, Rows, load_held, load_record, load_records, no_rows, loaded}
-use Rattle.load.specs.Laying.{Rise, Inserted, Carries, Laid, Room, Loads, Fine, Loading}
+use Rattle.load.specs.Laying.{SlotsAscend, Inserted, Carries, Laid, Room, Loads, Fine, Loading}
 use Rattle.load.proofs.InsertLaws.{insert_proper, carried_starts, tombstone_starts}
-use Rattle.load.proofs.PlaceLaws.{rise_table, by_slot_lem}
+use Rattle.load.proofs.PlaceLaws.{ascend_table, by_slot_lem}
 
 -- ---- what a record's kind says
 
 as_carried : (b : List ℕ) (d : Option Held) → Decoded b d → {r : HeldCarried} → Some (read.Carried r) ≡ held_read d
     → (d ≡ Some (held.carried r (drop 46 b))) × ((46 ≤ length b) × (length b ≤ 2110))
-as_carried b None D e = let z : ◌≡◌ {A = ℕ} 0 1 = cc in absurd (omega arith)
-as_carried b (Some (held.carried q ct)) D {r} e =
-    let z : q ≡ r = cc in
-    (ap₂ (λ (u : HeldCarried) (x : List ℕ). Some (held.carried u x)) z D.1.0, D.1.1)
-as_carried b (Some (held.tombstone t)) D e = let z : ◌≡◌ {A = ℕ} 0 1 = cc in absurd (omega arith)
+as_carried b None D e = absurd (cc)
+as_carried b (Some (held.carried q ct)) D e = (cc, D.1.1)
+as_carried b (Some (held.tombstone t)) D e = absurd (cc)
 
 as_tombstone : (d : Option Held) {r : HeldTombstone} → Some (read.Tombstone r) ≡ held_read d → d ≡ Some (held.tombstone r)
-as_tombstone None e = let z : ◌≡◌ {A = ℕ} 0 1 = cc in absurd (omega arith)
-as_tombstone (Some (held.carried r ct)) e = let z : ◌≡◌ {A = ℕ} 0 1 = cc in absurd (omega arith)
-as_tombstone (Some (held.tombstone t)) {r} e = let z : t ≡ r = cc in ap (λ (u : HeldTombstone). Some (held.tombstone u)) z
+as_tombstone None e = cc
+as_tombstone (Some (held.carried r ct)) e = cc
+as_tombstone (Some (held.tombstone t)) e = cc
 
 module _ (b : List ℕ) where
   -- no record has both marks
@@ -67,7 +66,7 @@ module _ (b : List ℕ) where
     marked_tombstone e = not-false (has_key 0 (72 ∷ 84 ∷ []) b) (kind_tested b _ e ∙ f)
 
     pub some_kind : None ≡ held_read (held_decode (drop 12 b)) → ⊥
-    some_kind e = let q : true ≡ false = kind_tested b None e ∙ f in let z : ◌≡◌ {A = ℕ} 0 1 = cc in omega arith
+    some_kind e = let q : true ≡ false = kind_tested b None e ∙ f in cc
 
   pub one : (p : List ℕ → Bool) (x : Bool) → p b ≡ x → count_by p (b ∷ []) ≡ cond x 1 0
   unfolding count_by
@@ -80,7 +79,7 @@ none_laid c a w = record { count = refl; area = sym (written_none a); table = ta
 
 -- ---- a record more
 
-module _ (b : List ℕ) (h : Have) (x y z : List ℕ) (R : Room b h x y z) where
+module _ (b : List ℕ) (h : Counts) (x y z : List ℕ) (R : Room b h x y z) where
   module _ {row : HeldCarried} (q : Some (read.Carried row) ≡ held_read (held_decode (drop 12 b))) where
     is_carried_lem : is_carried b ≡ true
     is_carried_lem = marked_carried b R.kind q
@@ -88,7 +87,7 @@ module _ (b : List ℕ) (h : Have) (x y z : List ℕ) (R : Room b h x y z) where
     abbrev seen : (held_decode (drop 12 b) ≡ Some (held.carried row (drop 46 (drop 12 b)))) × ((46 ≤ length (drop 12 b)) × (length (drop 12 b) ≤ 2110))
     seen = as_carried (drop 12 b) (held_decode (drop 12 b)) (decoded (drop 12 b)) q
 
-    pub carried_room : ((58 ≤ length b) × (length b ≤ 2122)) × ((h.carried < 65536) × (((h.carried * 57 + 57 ≤ length x) × (h.carried * 2064 + 2064 ≤ length z)) × Rise 57 h.carried x))
+    pub carried_room : ((58 ≤ length b) × (length b ≤ 2122)) × ((h.carried < 65536) × (((h.carried * 57 + 57 ≤ length x) × (h.carried * 2064 + 2064 ≤ length z)) × SlotsAscend 57 h.carried x))
     carried_room =
         let s = seen in
         ((omega (arith, s.1.0, length-drop 12 b), omega (arith, s.1.1, length-drop 12 b)), (R.few, (R.carried is_carried_lem, R.carried_rise)))
@@ -129,7 +128,7 @@ module _ (b : List ℕ) (h : Have) (x y z : List ℕ) (R : Room b h x y z) where
     is_tombstone_lem : is_tombstone b ≡ true
     is_tombstone_lem = marked_tombstone b R.kind q
 
-    pub tombstone_room : (h.tombstones * 44 + 44 ≤ length y) × Rise 44 h.tombstones y
+    pub tombstone_room : (h.tombstones * 44 + 44 ≤ length y) × SlotsAscend 44 h.tombstones y
     tombstone_room = (R.tombstone is_tombstone_lem, R.tombstones_rise)
 
     module _ (m : ℕ) (y' : List ℕ) (new : Tombstone) (slot : ℕ) (es : slot ≡ num (part b 2 8)) (et : new ≡ tombstone_row slot row)
@@ -177,7 +176,7 @@ module _ {file a t c : List ℕ} (F : Fine file a t c) where
     cell_size = refl;
   })
 
-  module _ {rs rest : List (List ℕ)} {b : List ℕ} {h : Have} {x y z : List ℕ} (S : Loading file a t c rs h x y z) (e : rs ≡ b ∷ rest) where
+  module _ {rs rest : List (List ℕ)} {b : List ℕ} {h : Counts} {x y z : List ℕ} (S : Loading file a t c rs h x y z) (e : rs ≡ b ∷ rest) where
     count_split : (p : List ℕ → Bool) → count_by p rs ≡ count_by p (b ∷ []) + count_by p rest
     count_split p = ap (count_by p) e ∙ count_append p (b ∷ []) rest
 
@@ -186,16 +185,16 @@ module _ {file a t c : List ℕ} (F : Fine file a t c) where
       kind = none_here (fails kind_tests) S.kinds e;
       few = omega (arith, S.carried, F.few);
       carried = λ m.
-          let o : h.carried + 1 ≤ count_by is_carried (records file) = omega (arith, S.carried, count_split is_carried, one b is_carried true m) in
+          let o : h.carried + 1 ≤ count_by is_carried (records file) = omega (arith, S.carried, turn_count e is_carried true m) in
           (omega (arith, mul_le 57 o, next_row h.carried 57, F.carried, S.carried_size), omega (arith, mul_le 2064 o, next_row h.carried 2064, F.cells, S.cell_size));
       tombstone = λ m.
-          let o : h.tombstones + 1 ≤ count_by is_tombstone (records file) = omega (arith, S.tombstones, count_split is_tombstone, one b is_tombstone true m) in
+          let o : h.tombstones + 1 ≤ count_by is_tombstone (records file) = omega (arith, S.tombstones, turn_count e is_tombstone true m) in
           omega (arith, mul_le 44 o, next_row h.tombstones 44, F.tombstones, S.tombstone_size);
-      carried_rise = rise_table carried_slot carried_starts (omega arith) S.laid.carried S.by_slot.carried;
-      tombstones_rise = rise_table tombstone_slot tombstone_starts (omega arith) S.laid.tombstones S.by_slot.tombstones;
+      carried_rise = ascend_table carried_slot carried_starts (omega arith) S.laid.carried S.by_slot.carried;
+      tombstones_rise = ascend_table tombstone_slot tombstone_starts (omega arith) S.laid.tombstones S.by_slot.tombstones;
     }
 
-    pub loading_next : {h' : Have} {x' y' z' : List ℕ} → Loads b h x y z h' x' y' z' → Loading file a t c rest h' x' y' z'
+    pub loading_next : {h' : Counts} {x' y' z' : List ℕ} → Loads b h x y z h' x' y' z' → Loading file a t c rest h' x' y' z'
     unfolding load_records
     loading_next D = record {
       rows = load_record S.rows b;
@@ -210,7 +209,7 @@ module _ {file a t c : List ℕ} (F : Fine file a t c) where
       cell_size = D.cell_size ∙ S.cell_size;
     }
 
-pub loading_end : {file a t c : List ℕ} {rs : List (List ℕ)} {h : Have} {x y z : List ℕ} → Loading file a t c rs h x y z → rs ≡ [] → Laid a t (loaded c file) h x y z
+pub loading_end : {file a t c : List ℕ} {rs : List (List ℕ)} {h : Counts} {x y z : List ℕ} → Loading file a t c rs h x y z → rs ≡ [] → Laid a t (loaded c file) h x y z
 unfolding load_records
 loading_end {a = a} {t} {h = h} {x} {y} {z} S e =
     subst (λ (l : Rows). Laid a t l h x y z) (ap (load_records S.rows) (sym e) ∙ S.left) S.laid

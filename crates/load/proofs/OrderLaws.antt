@@ -1,6 +1,8 @@
 -- After a load the tables are in order, whatever the order in the file.
 -- Assumes nothing.
-use Rattle.std.proofs.Common.{◌≡◌, ℕ, zero, suc, ◌+◌, ◌-◌, ◌*◌, ◌/◌, ◌<◌, ◌≤◌, min, Bool, true, false, cond, ◌||◌, ltb, leb, List, [], ◌∷◌, length, take, drop, sym, refl, ap, ◌∙◌, subst, ap₂, zero-add, arith, length-drop, length-take-le, ltb-false, ltb-true, leb-false, leb-true, Option, Some, None, Ok}
+use Rattle.std.proofs.Common.{◌≡◌, ℕ, zero, suc, ◌+◌, ◌-◌, ◌*◌, ◌/◌, ◌<◌, ◌≤◌, min, Bool, true, false, cond, ◌||◌, ltb, leb, List, [], ◌∷◌, length, drop, sym, refl, ap, ◌∙◌, subst, ap₂, zero-add, arith, length-drop, ltb-false, ltb-true, leb-false, Option, Some, None, Ok}
+use Rattle.std.proofs.lemmas.Bool.{cond_both, or_parts}
+use Rattle.std.proofs.Math.Arith.{lt_of_le-ne}
 use Rattle.octets.specs.Bytes.{Bytes, part, num, be, same_bytes}
 use Rattle.octets.proofs.Parts.{length_part, length_splice}
 use Rattle.octets.proofs.Compare.{same_refl}
@@ -8,7 +10,7 @@ use Rattle.octets.proofs.Numbers.{be_num_part, bytes_take, bytes_drop}
 use Rattle.table.specs.Lists.{All, any, count_by, position, unwrap_or}
 use Rattle.table.specs.Lists as lists
 use Rattle.table.specs.Rows.{has_key}
-use Rattle.table.proofs.ListLaws.{all_imp, all_insert_at, length_insert_at}
+use Rattle.table.proofs.ListLaws.{all_imp, length_insert_at, count_append}
 use Rattle.table.proofs.FindLaws.{any_none, position_le}
 use Rattle.state.specs.Held.{Held, held_decode, held_read}
 use Rattle.state.specs.Held as held
@@ -20,13 +22,14 @@ use Rattle.model.specs.State.{State, apply}
 use Rattle.model.specs.Calls.{Result, done}
 use Rattle.model.specs.Cells.{cell_count}
 use Rattle.history.specs.Order.{Sorted, empty, next, HeldOrder}
-use Rattle.history.proofs.SortedLaws.{sorted_insert, sorted_insert_at}
+use Rattle.history.proofs.SortedLaws.{all_both, sorted_insert, sorted_insert_at}
 use Rattle.load_tests.specs.Records.{record_size, records_in, records_at, records, slot_in, is_carried, counted}
 use Rattle.load_tests.specs.Tests.{strange_mark, refused_blob, other_kind, slot_past, slot_twice, unknown_depositor, tag_twice, many_of_one, kind_tests, record_tests, fails, next_in, carried_count, load_tests, tested_as}
 use Rattle.load_tests.proofs.BlobLaws.{Decoded, decoded}
-use Rattle.load_tests.proofs.TestLaws.{left_no, right_no, fine_records, fine_none}
-use Rattle.load_tests.proofs.RecordLaws.{size_least}
+use Rattle.load_tests.proofs.TestLaws.{fine_records, fine_none}
+use Rattle.load_tests.proofs.RecordLaws.{records_long, turn_count}
 use Rattle.load.specs.Load.{insert_by, carried_slot, tombstone_slot, carried_row, tombstone_row, Rows, load_held, load_record, load_records, no_rows, loaded, load_held_rows, load_step}
+pub use Rattle.load.proofs.InsertLaws.{insert_proper as all_by}
 use Rattle.load.proofs.CallLaws.{load_cases, not_done}
 use Rattle.load.proofs.LoadLaws.{some_kind, marked_carried, marked_tombstone, tombstone_alone}
 
@@ -47,50 +50,28 @@ pub record Passed (limit : ℕ) (cs : List Contact) (rs : List (List ℕ)) (b : 
 pub passed : (limit : ℕ) (cs : List Contact) (rs : List (List ℕ)) (b : List ℕ) → fails (record_tests limit cs rs) b ≡ false → Passed limit cs rs b
 unfolding fails any slot_past slot_twice
 passed limit cs rs b e =
-    go (strange_mark b) (refused_blob b) (other_kind b) (leb limit (slot_of b)) (ltb 1 (count_by (counted false 2 (slot_in b)) rs)) (unknown_depositor cs b) (tag_twice rs b) (many_of_one rs b)
-    refl refl refl refl refl refl refl refl e
-  where
-    ends : (u v w : Bool) → u ≡ false → v ≡ false → w ≡ false → (u || (v || (w || false))) ≡ false
-    ends u v w p q r = λ j. p j || (q j || (r j || false))
-
-    go : (u v w x y k t m : Bool) → strange_mark b ≡ u → refused_blob b ≡ v → other_kind b ≡ w → leb limit (slot_of b) ≡ x → ltb 1 (count_by (counted false 2 (slot_in b)) rs) ≡ y
-        → unknown_depositor cs b ≡ k → tag_twice rs b ≡ t → many_of_one rs b ≡ m
-        → (u || (v || (w || (x || (y || (k || (t || (m || false)))))))) ≡ false → Passed limit cs rs b
-    go u v w x y k t m eu ev ew ex ey ek et em f0 =
-        let f1 = right_no u (v || (w || (x || (y || (k || (t || (m || false))))))) f0 in
-        let f2 = right_no v (w || (x || (y || (k || (t || (m || false)))))) f1 in
-        let f3 = right_no w (x || (y || (k || (t || (m || false))))) f2 in
-        let f4 = right_no x (y || (k || (t || (m || false)))) f3 in
-        let f5 = right_no y (k || (t || (m || false))) f4 in
-        let f6 = right_no k (t || (m || false)) f5 in
-        let f7 = right_no t (m || false) f6 in
-        record {
-          kinds = (λ j. eu j || (ev j || (ew j || false))) ∙ ends u v w (left_no u _ f0) (left_no v _ f1) (left_no w _ f2);
-          below = leb-false limit (slot_of b) (ex ∙ left_no x _ f3);
-          once = ltb-false 1 (count_by (counted false 2 (slot_in b)) rs) (ey ∙ left_no y _ f4);
-          depositor = ek ∙ left_no k _ f5;
-          tag_once = et ∙ left_no t _ f6;
-          few = em ∙ left_no m _ f7;
-        }
+    let f1 = or_parts (strange_mark b) _ e in
+    let f2 = or_parts (refused_blob b) _ f1.1 in
+    let f3 = or_parts (other_kind b) _ f2.1 in
+    let f4 = or_parts (leb limit (slot_of b)) _ f3.1 in
+    let f5 = or_parts (ltb 1 (count_by (counted false 2 (slot_in b)) rs)) _ f4.1 in
+    let f6 = or_parts (unknown_depositor cs b) _ f5.1 in
+    let f7 = or_parts (tag_twice rs b) _ f6.1 in
+    record {
+      kinds = λ j. f1.0 j || (f2.0 j || (f3.0 j || false));
+      below = leb-false limit (slot_of b) f4.0;
+      once = ltb-false 1 (count_by (counted false 2 (slot_in b)) rs) f5.0;
+      depositor = f6.0;
+      tag_once = f7.0;
+      few = (or_parts (many_of_one rs b) _ f7.1).0;
+    }
 
 -- a slot that is counted once is no other record's
-fewer : (p : List ℕ → Bool) (b : List ℕ) (rs : List (List ℕ)) → count_by p rs ≤ count_by p (b ∷ rs)
-unfolding count_by
-fewer p b rs = go (p b)
-  where
-    go : (x : Bool) → count_by p rs ≤ cond x (suc (count_by p rs)) (count_by p rs)
-    go true = omega arith
-    go false = omega arith
-
 none_counted : (p : List ℕ → Bool) (rs : List (List ℕ)) → count_by p rs ≤ 0 → All (λ (b : List ℕ). p b ≡ false) rs
 unfolding count_by
 none_counted p [] h = lists.none
-none_counted p (r ∷ rs) h = go (p r) refl h (none_counted p rs)
-  where
-    go : (x : Bool) → p r ≡ x → cond x (suc (count_by p rs)) (count_by p rs) ≤ 0 → (count_by p rs ≤ 0 → All (λ (b : List ℕ). p b ≡ false) rs)
-        → All (λ (b : List ℕ). p b ≡ false) (r ∷ rs)
-    go true e k f = absurd (omega arith)
-    go false e k f = lists.more e (f k)
+none_counted p (r ∷ rs) h =
+    cond_both (p r) _ _ (λ (n : ℕ). n ≤ 0 → All (λ (b : List ℕ). p b ≡ false) (r ∷ rs)) (λ e k. absurd (omega arith)) (λ e k. lists.more e (none_counted p rs k)) h
 
 -- records are bytes, and hold their slot
 abbrev pub Whole : List ℕ → Type 0
@@ -107,18 +88,26 @@ differ b c w v e q =
     sym (be_num_part b 2 8 (omega (arith, w.1)) w.0) ∙ ap (be 8) q ∙ be_num_part c 2 8 (omega (arith, v.1)) v.0 in
     let t : true ≡ false =
     sym (same_refl (part c 2 8)) ∙ ap₂ (λ (k : ℕ) (l : List ℕ). same_bytes (part c 2 k) l) (sym (length_part b 2 8 (omega (arith, w.1)))) (sym s) ∙ e in
-    let z : ◌≡◌ {A = ℕ} 0 1 = cc in omega arith
+    cc
+
+-- the first, and the others
+module _ {A : Type 0} {x : A} {xs : List A} where
+  pub head_of : {P : A → Type 0} → All P (x ∷ xs) → P x
+  head_of (lists.more p a) = p
+
+  pub rest_of : {P : A → Type 0} → All P (x ∷ xs) → All P xs
+  rest_of (lists.more p a) = a
+
+  pub first_away : {R : A → A → Type 0} → Sorted R (x ∷ xs) → All (R x) xs
+  first_away (next a s) = a
+
+  pub rest_away : {R : A → A → Type 0} → Sorted R (x ∷ xs) → Sorted R xs
+  rest_away (next a s) = s
 
 -- each of some records is like itself, and at most one of all is like it: of two that follow each other the second is not like the first
 under : {A X : Type 0} {P : A → Type 0} (ds : List A) → (X → All P ds) → All (λ (d : A). X → P d) ds
 under [] f = lists.none
-under {A} {X} {P} (d ∷ ds) f = lists.more (λ q. head_of (f q)) (under ds (λ q. rest_of (f q)))
-  where
-    head_of : All P (d ∷ ds) → P d
-    head_of (lists.more p a) = p
-
-    rest_of : All P (d ∷ ds) → All P ds
-    rest_of (lists.more p a) = a
+under (d ∷ ds) f = lists.more (λ q. head_of (f q)) (under ds (λ q. rest_of (f q)))
 
 pub counted_apart : (like : List ℕ → List ℕ → Bool) (Q : List ℕ → Type 0) (rs : List (List ℕ)) → All (λ (b : List ℕ). Q b → like b b ≡ true) rs
     → All (λ (b : List ℕ). Q b → count_by (like b) rs ≤ 1) rs → Sorted (λ (a b : List ℕ). Q a → like a b ≡ false) rs
@@ -126,18 +115,14 @@ unfolding count_by
 counted_apart like Q [] w c = empty
 counted_apart like Q (b ∷ rs) (lists.more v w) (lists.more h c) =
     next (under rs (λ q. none_counted (like b) rs (omega (arith, own q, h q))))
-    (counted_apart like Q rs w (all_imp (λ d k q. omega (arith, k q, fewer (like d) b rs)) rs c))
+    (counted_apart like Q rs w (all_imp (λ d k q. omega (arith, k q, count_append (like d) (b ∷ []) rs)) rs c))
   where
     own : Q b → count_by (like b) (b ∷ rs) ≡ suc (count_by (like b) rs)
     own q = ap (λ (x : Bool). cond x (suc (count_by (like b) rs)) (count_by (like b) rs)) (v q)
 
 pub sorted_with : {A : Type 0} {W : A → Type 0} {R S : A → A → Type 0} → ((x y : A) → W x → W y → R x y → S x y) → (xs : List A) → All W xs → Sorted R xs → Sorted S xs
 sorted_with f [] w s = empty
-sorted_with {A} {W} {R} {S} f (x ∷ xs) (lists.more v w) (next a s) = next (each xs w a) (sorted_with f xs w s)
-  where
-    each : (ys : List A) → All W ys → All (R x) ys → All (S x) ys
-    each [] b c = lists.none
-    each (y ∷ ys) (lists.more u b) (lists.more r c) = lists.more (f x y v u r) (each ys b c)
+sorted_with f (x ∷ xs) (lists.more v w) (next a s) = next (all_imp (λ y q. f x y v q.0 q.1) xs (all_both xs w a)) (sorted_with f xs w s)
 
 pub slots_differ : (rs : List (List ℕ)) → All Whole rs → All (λ (b : List ℕ). count_by (counted false 2 (slot_in b)) rs ≤ 1) rs
     → Sorted (λ (a b : List ℕ). slot_of a ≡ slot_of b → ⊥) rs
@@ -169,55 +154,24 @@ module _ {A : Type 0} (key : A → ℕ) where
   unfolding insert_by
   length_by t ts = length_insert_at ts (unwrap_or (length ts) (position (λ (r : A). ltb (key t) (key r)) ts)) t (position_le (λ (r : A). ltb (key t) (key r)) ts)
 
-  pub all_by : {P : A → Type 0} (t : A) (ts : List A) → P t → All P ts → All P (insert_by key t ts)
-  unfolding insert_by
-  all_by t ts p q = all_insert_at _ t ts q p
-
   -- slots rise on, if no row has the new one's
   rise_by : (t : A) (ts : List A) → All (λ (r : A). key r ≡ key t → ⊥) ts → Sorted (λ (a b : A). key a < key b) ts → Sorted (λ (a b : A). key a < key b) (insert_by key t ts)
   unfolding insert_by
   rise_by t ts n s =
       sorted_insert (λ (r : A). ltb (key t) (key r)) t ts (λ a b c p q. omega (arith, p, q))
-      (all_imp (λ r ne e. less (key r) (key t) ne (ltb-false (key t) (key r) e)) ts n)
+      (all_imp (λ r ne e. lt_of_le-ne (ltb-false (key t) (key r) e) ne) ts n)
       (all_imp (λ r ne e. ltb-true (key t) (key r) e) ts n) s
-    where
-      less : (x y : ℕ) → (x ≡ y → ⊥) → x ≤ y → x < y
-      less x y ne h = go (ltb x y) refl
-        where
-          go : (b : Bool) → ltb x y ≡ b → x < y
-          go true e = ltb-true x y e
-          go false e = let k = ltb-false x y e in let q : x ≡ y = omega arith in absurd (ne q)
 
   pub differ_by : (R : A → A → Type 0) (t : A) (ts : List A) → All (λ (r : A). R r t) ts → All (R t) ts → Sorted R ts → Sorted R (insert_by key t ts)
   unfolding insert_by
   differ_by R t ts a b s = sorted_insert_at _ t ts a b s
 
 module _ (limit size total : ℕ) (room : total * 2064 ≤ size) (l : Rows) (b : List ℕ) (rs : List (List ℕ)) (O : Ordered limit size total l (b ∷ rs)) where
-  head_of : {P : List ℕ → Type 0} → All P (b ∷ rs) → P b
-  head_of (lists.more p a) = p
-
-  rest_of : {P : List ℕ → Type 0} → All P (b ∷ rs) → All P rs
-  rest_of (lists.more p a) = a
-
-  first_away : {R : List ℕ → List ℕ → Type 0} → Sorted R (b ∷ rs) → All (R b) rs
-  first_away (next a s) = a
-
-  rest_away : {R : List ℕ → List ℕ → Type 0} → Sorted R (b ∷ rs) → Sorted R rs
-  rest_away (next a s) = s
-
-  both_away : {P : List ℕ → Type 0} {Q : List ℕ → Type 0} {S : List ℕ → Type 0} → ((d : List ℕ) → P d → Q d → S d) → (ds : List (List ℕ)) → All P ds → All Q ds → All S ds
-  both_away f [] p q = lists.none
-  both_away f (d ∷ ds) (lists.more x p) (lists.more y q) = lists.more (f d x y) (both_away f ds p q)
-
-  counted_one : (x : Bool) → is_carried b ≡ x → count_by is_carried (b ∷ rs) ≡ cond x (suc (count_by is_carried rs)) (count_by is_carried rs)
-  unfolding count_by
-  counted_one x e = ap (λ (t : Bool). cond t (suc (count_by is_carried rs)) (count_by is_carried rs)) e
-
   ordered_carried : (r : _) (ct : List ℕ) → is_carried b ≡ true → length ct ≤ 2064 → Ordered limit size total (load_held l (slot_of b) (held.carried r ct)) rs
   unfolding load_held
   ordered_carried r ct m h =
       let n : Carried = carried_row (slot_of b) (length ct) (length l.carried) r in
-      let k = counted_one true m in
+      let k = turn_count {rs = rs} {r = b} refl is_carried true m in
       let c = length_by carried_slot n l.carried in
       record {
         carried_rise = rise_by carried_slot n l.carried (head_of O.fresh_carried) O.carried_rise;
@@ -230,7 +184,7 @@ module _ (limit size total : ℕ) (room : total * 2064 ≤ size) (l : Rows) (b :
         in_cells = all_by carried_slot n l.carried (omega (arith, c), h) (all_imp (λ x p. (omega (arith, p.0, c), p.1)) l.carried O.in_cells);
         sized = length_splice l.cells (length l.carried * 2064) ct (omega (arith, O.count, k, O.sized)) ∙ O.sized;
         count = omega (arith, O.count, k, c);
-        fresh_carried = both_away (λ d ne f. all_by carried_slot n l.carried ne f) rs (first_away O.slots) (rest_of O.fresh_carried);
+        fresh_carried = all_imp (λ d k. all_by carried_slot n l.carried k.0 k.1) rs (all_both rs (first_away O.slots) (rest_of O.fresh_carried));
         fresh_tombstones = rest_of O.fresh_tombstones;
         slots = rest_away O.slots;
         kinds = rest_of O.kinds;
@@ -241,29 +195,23 @@ module _ (limit size total : ℕ) (room : total * 2064 ≤ size) (l : Rows) (b :
   unfolding load_held
   ordered_tombstone t m =
       let n : Tombstone = tombstone_row (slot_of b) t in
-      let k = counted_one false m in
+      let k = turn_count {rs = rs} {r = b} refl is_carried false m in
       record {
         carried_rise = O.carried_rise;
         carried_below = O.carried_below;
         tombstones_rise = rise_by tombstone_slot n l.tombstones (head_of O.fresh_tombstones) O.tombstones_rise;
         tombstones_below = all_by tombstone_slot n l.tombstones (head_of O.below) O.tombstones_below;
-        apart = both_apart l.carried (head_of O.fresh_carried) O.apart;
+        apart = all_imp (λ r k. all_by tombstone_slot n l.tombstones k.0 k.1) l.carried (all_both l.carried (head_of O.fresh_carried) O.apart);
         cells_differ = O.cells_differ;
         in_cells = O.in_cells;
         sized = O.sized;
         count = omega (arith, O.count, k);
         fresh_carried = rest_of O.fresh_carried;
-        fresh_tombstones = both_away (λ d ne f. all_by tombstone_slot n l.tombstones ne f) rs (first_away O.slots) (rest_of O.fresh_tombstones);
+        fresh_tombstones = all_imp (λ d k. all_by tombstone_slot n l.tombstones k.0 k.1) rs (all_both rs (first_away O.slots) (rest_of O.fresh_tombstones));
         slots = rest_away O.slots;
         kinds = rest_of O.kinds;
         below = rest_of O.below;
       }
-    where
-      both_apart : (rows : List Carried) → All (λ (r : Carried). r.slot ≡ slot_of b → ⊥) rows → All (λ (r : Carried). All (λ (u : Tombstone). r.slot ≡ u.slot → ⊥) l.tombstones) rows
-          → All (λ (r : Carried). All (λ (u : Tombstone). r.slot ≡ u.slot → ⊥) (insert_by tombstone_slot (tombstone_row (slot_of b) t) l.tombstones)) rows
-      both_apart [] p q = lists.none
-      both_apart (r ∷ rows) (lists.more x p) (lists.more y q) =
-          lists.more (all_by tombstone_slot (tombstone_row (slot_of b) t) l.tombstones x y) (both_apart rows p q)
 
   pub ordered_next : Ordered limit size total (load_record l b) rs
   unfolding load_record
@@ -286,20 +234,16 @@ ordered_all limit size total h l (b ∷ rs) O = ordered_all limit size total h (
 
 -- ---- a file that is fine
 
-whole_in : (n : ℕ) (b : List ℕ) → Bytes b → All Whole (records_in n b)
+whole_in : (n : ℕ) (b : List ℕ) → Bytes b → All Bytes (records_in n b)
 unfolding records_in
 whole_in zero b w = lists.none
-whole_in (suc n) b w = go (leb (record_size b) (length b)) refl (whole_in n (drop (record_size b) b) (bytes_drop (record_size b) b w))
-  where
-    go : (t : Bool) → leb (record_size b) (length b) ≡ t → All Whole (records_in n (drop (record_size b) b))
-        → All Whole (cond t (take (record_size b) b ∷ records_in n (drop (record_size b) b)) [])
-    go true e r =
-        lists.more (bytes_take (record_size b) b w, omega (arith, length-take-le (record_size b) b (leb-true (record_size b) (length b) e), size_least b)) r
-    go false e r = lists.none
+whole_in (suc n) b w =
+    cond_both (leb (record_size b) (length b)) _ _ (All Bytes)
+    (λ e. lists.more (bytes_take (record_size b) b w) (whole_in n (drop (record_size b) b) (bytes_drop (record_size b) b w))) (λ e. lists.none)
 
 pub records_whole : (file : List ℕ) → Bytes file → All Whole (records file)
 unfolding records_at
-records_whole file w = whole_in (length file - 10) (drop 10 file) (bytes_drop 10 file w)
+records_whole file w = all_both _ (whole_in (length file - 10) (drop 10 file) (bytes_drop 10 file w)) (records_long file)
 
 module _ (cs : List Contact) (cells : List ℕ) (room : ℕ) (file : List ℕ) (e : Ok tt ≡ tested_as (load_tests cs (length cells) room file)) where
   pub fine_cells : carried_count file ≤ cell_count (length cells)

@@ -14,7 +14,7 @@ use Rattle.model.specs.Basics.{match_some}
 use Rattle.history.specs.Order.{Sorted, next}
 use Rattle.history.proofs.SortedLaws.{sorted_insert}
 use Rattle.load.specs.Load.{insert_by, carried_slot, tombstone_slot, carried_row, tombstone_row, Rows, load_held, load_record}
-use Rattle.load.specs.Laying.{higher, Rise, BySlot}
+use Rattle.load.specs.Laying.{higher, SlotsAscend, BySlot}
 use Rattle.load.proofs.InsertLaws.{slot_next, slot_end}
 
 -- ---- the place
@@ -23,13 +23,6 @@ module _ (w n : ℕ) (a : List ℕ) (slot : ℕ) where
   -- every row from i on is of a higher slot
   abbrev pub Above : ℕ → Type 0
   Above i = (j : ℕ) → i ≤ j → j < n → slot < num (part a (j * w) 8)
-
-  pub above_next : {i : ℕ} → 0 < i → Above i → slot < num (part a ((i - 1) * w) 8) → Above (i - 1)
-  above_next {i} h A t j k l = go (ltb (i - 1) j) refl
-    where
-      go : (b : Bool) → ltb (i - 1) j ≡ b → slot < num (part a (j * w) 8)
-      go true e = A j (omega (arith, ltb-true (i - 1) j e)) l
-      go false e = let q : i - 1 ≡ j = omega (arith, ltb-false (i - 1) j e) in subst (λ (m : ℕ). slot < num (part a (m * w) 8)) q t
 
   module _ (wide : 8 ≤ w) where
     module _ (i : ℕ) (h : i ≤ n) (A : Above i) (below : (j : ℕ) → j < i → num (part a (j * w) 8) ≤ slot) where
@@ -56,8 +49,8 @@ module _ (w n : ℕ) (a : List ℕ) (slot : ℕ) where
     pub place_end : Above 0 → 0 ≡ unwrap_or n (position (higher slot) (rows w n a))
     place_end A = split_place 0 (omega arith) A (λ j k. absurd (omega arith))
 
-    pub place_here : Rise w n a → {i : ℕ} → 0 < i → i ≤ n → Above i → num (part a ((i - 1) * w) 8) ≤ slot → i ≡ unwrap_or n (position (higher slot) (rows w n a))
-    unfolding Rise
+    pub place_here : SlotsAscend w n a → {i : ℕ} → 0 < i → i ≤ n → Above i → num (part a ((i - 1) * w) 8) ≤ slot → i ≡ unwrap_or n (position (higher slot) (rows w n a))
+    unfolding SlotsAscend
     place_here R {i} z h A t = split_place i h A (λ j k. omega (arith, R j (i - 1) (omega arith) (omega arith), t))
 
 -- ---- rows by slot
@@ -71,10 +64,10 @@ sorted_get (x ∷ xs) d (next a s) (suc i) (suc j) h k = sorted_get xs d s i j (
 
 module _ {A : Type 0} (key : A → ℕ) where
   -- those of a table, as bytes
-  pub rise_table : {c : Codec A} → ((b : List ℕ) → num (part b 0 8) ≡ key (c.decode b)) → 8 ≤ c.width → {a x : List ℕ} {ts : List A} {m : ℕ}
-      → TableNow c a ts m x → Sorted (λ (r s : A). key r ≤ key s) ts → Rise c.width m x
-  unfolding Rise
-  rise_table {c} same wide {a} {x} {ts} {m} T S i j h k = go (ltb i j) refl
+  pub ascend_table : {c : Codec A} → ((b : List ℕ) → num (part b 0 8) ≡ key (c.decode b)) → 8 ≤ c.width → {a x : List ℕ} {ts : List A} {m : ℕ}
+      → TableNow c a ts m x → Sorted (λ (r s : A). key r ≤ key s) ts → SlotsAscend c.width m x
+  unfolding SlotsAscend
+  ascend_table {c} same wide {a} {x} {ts} {m} T S i j h k = go (ltb i j) refl
     where
       read : (l : ℕ) → l < m → num (part x (l * c.width) 8) ≡ key (get_or ts l (c.decode []))
       read l q =

@@ -1,13 +1,14 @@
 -- A carried row that is not read back is saved all the same, and its file is refused by number 8.
 -- Assumes nothing.
-use Rattle.std.proofs.Common.{◌≡◌, ℕ, ◌<◌, ◌≤◌, Bool, true, false, cond, ◌||◌, leb, List, [], ◌∷◌, map, length, take, sym, refl, ap, ◌∙◌, subst, None}
+use Rattle.std.proofs.Common.{◌≡◌, ℕ, ◌<◌, ◌≤◌, Bool, true, ◌||◌, leb, List, [], ◌∷◌, map, length, take, sym, refl, ap, ◌∙◌, subst, None}
+use Rattle.std.proofs.lemmas.Bool.{cond_both}
+use mathlib.Core.Bool.{or-true}
 use Rattle.courier_core.specs.declared.Refusal.{Refusal}
 use Rattle.courier_core.specs.declared.Refusal.TheVariants as refusal
 use Rattle.table.specs.Lists.{All, any}
 use Rattle.table.proofs.ListLaws.{all_imp, all_map}
 use Rattle.courier.proofs.Laws.{not_valid}
 use Rattle.state.specs.Held.{held_row, held_decode, held_read}
-use Rattle.state.specs.declared.Carried.{Carried as HeldCarried}
 use Rattle.state.proofs.HeldLaws.{carried_refused}
 use Rattle.rows.specs.declared.Contact.{Contact}
 use Rattle.rows.specs.declared.Carried.{Carried}
@@ -26,7 +27,7 @@ use Rattle.load_tests.proofs.BlobLaws.{kind_tested}
 use Rattle.load_tests.proofs.TestLaws.{fails_kind, file_wrong, tested_wrong}
 use Rattle.load.specs.Load.{load_held_rows, load_step}
 use Rattle.load.proofs.CallLaws.{after, step_tested}
-use Rattle.load.proofs.SavedLaws.{Short, carried_rows, tombstone_rows, rows_of, file_of, same_file, same_records, proper_held, carried_short, tombstone_short, blob_saved}
+use Rattle.load.proofs.SavedLaws.{Short, carried_rows, tombstone_rows, rows_of, file_of, same_file, same_records, as_held, proper_held, carried_short, tombstone_short, blob_saved}
 use Rattle.load.proofs.FineLaws.{Begins, begins_saved}
 
 -- ---- a test that holds of one holds of some
@@ -34,11 +35,7 @@ use Rattle.load.proofs.FineLaws.{Begins, begins_saved}
 any_in : {A : Type 0} (p : A → Bool) {x : A} {xs : List A} → x ∈ xs → p x ≡ true → any p xs ≡ true
 unfolding any
 any_in p {xs = y ∷ ys} here e = ap (λ (t : Bool). t || any p ys) e
-any_in p {xs = y ∷ ys} (there m) e = ap (λ (t : Bool). p y || t) (any_in p m e) ∙ or_true (p y)
-  where
-    or_true : (t : Bool) → (t || true) ≡ true
-    or_true true = refl
-    or_true false = refl
+any_in p {xs = y ∷ ys} (there m) e = ap (λ (t : Bool). p y || t) (any_in p m e) ∙ or-true (p y)
 any_in {A = A} p {xs = []} h e = elim h [ ]
 
 in_map : {A B : Type 0} (f : A → B) {x : A} {xs : List A} → x ∈ xs → f x ∈ map f xs
@@ -48,16 +45,9 @@ in_map f (there m) = there (in_map f m)
 in_merge : (key : Slotted → ℕ) {x : Slotted} (xs ys : List Slotted) → x ∈ xs → x ∈ merge key xs ys
 unfolding merge
 in_merge key (z ∷ zs) [] m = m
-in_merge key (z ∷ zs) (y ∷ ys) here = go (leb (key z) (key y)) (in_merge key (z ∷ zs) ys here)
-  where
-    go : (t : Bool) → z ∈ merge key (z ∷ zs) ys → z ∈ cond t (z ∷ merge key zs (y ∷ ys)) (y ∷ merge key (z ∷ zs) ys)
-    go true n = here
-    go false n = there n
-in_merge key {x} (z ∷ zs) (y ∷ ys) (there m) = go (leb (key z) (key y)) (in_merge key zs (y ∷ ys) m) (in_merge key (z ∷ zs) ys (there m))
-  where
-    go : (t : Bool) → x ∈ merge key zs (y ∷ ys) → x ∈ merge key (z ∷ zs) ys → x ∈ cond t (z ∷ merge key zs (y ∷ ys)) (y ∷ merge key (z ∷ zs) ys)
-    go true k n = there k
-    go false k n = there n
+in_merge key (z ∷ zs) (y ∷ ys) here = cond_both (leb (key z) (key y)) _ _ (λ (l : List Slotted). z ∈ l) (λ e. here) (λ e. there (in_merge key (z ∷ zs) ys here))
+in_merge key {x} (z ∷ zs) (y ∷ ys) (there m) =
+    cond_both (leb (key z) (key y)) _ _ (λ (l : List Slotted). x ∈ l) (λ e. there (in_merge key zs (y ∷ ys) m)) (λ e. there (in_merge key (z ∷ zs) ys (there m)))
 in_merge key {x = x} [] ys m = elim m [ ]
 
 -- ---- the file
@@ -83,8 +73,7 @@ module _ (s : State) (C : All ProperCarried s.carried) (T : All ProperTombstone 
   unfolding carried_held
   blob_refused =
       let ct : List ℕ = ciphertext s.carried_cells r.cell r.len in
-      let c : HeldCarried = record { depositor = r.depositor; header = record { tag = r.tag; c = r.c; expiry_min = r.expiry_min; copies = r.copies } } in
-      carried_refused c (proper_held r (all_in C m)) ct (not_valid (length (take 2064 ct)) r.copies r.expiry_min 0 lost)
+      carried_refused (as_held r) (proper_held r (all_in C m)) ct (not_valid (length (take 2064 ct)) r.copies r.expiry_min 0 lost)
 
   kind_fails : true ≡ fails kind_tests (saved_record row)
   kind_fails = kind_tested (saved_record row) None (sym (ap held_read (ap held_decode (blob_saved row) ∙ blob_refused)))

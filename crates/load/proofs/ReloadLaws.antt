@@ -1,15 +1,13 @@
 -- The file of a state that is `Savable` is never refused by a post that takes its rows, and gives it the same held rows and next slot.
 -- Assumes nothing.
-use Rattle.std.proofs.Common.{◌≡◌, ℕ, ◌<◌, ◌≤◌, Bool, true, false, ◌||◌, List, [], ◌∷◌, map, length, sym, refl, ap, ◌∙◌, subst, ap₂, arith, le-ltb, Ok}
+use Rattle.std.proofs.Common.{◌≡◌, ℕ, ◌<◌, ◌≤◌, Bool, true, false, ◌||◌, List, map, length, sym, refl, ap, ◌∙◌, subst, ap₂, arith, le-ltb, Ok}
 use mathlib.Core.Bool.{false≢true}
 use lib.ListN.{length-map}
 use Rattle.courier_core.specs.declared.Refusal.{Refusal}
 use Rattle.table.specs.Lists.{All, any, count_by}
-use Rattle.table.specs.Lists as lists
 use Rattle.table.proofs.ListLaws.{all_each, all_imp, all_map, count_map}
 use Rattle.rows.specs.declared.Contact.{Contact}
 use Rattle.rows.specs.declared.Carried.{Carried}
-use Rattle.rows.specs.declared.Tombstone.{Tombstone}
 use Rattle.model.specs.Basics.{same_contact}
 use Rattle.model.specs.State.{State}
 use Rattle.model.specs.Calls.{Result, done}
@@ -18,20 +16,16 @@ use Rattle.model.specs.Contacts.{known}
 use Rattle.model.specs.Custody.{deposited}
 use Rattle.model.specs.Saved.{Slotted, carried_held, tombstone_held, saved_record, save_held}
 use Rattle.history.specs.Order.{Sorted}
+use Rattle.history.proofs.SortedLaws.{all_both}
 use Rattle.model.proofs.Laws.{all_merge}
 use Rattle.load_tests.specs.Records.{records, is_carried, is_tombstone}
 use Rattle.load_tests.specs.Tests.{record_tests, row_tests, fails, next_in, carried_count, tombstone_count, wrongs, holds, load_tests, tested_as}
-use Rattle.load_tests.proofs.TestLaws.{fails_row, file_many, tested_fine}
+use Rattle.load_tests.proofs.TestLaws.{none_any, fails_row, file_many, tested_fine}
 use Rattle.load.specs.Reload.{Savable, Takes, Reloaded}
 use Rattle.load.specs.Load.{load_held_rows, load_step}
 use Rattle.load.proofs.CallLaws.{after, step_tested}
-use Rattle.load.proofs.SavedLaws.{Back, Short, of_carried, of_tombstone, carried_rows, tombstone_rows, rows_of, file_of, same_file, same_records, all_rows_lem, next_saved, sorted_map, saved_loaded}
+use Rattle.load.proofs.SavedLaws.{Back, Short, of_carried, of_tombstone, carried_rows, tombstone_rows, each_carried, each_tombstone, rows_of, file_of, same_file, same_records, all_rows_lem, next_saved, sorted_map, saved_loaded}
 use Rattle.load.proofs.FineLaws.{depositor_of, TagsApart, of_depositor, sorted_merge, count_merge, count_none, count_all, counts_saved, marked_saved, marked_tomb, kind_saved, past_saved, once_saved, known_saved, tag_once_saved, few_of_one_saved, Begins, begins_saved}
-
-none_any : {A : Type 0} (p : A → Bool) (xs : List A) → All (λ (x : A). p x ≡ false) xs → any p xs ≡ false
-unfolding any
-none_any p [] a = refl
-none_any p (x ∷ xs) (lists.more e a) = ap₂ (λ (u v : Bool). u || v) e (none_any p xs a)
 
 module _ (s : State) (W : Savable s) where
   abbrev xs : List Slotted
@@ -55,13 +49,6 @@ module _ (s : State) (W : Savable s) where
   shorts : All Short hs
   shorts = all_imp (λ h B. B.short) hs backs
 
-  -- of every row of each kind
-  of_carried_lem : {P : Slotted → Type 0} → ((r : Carried) → P (carried_held s.carried_cells r)) → All P xs
-  of_carried_lem f = all_map (carried_held s.carried_cells) s.carried (all_imp (λ r p. f r) s.carried W.carried)
-
-  of_tombstones : {P : Slotted → Type 0} → ((t : Tombstone) → P (tombstone_held t)) → All P ys
-  of_tombstones f = all_map tombstone_held s.tombstones (all_imp (λ t p. f t) s.tombstones W.tombstones)
-
   its_records : records file ≡ rs
   its_records = same_records s W.fits shorts
 
@@ -74,9 +61,9 @@ module _ (s : State) (W : Savable s) where
       ∙ omega (
         arith,
         count_merge of_carried (λ (h : Slotted). h.slot) xs ys,
-        count_all of_carried xs (of_carried_lem (λ r. refl)),
+        count_all of_carried xs (each_carried s (λ r. refl)),
         length-map s.carried (carried_held s.carried_cells),
-        count_none of_carried ys (of_tombstones (λ t. refl)),
+        count_none of_carried ys (each_tombstone s (λ t. refl)),
       )
 
   tombstones_counted : tombstone_count file ≡ length s.tombstones
@@ -86,9 +73,9 @@ module _ (s : State) (W : Savable s) where
       ∙ omega (
         arith,
         count_merge of_tombstone (λ (h : Slotted). h.slot) xs ys,
-        count_none of_tombstone xs (of_carried_lem (λ r. refl)),
+        count_none of_tombstone xs (each_carried s (λ r. refl)),
         length-map s.tombstones tombstone_held,
-        count_all of_tombstone ys (of_tombstones (λ t. refl)),
+        count_all of_tombstone ys (each_tombstone s (λ t. refl)),
       )
 
   of_one_lem : (id : ℕ) → count_by (of_depositor id) hs ≤ 32
@@ -97,7 +84,7 @@ module _ (s : State) (W : Savable s) where
       omega (
         arith,
         count_merge (of_depositor id) (λ (h : Slotted). h.slot) xs ys,
-        count_none (of_depositor id) ys (of_tombstones (λ t. refl)),
+        count_none (of_depositor id) ys (each_tombstone s (λ t. refl)),
         count_map (carried_held s.carried_cells) (λ (r : Carried). same_contact r.depositor (record { 0 = id })) (of_depositor id) (λ r. refl) s.carried,
         W.quota (record { 0 = id }),
       )
@@ -118,7 +105,7 @@ module _ (s : State) (W : Savable s) where
       sorted_merge (λ (h : Slotted). h.slot) (λ a b f p q e. f q p (sym e)) xs ys
       (sorted_map (carried_held s.carried_cells) (λ a b k p q e. k e) s.carried W.tags_differ)
       (sorted_map tombstone_held (λ a b k p q e. false≢true p) s.tombstones W.order.tombstones_rise)
-      (of_carried_lem (λ r. of_tombstones (λ t p q e. false≢true q)))
+      (each_carried s (λ r. each_tombstone s (λ t p q e. false≢true q)))
 
   -- ---- each record
 
@@ -131,13 +118,8 @@ module _ (s : State) (W : Savable s) where
     unfolding carried_held tombstone_held
     fair =
         all_merge (λ (h : Slotted). h.slot) xs ys
-        (all_map (carried_held s.carried_cells) s.carried (both s.carried W.order.carried_below k))
+        (all_map (carried_held s.carried_cells) s.carried (all_imp (λ r q. (q.0, λ e. q.1)) s.carried (all_both s.carried W.order.carried_below k)))
         (all_map tombstone_held s.tombstones (all_imp (λ t b. (b, λ p. absurd (false≢true p))) s.tombstones W.order.tombstones_below))
-      where
-        both : (cs' : List Carried) → All (λ (r : Carried). r.slot < s.next_slot) cs' → All (λ (r : Carried). known cs r.depositor ≡ true) cs'
-            → All (λ (r : Carried). (r.slot < s.next_slot) × (◌≡◌ {A = Bool} true true → known cs (record { 0 = r.depositor.0 }) ≡ true)) cs'
-        both [] a b = lists.none
-        both (r ∷ rows) (lists.more p a) (lists.more q b) = lists.more (p, λ e. q) (both rows a b)
 
     row_fine : (h : Slotted) → Back h → Fair h → fails (row_tests s.next_slot cs rs) (saved_record h) ≡ false
     unfolding fails any
@@ -151,11 +133,7 @@ module _ (s : State) (W : Savable s) where
     records_fine : any (fails (record_tests (next_in file) cs (records file))) (records file) ≡ false
     records_fine =
         ap₂ (λ (n : ℕ) (bs : List (List ℕ)). any (fails (record_tests n cs bs)) bs) (next_saved s W) its_records
-        ∙ none_any (fails (record_tests s.next_slot cs rs)) rs (all_map saved_record hs (every hs backs fair))
-      where
-        every : (ks : List Slotted) → All Back ks → All Fair ks → All (λ (h : Slotted). fails (record_tests s.next_slot cs rs) (saved_record h) ≡ false) ks
-        every [] a b = lists.none
-        every (h ∷ ks) (lists.more B a) (lists.more f b) = lists.more (record_fine h B f) (every ks a b)
+        ∙ none_any (fails (record_tests s.next_slot cs rs)) rs (all_map saved_record hs (all_imp (λ h k. record_fine h k.0 k.1) hs (all_both hs backs fair)))
 
     -- ---- the file
 

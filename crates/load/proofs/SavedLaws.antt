@@ -1,18 +1,18 @@
 -- What a post saves and then loads: the file read back record by record, and the same held rows.
 -- Assumes nothing.
-use Rattle.std.proofs.Common.{◌≡◌, ℕ, zero, suc, ◌+◌, ◌-◌, ◌*◌, ◌^◌, ◌<◌, ◌≤◌, Bool, true, false, cond, not, ltb, leb, List, [], ◌∷◌, ◌++◌, map, length, take, drop, sym, refl, ap, ◌∙◌, subst, ap₂, append_assoc, append-nil, arith, length-append, drop_of_length-le, length-take, take_all, take_at, drop_at, le-ltb, le-leb, Option, Some, None}
+use Rattle.std.proofs.Common.{◌≡◌, ℕ, suc, ◌+◌, ◌-◌, ◌*◌, ◌^◌, ◌<◌, ◌≤◌, Bool, true, false, not, ltb, leb, List, [], ◌∷◌, ◌++◌, map, length, take, drop, sym, refl, ap, ◌∙◌, subst, ap₂, append_assoc, append-nil, arith, length-append, drop_of_length-le, length-take, take_all, take_at, drop_at, le-ltb, Option, Some, None}
+use Rattle.std.proofs.lemmas.Bool.{cond_both}
 use mathlib.Core.List.{map-append}
 use lib.ListN.{length-map}
-use borrow.Author.Tests.{lt-leb}
 use Rattle.octets.specs.Bytes.{part, splice, num, be}
 use Rattle.octets.proofs.Parts.{part_left, part_hit, part_whole, length_part}
 use Rattle.octets.proofs.Numbers.{length_be, num_be}
 use Rattle.table.specs.Lists.{All, filter, insert_at, position_from, position, unwrap_or}
 use Rattle.table.specs.Lists as lists
 use Rattle.table.specs.Rows.{join}
-use Rattle.table.proofs.ListLaws.{all_imp, all_push, all_map}
+use Rattle.table.proofs.ListLaws.{all_each, all_imp, all_push, all_map}
 use Rattle.history.specs.Order.{Sorted, empty, next, InCell}
-use Rattle.history.proofs.SortedLaws.{all_unmap}
+use Rattle.history.proofs.SortedLaws.{all_both, all_unmap}
 use Rattle.history.proofs.CellLaws.{in_area, inside, length_after, ciphertext_new, ciphertext_kept}
 use Rattle.state.specs.declared.Carried.{Carried as HeldCarried}
 use Rattle.state.specs.declared.Tombstone.{Tombstone as HeldTombstone}
@@ -28,7 +28,7 @@ use Rattle.load_tests.specs.Records.{record_size, records_in, records_at, record
 use Rattle.model.specs.Calls.{Result, done}
 use Rattle.load.proofs.CallLaws.{load_cases, not_done}
 use Rattle.load_tests.specs.Tests.{next_in}
-use Rattle.load_tests.proofs.RecordLaws.{size_least}
+use Rattle.load_tests.proofs.RecordLaws.{size_least, records_none, records_next}
 use Rattle.courier.specs.Courier.{carried_length}
 use Rattle.state.proofs.RowLaws.{ProperTombstone as ProperHeldTombstone}
 use Rattle.state.proofs.HeldLaws.{ProperCarried as ProperHeld, length_row, carried_back, tombstone_back}
@@ -104,29 +104,23 @@ module _ (h : Slotted) where
 abbrev bytes_of : List Slotted → List ℕ
 bytes_of hs = join (map saved_record hs)
 
-records_in_lem : (n : ℕ) (hs : List Slotted) → All Short hs → length (bytes_of hs) ≤ n → records_in n (bytes_of hs) ≡ map saved_record hs
-unfolding records_in join
-records_in_lem zero [] a k = refl
-records_in_lem (suc n) [] a k = ap (λ (t : Bool). cond t (take (record_size []) [] ∷ records_in n (drop (record_size []) [])) []) (lt-leb (record_size []) 0 (omega (arith, size_least [])))
-records_in_lem zero (h ∷ hs) (lists.more B a) k = absurd (omega (arith, length-append (saved_record h) (bytes_of hs), length_saved h))
-records_in_lem (suc n) (h ∷ hs) (lists.more B a) k =
+records_in_lem : (hs : List Slotted) → All Short hs → records_in (length (bytes_of hs)) (bytes_of hs) ≡ map saved_record hs
+unfolding join
+records_in_lem [] a = records_none 0 [] (omega (arith, size_least []))
+records_in_lem (h ∷ hs) (lists.more B a) =
+    let b : List ℕ = saved_record h in
     let x : List ℕ = bytes_of hs in
-    let b : List ℕ = saved_record h ++ x in
-    let l = length-append (saved_record h) x in
-    let z : record_size b ≡ length (saved_record h) = size_saved h B x in
-    ap (λ (t : Bool). cond t (take (record_size b) b ∷ records_in n (drop (record_size b) b)) []) (le-leb (record_size b) (length b) (omega arith))
-    ∙ ap (λ (m : ℕ). take m b ∷ records_in n (drop m b)) z
-    ∙ ap₂ (λ (p q : List ℕ). p ∷ records_in n q) (take_at (saved_record h) x (length (saved_record h)) refl) (drop_at (saved_record h) x (length (saved_record h)) refl)
-    ∙ ap (λ (r : List (List ℕ)). saved_record h ∷ r) (records_in_lem n hs a (omega (arith, length_saved h)))
+    records_next (b ++ x) (length b) (sym (size_saved h B x)) (omega (arith, length-append b x))
+    ∙ ap₂ (λ (p q : List ℕ). p ∷ records_in (length q) q) (take_at b x (length b) refl) (drop_at b x (length b) refl)
+    ∙ ap (λ (r : List (List ℕ)). b ∷ r) (records_in_lem hs a)
 
 pub records_saved : (slot : ℕ) (hs : List Slotted) → All Short hs → records (saved_file slot hs) ≡ map saved_record hs
 unfolding records_at saved_file
 records_saved slot hs a =
     let head : List ℕ = (72 ∷ 78 ∷ []) ++ be 8 slot in
     let lh : length head ≡ 10 = omega (arith, length_be 8 slot) in
-    let e : drop 10 (head ++ bytes_of hs) ≡ bytes_of hs = drop_at head (bytes_of hs) 10 lh in
-    let n : ℕ = length (head ++ bytes_of hs) - 10 in
-    ap (records_in n) e ∙ records_in_lem n hs a (omega (arith, length-append head (bytes_of hs)))
+    let n : length (head ++ bytes_of hs) - 10 ≡ length (bytes_of hs) = omega (arith, length-append head (bytes_of hs)) in
+    ap₂ records_in n (drop_at head (bytes_of hs) 10 lh) ∙ records_in_lem hs a
 
 -- ---- loading the rows of a saved file
 
@@ -148,7 +142,7 @@ loaded_saved cells slot hs a = ap (load_records (no_rows cells)) (records_saved 
 not_found : {A : Type 0} (p : A → Bool) (i : ℕ) (xs : List A) → All (λ (x : A). p x ≡ false) xs → position_from i p xs ≡ None
 unfolding position_from
 not_found p i [] a = refl
-not_found p i (x ∷ xs) (lists.more e a) = ap (λ (t : Bool). cond t (Some i) (position_from (suc i) p xs)) e ∙ not_found p (suc i) xs a
+not_found p i (x ∷ xs) (lists.more e a) = rw (e, not_found p (suc i) xs a)
 
 insert_last : {A : Type 0} (key : A → ℕ) (t : A) (ts : List A) → All (λ (r : A). key r < key t) ts → insert_by key t ts ≡ ts ++ (t ∷ [])
 unfolding insert_by insert_at
@@ -160,17 +154,13 @@ insert_last key t ts a =
 
 map_same : {A B : Type 0} (f g : A → B) (xs : List A) → All (λ (x : A). f x ≡ g x) xs → map f xs ≡ map g xs
 map_same f g [] a = refl
-map_same f g (x ∷ xs) (lists.more e a) = ap₂ (λ (y : _) (ys : List _). y ∷ ys) e (map_same f g xs a)
-
-low_carried : (cells : List ℕ) (slot : ℕ) (rows : List Carried) → All (λ (h : Slotted). h.slot < slot) (map (carried_held cells) rows) → All (λ (c : Carried). c.slot < slot) rows
-unfolding carried_held
-low_carried cells slot rows a = all_unmap (carried_held cells) rows a
-
-low_tombstones : (slot : ℕ) (rows : List Tombstone) → All (λ (h : Slotted). h.slot < slot) (map tombstone_held rows) → All (λ (t : Tombstone). t.slot < slot) rows
-unfolding tombstone_held
-low_tombstones slot rows a = all_unmap tombstone_held rows a
+map_same f g (x ∷ xs) (lists.more e a) = rw (e, map_same f g xs a)
 
 -- ---- the rows so far, as they were saved
+
+-- the fields of a row that are saved
+abbrev pub as_held : Carried → HeldCarried
+as_held r = record { depositor = r.depositor; header = record { tag = r.tag; c = r.c; expiry_min = r.expiry_min; copies = r.copies } }
 
 pub record Kept (size : ℕ) (l : Rows) (cs ts : List Slotted) : Type 0 where
   pub carried : map (carried_held l.cells) l.carried ≡ cs
@@ -198,7 +188,7 @@ module _ (size : ℕ) (l : Rows) (cs ts : List Slotted) (K : Kept size l cs ts) 
     before c h =
         ap (λ (x : List ℕ). record {
           slot = c.slot;
-          held = held.carried (record { depositor = c.depositor; header = record { tag = c.tag; c = c.c; expiry_min = c.expiry_min; copies = c.copies } }) x;
+          held = held.carried (as_held c) x;
         }) (ciphertext_kept l.cells (length l.carried) ct here short c.cell c.len (omega (arith, here, h.0)) h.1 (λ e. omega (arith, e, h.0)))
 
     abbrev new : Carried
@@ -209,9 +199,9 @@ module _ (size : ℕ) (l : Rows) (cs ts : List Slotted) (K : Kept size l cs ts) 
     own = ap (λ (x : List ℕ). record { slot = slot; held = held.carried r x }) (ciphertext_new l.cells (length l.carried) ct here short)
 
     pub kept_carried : Kept size (load_held l slot (held.carried r ct)) (cs ++ (record { slot = slot; held = held.carried r ct } ∷ [])) ts
-    unfolding load_held
+    unfolding load_held carried_held
     kept_carried =
-        let rises : All (λ (c : Carried). c.slot < slot) l.carried = low_carried l.cells slot l.carried (subst (All (λ (h : Slotted). h.slot < slot)) (sym K.carried) low) in
+        let rises : All (λ (c : Carried). c.slot < slot) l.carried = all_unmap (carried_held l.cells) l.carried (subst (All (λ (h : Slotted). h.slot < slot)) (sym K.carried) low) in
         let e : insert_by carried_slot new l.carried ≡ l.carried ++ (new ∷ []) = insert_last carried_slot new l.carried rises in
         let n : length (insert_by carried_slot new l.carried) ≡ length l.carried + 1 = ap length e ∙ length-append l.carried (new ∷ []) in
         record {
@@ -228,7 +218,7 @@ module _ (size : ℕ) (l : Rows) (cs ts : List Slotted) (K : Kept size l cs ts) 
     unfolding load_held tombstone_held
     kept_tombstone =
         let new : Tombstone = tombstone_row slot t in
-        let rises : All (λ (c : Tombstone). c.slot < slot) l.tombstones = low_tombstones slot l.tombstones (subst (All (λ (h : Slotted). h.slot < slot)) (sym K.tombstones) low) in
+        let rises : All (λ (c : Tombstone). c.slot < slot) l.tombstones = all_unmap tombstone_held l.tombstones (subst (All (λ (h : Slotted). h.slot < slot)) (sym K.tombstones) low) in
         record {
           carried = K.carried;
           tombstones = ap (map tombstone_held) (insert_last tombstone_slot new l.tombstones rises) ∙ map-append tombstone_held l.tombstones (new ∷ [])
@@ -265,75 +255,57 @@ before_one (x ∷ xs) ys y (next a s) = lists.more (middle xs ys a) (before_one 
     middle [] vs (lists.more p q) = p
     middle (u ∷ us) vs (lists.more p q) = middle us vs q
 
-loads_kept : (size : ℕ) (hs : List Slotted) (l : Rows) (cs ts : List Slotted) → Kept size l cs ts → All (λ (h : Slotted). Fits h.held) hs
-    → length cs + length (filter of_carried hs) ≤ cell_count size → Sorted Before (cs ++ filter of_carried hs) → Sorted Before (ts ++ filter of_tombstone hs)
-    → Kept size (load_rows l hs) (cs ++ filter of_carried hs) (ts ++ filter of_tombstone hs)
-unfolding load_rows filter
-loads_kept size [] l cs ts K f room sc st =
-    subst (λ (x : List Slotted). Kept size l x (ts ++ [])) (sym (append-nil cs)) (subst (Kept size l cs) (sym (append-nil ts)) K)
-loads_kept size (h ∷ hs) l cs ts K (lists.more f fs) room sc st = go h.slot h.held f room sc st (λ m us vs k r a b. loads_kept size hs m us vs k fs r a b)
-  where
-    count : length l.carried ≡ length cs
-    count = sym (length-map l.carried (carried_held l.cells)) ∙ ap length K.carried
+abbrev Loads : ℕ → List Slotted → Type 0
+Loads size hs = (l : Rows) (cs ts : List Slotted) → Kept size l cs ts → length cs + length (filter of_carried hs) ≤ cell_count size
+    → Sorted Before (cs ++ filter of_carried hs) → Sorted Before (ts ++ filter of_tombstone hs) → Kept size (load_rows l hs) (cs ++ filter of_carried hs) (ts ++ filter of_tombstone hs)
 
-    go : (s : ℕ) (x : Held) → Fits x
-        → length cs + length (cond (carried_kind x) (record { slot = s; held = x } ∷ filter of_carried hs) (filter of_carried hs)) ≤ cell_count size
-        → Sorted Before (cs ++ cond (carried_kind x) (record { slot = s; held = x } ∷ filter of_carried hs) (filter of_carried hs))
-        → Sorted Before (ts ++ cond (not (carried_kind x)) (record { slot = s; held = x } ∷ filter of_tombstone hs) (filter of_tombstone hs))
-        → ((m : Rows) (us vs : List Slotted) → Kept size m us vs → length us + length (filter of_carried hs) ≤ cell_count size
-        → Sorted Before (us ++ filter of_carried hs) → Sorted Before (vs ++ filter of_tombstone hs) → Kept size (load_rows m hs) (us ++ filter of_carried hs) (vs ++ filter of_tombstone hs))
-        → Kept size (load_rows (load_held l s x) hs) (cs ++ cond (carried_kind x) (record { slot = s; held = x } ∷ filter of_carried hs) (filter of_carried hs))
-        (ts ++ cond (not (carried_kind x)) (record { slot = s; held = x } ∷ filter of_tombstone hs) (filter of_tombstone hs))
-    go s (held.carried r ct) fit rm a b rec =
+loads_kept : (size : ℕ) (hs : List Slotted) → All (λ (h : Slotted). Fits h.held) hs → Loads size hs
+unfolding load_rows filter
+loads_kept size [] f = λ l cs ts K room sc st.
+    subst (λ (x : List Slotted). Kept size l x (ts ++ [])) (sym (append-nil cs)) (subst (Kept size l cs) (sym (append-nil ts)) K)
+loads_kept size (h ∷ hs) (lists.more f fs) = go h.slot h.held f (loads_kept size hs fs)
+  where
+    go : (s : ℕ) (x : Held) → Fits x → Loads size hs → Loads size (record { slot = s; held = x } ∷ hs)
+    go s (held.carried r ct) fit rec l cs ts K rm a b =
         let n : Slotted = record { slot = s; held = held.carried r ct } in
         let e : (cs ++ (n ∷ [])) ++ filter of_carried hs ≡ cs ++ (n ∷ filter of_carried hs) = append_assoc cs (n ∷ []) (filter of_carried hs) in
-        let len : length (cs ++ (n ∷ [])) ≡ length cs + 1 = length-append cs (n ∷ []) in
-        let k : Kept size (load_held l s (held.carried r ct)) (cs ++ (n ∷ [])) ts =
-        kept_carried size l cs ts K s r ct fit (omega (arith, rm, count)) (before_one cs (filter of_carried hs) n a) in
-        let more : length cs + suc (length (filter of_carried hs)) ≡ length (cs ++ (n ∷ [])) + length (filter of_carried hs) = omega arith in
+        let count : length l.carried ≡ length cs = sym (length-map l.carried (carried_held l.cells)) ∙ ap length K.carried in
         subst (λ (x : List Slotted). Kept size (load_rows (load_held l s (held.carried r ct)) hs) x (ts ++ filter of_tombstone hs)) e
-        (rec (load_held l s (held.carried r ct)) (cs ++ (n ∷ [])) ts k (omega (arith, more, rm)) (subst (Sorted Before) (sym e) a) b)
-    go s (held.tombstone t) fit rm a b rec =
+        (rec _ (cs ++ (n ∷ [])) ts (kept_carried size l cs ts K s r ct fit (omega (arith, rm, count)) (before_one cs (filter of_carried hs) n a))
+        (omega (arith, rm, length-append cs (n ∷ []))) (subst (Sorted Before) (sym e) a) b)
+    go s (held.tombstone t) fit rec l cs ts K rm a b =
         let n : Slotted = record { slot = s; held = held.tombstone t } in
         let e : (ts ++ (n ∷ [])) ++ filter of_tombstone hs ≡ ts ++ (n ∷ filter of_tombstone hs) = append_assoc ts (n ∷ []) (filter of_tombstone hs) in
         subst (λ (x : List Slotted). Kept size (load_rows (load_held l s (held.tombstone t)) hs) (cs ++ filter of_carried hs) x) e
-        (rec (load_held l s (held.tombstone t)) cs (ts ++ (n ∷ [])) (kept_tombstone size l cs ts K s t (before_one ts (filter of_tombstone hs) n b)) rm a (subst (Sorted Before) (sym e) b))
+        (rec _ cs (ts ++ (n ∷ [])) (kept_tombstone size l cs ts K s t (before_one ts (filter of_tombstone hs) n b)) rm a (subst (Sorted Before) (sym e) b))
 
 -- the rows of one kind among merged ones
 module _ (p : Slotted → Bool) (key : Slotted → ℕ) where
   filter_all : (xs : List Slotted) → All (λ (x : Slotted). p x ≡ true) xs → filter p xs ≡ xs
   unfolding filter
   filter_all [] a = refl
-  filter_all (x ∷ xs) (lists.more e a) = ap (λ (t : Bool). cond t (x ∷ filter p xs) (filter p xs)) e ∙ ap (λ (l : List Slotted). x ∷ l) (filter_all xs a)
+  filter_all (x ∷ xs) (lists.more e a) = rw (e, filter_all xs a)
 
   filter_none : (xs : List Slotted) → All (λ (x : Slotted). p x ≡ false) xs → filter p xs ≡ []
   unfolding filter
   filter_none [] a = refl
-  filter_none (x ∷ xs) (lists.more e a) = ap (λ (t : Bool). cond t (x ∷ filter p xs) (filter p xs)) e ∙ filter_none xs a
+  filter_none (x ∷ xs) (lists.more e a) = rw (e, filter_none xs a)
 
   merged_first : (xs ys : List Slotted) → All (λ (x : Slotted). p x ≡ true) xs → All (λ (x : Slotted). p x ≡ false) ys → filter p (merge key xs ys) ≡ xs
   unfolding merge filter
   merged_first [] ys a b = filter_none ys b
   merged_first (x ∷ xs) [] a b = filter_all (x ∷ xs) a
   merged_first (x ∷ xs) (y ∷ ys) (lists.more e a) (lists.more f b) =
-      go (leb (key x) (key y)) (merged_first xs (y ∷ ys) a (lists.more f b)) (merged_first (x ∷ xs) ys (lists.more e a) b)
-    where
-      go : (t : Bool) → filter p (merge key xs (y ∷ ys)) ≡ xs → filter p (merge key (x ∷ xs) ys) ≡ x ∷ xs
-          → filter p (cond t (x ∷ merge key xs (y ∷ ys)) (y ∷ merge key (x ∷ xs) ys)) ≡ x ∷ xs
-      go true q r = ap (λ (s : Bool). cond s (x ∷ filter p (merge key xs (y ∷ ys))) (filter p (merge key xs (y ∷ ys)))) e ∙ ap (λ (l : List Slotted). x ∷ l) q
-      go false q r = ap (λ (s : Bool). cond s (y ∷ filter p (merge key (x ∷ xs) ys)) (filter p (merge key (x ∷ xs) ys))) f ∙ r
+      cond_both (leb (key x) (key y)) _ _ (λ (l : List Slotted). filter p l ≡ x ∷ xs) (λ t. rw (e, merged_first xs (y ∷ ys) a (lists.more f b)))
+      (λ t. rw f (merged_first (x ∷ xs) ys (lists.more e a) b))
 
   merged_second : (xs ys : List Slotted) → All (λ (x : Slotted). p x ≡ false) xs → All (λ (x : Slotted). p x ≡ true) ys → filter p (merge key xs ys) ≡ ys
   unfolding merge filter
   merged_second [] ys a b = filter_all ys b
   merged_second (x ∷ xs) [] a b = filter_none (x ∷ xs) a
   merged_second (x ∷ xs) (y ∷ ys) (lists.more e a) (lists.more f b) =
-      go (leb (key x) (key y)) (merged_second xs (y ∷ ys) a (lists.more f b)) (merged_second (x ∷ xs) ys (lists.more e a) b)
-    where
-      go : (t : Bool) → filter p (merge key xs (y ∷ ys)) ≡ y ∷ ys → filter p (merge key (x ∷ xs) ys) ≡ ys
-          → filter p (cond t (x ∷ merge key xs (y ∷ ys)) (y ∷ merge key (x ∷ xs) ys)) ≡ y ∷ ys
-      go true q r = ap (λ (s : Bool). cond s (x ∷ filter p (merge key xs (y ∷ ys))) (filter p (merge key xs (y ∷ ys)))) e ∙ q
-      go false q r = ap (λ (s : Bool). cond s (y ∷ filter p (merge key (x ∷ xs) ys)) (filter p (merge key (x ∷ xs) ys))) f ∙ ap (λ (l : List Slotted). y ∷ l) r
+      cond_both (leb (key x) (key y)) _ _ (λ (l : List Slotted). filter p l ≡ y ∷ ys) (λ t. rw e (merged_second xs (y ∷ ys) a (lists.more f b)))
+      (λ t. rw (f, merged_second (x ∷ xs) ys (lists.more e a) b))
 
 -- ---- the theorem
 
@@ -346,6 +318,14 @@ carried_rows s = map (carried_held s.carried_cells) s.carried
 
 abbrev pub tombstone_rows : State → List Slotted
 tombstone_rows s = map tombstone_held s.tombstones
+
+-- of every row of each kind
+module _ (s : State) {P : Slotted → Type 0} where
+  pub each_carried : ((r : Carried) → P (carried_held s.carried_cells r)) → All P (carried_rows s)
+  each_carried f = all_map (carried_held s.carried_cells) s.carried (all_each f s.carried)
+
+  pub each_tombstone : ((t : Tombstone) → P (tombstone_held t)) → All P (tombstone_rows s)
+  each_tombstone f = all_map tombstone_held s.tombstones (all_each f s.tombstones)
 
 abbrev slotted : Slotted → ℕ
 slotted h = h.slot
@@ -370,9 +350,7 @@ module _ (s : State) (fits : length s.carried ≤ cell_count (length s.carried_c
   pub same_records : All Short (rows_of s) → records (file_of s) ≡ map saved_record (rows_of s)
   same_records a = ap records same_file ∙ records_saved s.next_slot (rows_of s) a
 
--- the fields of a row that are saved
-pub proper_held : (r : Carried) → ProperCarried r
-    → ProperHeld (record { depositor = r.depositor; header = record { tag = r.tag; c = r.c; expiry_min = r.expiry_min; copies = r.copies } })
+pub proper_held : (r : Carried) → ProperCarried r → ProperHeld (as_held r)
 proper_held r p = record { depositor = p.depositor; header = record { tag = p.tag.size; c = p.c.size; expiry = p.expiry_min; copies = p.copies } }
 
 -- a row's blob is short
@@ -380,8 +358,7 @@ pub carried_short : (cells : List ℕ) (r : Carried) → ProperCarried r → Sho
 unfolding carried_held
 carried_short cells r p =
     let ct : List ℕ = ciphertext cells r.cell r.len in
-    let c : HeldCarried = record { depositor = r.depositor; header = record { tag = r.tag; c = r.c; expiry_min = r.expiry_min; copies = r.copies } } in
-    omega (arith, length_row c (proper_held r p) ct, length-take 2064 ct)
+    omega (arith, length_row (as_held r) (proper_held r p) ct, length-take 2064 ct)
 
 proper_tomb : (t : Tombstone) → ProperTombstone t → ProperHeldTombstone (record { tag = t.tag; s = t.s; expiry_min = t.expiry_min })
 proper_tomb t p = record { tag = p.tag.size; s = p.s.size; expiry = p.expiry_min }
@@ -419,23 +396,19 @@ module _ (s : State) (W : Savable s) where
   unfolding carried_held
   carried_back_row r p h b =
       let ct : List ℕ = ciphertext s.carried_cells r.cell r.len in
-      let c : HeldCarried = record { depositor = r.depositor; header = record { tag = r.tag; c = r.c; expiry_min = r.expiry_min; copies = r.copies } } in
       let l : length ct ≡ r.len = length_text r h in (
         record {
           slot = p.slot;
           short = carried_short s.carried_cells r p;
-          read = carried_back c (proper_held r p) ct (ap carried_length l ∙ b.len) b.copies b.expiry;
+          read = carried_back (as_held r) (proper_held r p) ct (ap carried_length l ∙ b.len) b.copies b.expiry;
         },
         omega (arith, l, h.1),
       )
 
   all_carried : All (λ (h : Slotted). Back h × Fits h.held) (carried_rows s)
-  all_carried = go s.carried W.carried W.order.in_cells W.back
-    where
-      go : (rs : List Carried) → All ProperCarried rs → All (λ (r : Carried). InCell (length s.carried_cells) r.cell r.len) rs → All ReadBack rs
-          → All (λ (h : Slotted). Back h × Fits h.held) (map (carried_held s.carried_cells) rs)
-      go [] a b c = lists.none
-      go (r ∷ rs) (lists.more p a) (lists.more h b) (lists.more k c) = lists.more (carried_back_row r p h k) (go rs a b c)
+  all_carried =
+      all_map (carried_held s.carried_cells) s.carried
+      (all_imp (λ r k. carried_back_row r k.0 k.1.0 k.1.1) s.carried (all_both s.carried W.carried (all_both s.carried W.order.in_cells W.back)))
 
   all_tombstones : All (λ (h : Slotted). Back h × Fits h.held) (tombstone_rows s)
   unfolding tombstone_held
@@ -448,14 +421,12 @@ module _ (s : State) (W : Savable s) where
   carried_kept : filter of_carried (rows_of s) ≡ carried_rows s
   unfolding carried_held tombstone_held
   carried_kept =
-      merged_first of_carried slotted (carried_rows s) (tombstone_rows s) (all_map (carried_held s.carried_cells) s.carried (all_imp (λ r p. refl) s.carried W.carried))
-      (all_map tombstone_held s.tombstones (all_imp (λ t p. refl) s.tombstones W.tombstones))
+      merged_first of_carried slotted (carried_rows s) (tombstone_rows s) (each_carried s (λ r. refl)) (each_tombstone s (λ t. refl))
 
   tombstones_kept : filter of_tombstone (rows_of s) ≡ tombstone_rows s
   unfolding carried_held tombstone_held
   tombstones_kept =
-      merged_second of_tombstone slotted (carried_rows s) (tombstone_rows s) (all_map (carried_held s.carried_cells) s.carried (all_imp (λ r p. refl) s.carried W.carried))
-      (all_map tombstone_held s.tombstones (all_imp (λ t p. refl) s.tombstones W.tombstones))
+      merged_second of_tombstone slotted (carried_rows s) (tombstone_rows s) (each_carried s (λ r. refl)) (each_tombstone s (λ t. refl))
 
   carried_rise_lem : Sorted Before (carried_rows s)
   unfolding carried_held
@@ -479,7 +450,7 @@ module _ (s : State) (W : Savable s) where
       ap (loaded cells) (same_file s W.fits) ∙ loaded_saved cells s.next_slot hs (all_imp (λ h p. p.0) hs all_rows_lem) in
       let n : length (filter of_carried hs) ≡ length s.carried = ap length carried_kept ∙ length-map s.carried (carried_held s.carried_cells) in
       let K : Kept (length cells) (load_rows (no_rows cells) hs) (filter of_carried hs) (filter of_tombstone hs) =
-      loads_kept (length cells) hs (no_rows cells) [] [] (record { carried = refl; tombstones = refl; in_cells = lists.none; sized = refl }) (all_imp (λ h p. p.1) hs all_rows_lem)
+      loads_kept (length cells) hs (all_imp (λ h p. p.1) hs all_rows_lem) (no_rows cells) [] [] (record { carried = refl; tombstones = refl; in_cells = lists.none; sized = refl })
       (omega (arith, room, n))
       (subst (Sorted Before) (sym carried_kept) carried_rise_lem) (subst (Sorted Before) (sym tombstones_kept) tombstones_rise_lem) in
       subst (λ (l : Rows). Kept (length cells) l (carried_rows s) (tombstone_rows s)) (sym e)

@@ -17,7 +17,7 @@ use Rattle.model.specs.Lent.{no_answers, refused_or, device_in, contacts_in, car
 use Rattle.history.specs.Order.{Sorted}
 use Rattle.load_tests.specs.Records.{records, is_carried, is_tombstone}
 use Rattle.load_tests.specs.Tests.{kind_tests, fails}
-use Rattle.load.specs.declared.Have.{Have}
+use Rattle.load.specs.declared.Counts.{Counts}
 use Rattle.load.specs.Load.{insert_by, carried_slot, carried_row, Rows, load_record, load_records, loaded, load_step}
 
 -- every row starts with its slot
@@ -25,8 +25,8 @@ unfoldable pub higher : ℕ → List ℕ → Bool
 higher slot b = nat_lt slot (num (part b 0 8))
 
 -- no row of an area has a lower slot than one before it
-unfoldable pub Rise : ℕ → ℕ → List ℕ → Type 0
-Rise w n a = (i j : ℕ) → i ≤ j → j < n → num (part a (i * w) 8) ≤ num (part a (j * w) 8)
+unfoldable pub SlotsAscend : ℕ → ℕ → List ℕ → Type 0
+SlotsAscend w n a = (i j : ℕ) → i ≤ j → j < n → num (part a (i * w) 8) ≤ num (part a (j * w) 8)
 
 -- a row is put in by its slot among the n of an area
 pub record Inserted {A : Type 0} (c : Codec A) (Proper : A → Type 0) (key : A → ℕ) (t : A) (n : ℕ) (a : List ℕ) (m : ℕ) (x : List ℕ) : Type 0 where
@@ -36,7 +36,7 @@ pub record Inserted {A : Type 0} (c : Codec A) (Proper : A → Type 0) (key : A 
   pub proper : Proper t
 
 -- the rows so far lie in areas that were a and t and are now x and y, and z are the cells
-pub record Laid (a t : List ℕ) (l : Rows) (h : Have) (x y z : List ℕ) : Type 0 where
+pub record Laid (a t : List ℕ) (l : Rows) (h : Counts) (x y z : List ℕ) : Type 0 where
   pub carried : TableNow carried_codec a l.carried h.carried x
   pub tombstones : TableNow tombstone_codec t l.tombstones h.tombstones y
   pub cells : z ≡ l.cells
@@ -47,16 +47,16 @@ pub record BySlot (l : Rows) : Type 0 where
   pub tombstones : Sorted (λ (a b : Tombstone). a.slot ≤ b.slot) l.tombstones
 
 -- there is room for the row of a record, whose mark is its blob's
-pub record Room (b : List ℕ) (h : Have) (x y z : List ℕ) : Type 0 where
+pub record Room (b : List ℕ) (h : Counts) (x y z : List ℕ) : Type 0 where
   pub kind : fails kind_tests b ≡ false
   pub few : h.carried < 65536
   pub carried : is_carried b ≡ true → (h.carried * 57 + 57 ≤ length x) × (h.carried * 2064 + 2064 ≤ length z)
   pub tombstone : is_tombstone b ≡ true → h.tombstones * 44 + 44 ≤ length y
-  pub carried_rise : Rise 57 h.carried x
-  pub tombstones_rise : Rise 44 h.tombstones y
+  pub carried_rise : SlotsAscend 57 h.carried x
+  pub tombstones_rise : SlotsAscend 44 h.tombstones y
 
 -- a record more
-pub record Loads (b : List ℕ) (h : Have) (x y z : List ℕ) (h' : Have) (x' y' z' : List ℕ) : Type 0 where
+pub record Loads (b : List ℕ) (h : Counts) (x y z : List ℕ) (h' : Counts) (x' y' z' : List ℕ) : Type 0 where
   pub laid : (a t : List ℕ) (l : Rows) → Laid a t l h x y z → Laid a t (load_record l b) h' x' y' z'
   pub carried_size : length x' ≡ length x
   pub tombstone_size : length y' ≡ length y
@@ -78,7 +78,7 @@ pub record Fine (file x y z : List ℕ) : Type 0 where
   pub tombstones : count_by is_tombstone (records file) * 44 ≤ length y
 
 -- the records before those that are left are loaded
-pub record Loading (file a t c : List ℕ) (rest : List (List ℕ)) (h : Have) (x y z : List ℕ) : Type 0 where
+pub record Loading (file a t c : List ℕ) (rest : List (List ℕ)) (h : Counts) (x y z : List ℕ) : Type 0 where
   pub rows : Rows
   pub laid : Laid a t rows h x y z
   pub by_slot : BySlot rows

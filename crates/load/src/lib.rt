@@ -9,45 +9,55 @@ ghost use Rattle.table.specs.Rows.{rows, RowsNow};
 ghost use Rattle.rows.specs.Rows.{carried_codec, tombstone_codec};
 ghost use Rattle.rows.specs.Proper.{ProperCarried, ProperTombstone};
 ghost use Rattle.load.specs.Load.{carried_slot, tombstone_slot, carried_row, tombstone_row, loaded};
-ghost use Rattle.load.specs.Laying.{higher, Rise, Inserted, Carries, Room, Loads, Fine, Laid, load_lent, DoesLoad};
+ghost use Rattle.load.specs.Laying.{higher, SlotsAscend, Inserted, Carries, Room, Loads, Fine, Laid, load_lent, DoesLoad};
 
 use courier::Header;
 use courier_core::Refusal;
-use rows::{CARRIED_WIDTH, Carried, Device, Row as _, TOMBSTONE_WIDTH, Tombstone};
+use rows::{
+    CARRIED_AREA, CARRIED_WIDTH, CONTACT_AREA, Carried, Device, Row as _, TOMBSTONE_WIDTH,
+    Tombstone,
+};
 use state::Held;
 use table::Table;
 
+// Where a carried record has its ciphertext.
+const CIPHERTEXT: usize = state::RECORD_HEAD + state::CARRIED_HEAD;
+
 // How many rows are loaded so far.
 #[derive(Drop)]
-pub struct Have {
+pub struct Counts {
     pub carried: usize,
     pub tombstones: usize,
 }
 
 // ---- a row by its slot
 
-// The first of n rows of a higher slot, or the end. The rows stand by slot, and a saved file's slots rise: it is looked for from the end.
-fn place(area: &[u8], width: usize, n: usize, slot: u64) -> usize
-    requires { (n * width ≤ length area.now) × ((8 ≤ width) × Rise width n area.now) }
-    ensures { result ≡ unwrap_or n (position (higher slot) (rows width n area.now)) }
+// The first row of a higher slot, or the end. The rows stand by slot, and the records of a file that was saved from such rows do too: it is looked
+// for from the end.
+// (No `rposition` of the row numbers: its closure asks for clauses of its own, and std has no lemma of what a range gives from its end; tried.)
+fn place<const W: usize>(table: Table<W>, slot: u64) -> usize
+    requires { (table.count * W ≤ length table.area.now) × ((8 ≤ W) × SlotsAscend W table.count table.area.now) }
+    ensures { result ≡ unwrap_or table.entry.count (position (higher slot) (rows W table.entry.count table.entry.area.now)) }
 {
-    for i in (0..n).rev() {
-        if octets::get_u64(area, i * width) <= slot {
+    for i in (0..table.count).rev() {
+        if octets::get_u64(table.area, i * W) <= slot {
             return i + 1;
         }
     }
     0
 }
 
-// Puts a row in before it.
-fn insert_row(area: &mut [u8], width: usize, n: usize, row: &[u8]) -> usize
-    requires { ((8 ≤ width) × Rise width n area.old) × ((n * width + width ≤ length area.old) × (length row.now ≡ width)) }
-    ensures { RowsNow width area.old
-        (insert_at (unwrap_or n (position (higher (num (part row.now 0 8))) (rows width n area.old))) row.now (rows width n area.old))
+// Puts a row in before the first of a higher slot, by the slot that it starts with.
+// (As bytes: the functions of the trait Row do not say that the row's numbers are within their widths, as `bytes` does, and what follows rests on it.)
+fn insert_row<const W: usize>(area: &mut [u8], n: usize, row: &[u8; W]) -> usize
+    requires { ((8 ≤ W) × SlotsAscend W n area.old) × (n * W + W ≤ length area.old) }
+    ensures { RowsNow W area.old
+        (insert_at (unwrap_or n (position (higher (num (part row.now 0 8))) (rows W n area.old))) row.now (rows W n area.old))
         result area.new }
 {
-    let i = place(area, width, n, octets::get_u64(row, 0));
-    table::insert(area, width, n, i, row)
+    let table = Table { area, count: n };
+    let i = place::<W>(table, octets::get_u64(row, 0));
+    table::insert(area, W, n, i, row)
 }
 
 // ---- a row of a decoded blob
@@ -87,61 +97,61 @@ fn tombstone_of(row: state::Tombstone, slot: u64) -> Tombstone
 
 // ---- the records, one by one
 
-// Loads a carried record: its row goes to the p others, its ciphertext to cell p. Answers how many there are.
+// Loads a carried record: its row goes to the n that are there, its ciphertext to cell n, the first that none of them names. Answers how many there are.
 fn load_carried(
     record: &[u8],
     row: state::Carried,
-    p: usize,
+    n: usize,
     carried: &mut [u8],
     cells: &mut [u8],
 ) -> usize
-    requires { ((58 ≤ length «record».now) × (length «record».now ≤ 2122)) × ((p < 65536) × (((p * 57 + 57 ≤ length carried.old) × (p * 2064 + 2064 ≤ length cells.old)) × Rise 57 p carried.old)) }
-    ensures { Carries «record».now row p carried.old cells.old result carried.new cells.new }
+    requires { ((58 ≤ length «record».now) × (length «record».now ≤ 2122)) × ((n < 65536) × (((n * 57 + 57 ≤ length carried.old) × (n * 2064 + 2064 ≤ length cells.old)) × SlotsAscend 57 n carried.old)) }
+    ensures { Carries «record».now row n carried.old cells.old result carried.new cells.new }
 {
-    let slot = octets::get_u64(record, 2);
-    let new = carried_of(row, slot, (record.len() - 58) as u16, p as u16);
-    octets::copy_in(cells, p * state::CELL, &record[58..]);
-    insert_row(carried, CARRIED_WIDTH, p, &new.bytes())
+    let slot = octets::get_u64(record, state::SLOT);
+    let new = carried_of(row, slot, (record.len() - CIPHERTEXT) as u16, n as u16);
+    octets::copy_in(cells, n * state::CELL, &record[CIPHERTEXT..]);
+    insert_row::<CARRIED_WIDTH>(carried, n, &new.bytes())
 }
 
-// Loads a record.
+// Loads a record. (Each area that it changes is lent by itself, as to the call.)
 #[tactic(auto, using(load_tests::proofs::BlobLaws::kind_long))]
 fn load_record(
     record: &[u8],
-    have: &mut Have,
+    counts: &mut Counts,
     carried: &mut [u8],
     tombstones: &mut [u8],
     cells: &mut [u8],
 )
-    requires { Room «record».now have.old carried.old tombstones.old cells.old }
-    ensures { Loads «record».now have.old carried.old tombstones.old cells.old have.new carried.new tombstones.new cells.new }
+    requires { Room «record».now counts.old carried.old tombstones.old cells.old }
+    ensures { Loads «record».now counts.old carried.old tombstones.old cells.old counts.new carried.new tombstones.new cells.new }
 {
-    match state::decode(&record[12..]) {
+    match state::decode(&record[state::RECORD_HEAD..]) {
         None => {}
         Some(Held::Carried(row)) => {
-            have.carried = load_carried(record, row, have.carried, carried, cells);
+            counts.carried = load_carried(record, row, counts.carried, carried, cells);
         }
         Some(Held::Tombstone(row)) => {
-            let new = tombstone_of(row, octets::get_u64(record, 2));
-            let n = have.tombstones;
-            have.tombstones = insert_row(tombstones, TOMBSTONE_WIDTH, n, &new.bytes());
+            let new = tombstone_of(row, octets::get_u64(record, state::SLOT));
+            let n = counts.tombstones;
+            counts.tombstones = insert_row::<TOMBSTONE_WIDTH>(tombstones, n, &new.bytes());
         }
     }
 }
 
 // Loads all records of a file that was tested.
-fn load_records(file: &[u8], carried: &mut [u8], tombstones: &mut [u8], cells: &mut [u8]) -> Have
+fn load_records(file: &[u8], carried: &mut [u8], tombstones: &mut [u8], cells: &mut [u8]) -> Counts
     requires { Fine file.now carried.old tombstones.old cells.old }
     ensures { Laid carried.old tombstones.old (loaded cells.old file.now) result carried.new tombstones.new cells.new }
 {
-    let mut have = Have {
+    let mut counts = Counts {
         carried: 0,
         tombstones: 0,
     };
     for record in load_tests::records(file) {
-        load_record(record, &mut have, carried, tombstones, cells);
+        load_record(record, &mut counts, carried, tombstones, cells);
     }
-    have
+    counts
 }
 
 // ---- the call
@@ -149,8 +159,8 @@ fn load_records(file: &[u8], carried: &mut [u8], tombstones: &mut [u8], cells: &
 // Replaces held rows and next slot by those of a saved file. A file that is refused changes nothing.
 pub fn load(
     device: &mut Device,
-    contacts: &[u8; 2304],
-    carried: &mut [u8; 14592],
+    contacts: &[u8; CONTACT_AREA],
+    carried: &mut [u8; CARRIED_AREA],
     tombstones: &mut [u8],
     carried_cells: &mut [u8],
     file: &[u8],
@@ -165,10 +175,10 @@ pub fn load(
         count: device.contacts,
     };
     load_tests::test_file(file, contacts, carried_cells.len(), room)?;
-    let next = octets::get_u64(file, 2);
-    let have = load_records(file, carried, tombstones, carried_cells);
-    device.carried = have.carried;
-    device.tombstones = have.tombstones;
+    let next = octets::get_u64(file, state::SLOT);
+    let counts = load_records(file, carried, tombstones, carried_cells);
+    device.carried = counts.carried;
+    device.tombstones = counts.tombstones;
     device.next_slot = next;
     Ok(())
 }

@@ -1,6 +1,8 @@
 -- Laws of the blob in a record: what `held_decode` takes, and how long it is.
 -- Assumes nothing.
-use Rattle.std.proofs.Common.{◌≡◌, ℕ, ◌-◌, ◌≤◌, Bool, true, false, cond, not, ◌&&◌, ◌||◌, eqb, leb, List, [], ◌∷◌, length, get_or, take, drop, sym, refl, ap, ◌∙◌, arith, length-drop, eqb-true, leb-true, Option, Some, None}
+use Rattle.std.proofs.Common.{◌≡◌, ℕ, ◌-◌, ◌≤◌, Bool, true, false, not, ◌&&◌, ◌||◌, eqb, leb, List, [], ◌∷◌, length, get_or, take, drop, sym, refl, ap, ◌∙◌, arith, length-drop, eqb-true, leb-true, Option, Some, None}
+use Rattle.std.proofs.lemmas.Bool.{cond_both, or_parts}
+use mathlib.Core.Bool.{or-true}
 use Rattle.courier.specs.Courier.{envelope_valid}
 use Rattle.courier.proofs.Laws.{both, carried_fits, valid_parts}
 use Rattle.table.specs.Lists.{any}
@@ -25,27 +27,17 @@ valid_in b = envelope_valid (length b - 46) (carried_of b).header.copies (carrie
 
 pub decoded : (b : List ℕ) → Decoded b (held_decode b)
 unfolding held_decode carried_in tombstone_in
-decoded b = by_kind (eqb (get_or b 0 0) 0) (eqb (get_or b 0 0) 1)
-  where
-    by_carried : (t : Bool) → (leb 46 (length b) && (valid_in b)) ≡ t → Decoded b (cond t (Some (carried (carried_of b) (drop 46 b))) None)
-    by_carried false e = tt
-    by_carried true e =
-        let f = both (leb 46 (length b)) (valid_in b) e in
-        let h : 46 ≤ length b = leb-true 46 (length b) f.0 in
-        (refl, (refl, (h, omega (arith, carried_fits (length b - 46) (valid_parts _ _ _ _ f.1).0))))
-
-    by_tombstone : (t : Bool) → eqb (length b) 37 ≡ t → Decoded b (cond t (Some (tombstone (tombstone_of b))) None)
-    by_tombstone false e = tt
-    by_tombstone true e = (refl, eqb-true (length b) 37 e)
-
-    by_kind : (s t : Bool) → Decoded b (cond s (carried_in b) (cond t (tombstone_in b) None))
-    by_kind true t = by_carried (leb 46 (length b) && (valid_in b)) refl
-    by_kind false true = by_tombstone (eqb (length b) 37) refl
-    by_kind false false = tt
+decoded b =
+    cond_both (eqb (get_or b 0 0) 0) _ _ (Decoded b)
+    (λ k. cond_both (leb 46 (length b) && valid_in b) _ _ (Decoded b) (λ e.
+    let f = both (leb 46 (length b)) (valid_in b) e in
+    let h : 46 ≤ length b = leb-true 46 (length b) f.0 in
+    (refl, (refl, (h, omega (arith, carried_fits (length b - 46) (valid_parts _ _ _ _ f.1).0))))) (λ e. tt))
+    (λ k. cond_both (eqb (get_or b 0 0) 1) _ _ (Decoded b) (λ t. cond_both (eqb (length b) 37) _ _ (Decoded b) (λ e. (refl, eqb-true (length b) 37 e)) (λ e. tt)) (λ t. tt))
 
 -- a blob that is not refused has 37 bytes or more
 decoded_long : (b : List ℕ) (d : Option Held) → Decoded b d → match_some d (λ (h : Held). false) true ≡ false → 37 ≤ length b
-decoded_long b None D e = let z : ◌≡◌ {A = ℕ} 0 1 = cc in absurd (omega arith)
+decoded_long b None D e = absurd (cc)
 decoded_long b (Some (carried r ct)) D e = omega (arith, D.1.1.0)
 decoded_long b (Some (tombstone t)) D e = omega (arith, D.1)
 
@@ -55,17 +47,8 @@ module _ (b : List ℕ) where
   pub kind_long : fails kind_tests b ≡ false → 49 ≤ length b
   unfolding fails any refused_blob
   kind_long e =
-      let f = none_of (strange_mark b) _ e in
-      let g = decoded_long (drop 12 b) (held_decode (drop 12 b)) (decoded (drop 12 b)) (one_not _ _ f) in
+      let g = decoded_long (drop 12 b) (held_decode (drop 12 b)) (decoded (drop 12 b)) (or_parts _ _ (or_parts (strange_mark b) _ e).1).0 in
       omega (arith, length-drop 12 b)
-    where
-      none_of : (x y : Bool) → (x || y) ≡ false → y ≡ false
-      none_of true y e = let z : ◌≡◌ {A = ℕ} 0 1 = cc in absurd (omega arith)
-      none_of false y e = e
-
-      one_not : (x y : Bool) → (x || y) ≡ false → x ≡ false
-      one_not true y e = e
-      one_not false y e = refl
 
   abbrev tests : Option Held → Bool → Bool → Bool
   tests d hc ht =
@@ -77,10 +60,6 @@ module _ (b : List ℕ) where
   ByKind None r = true ≡ r
   ByKind (Some (read.Carried c)) r = not (has_key 0 (72 ∷ 67 ∷ []) b) ≡ r
   ByKind (Some (read.Tombstone t)) r = not (has_key 0 (72 ∷ 84 ∷ []) b) ≡ r
-
-  or_true : (x : Bool) → true ≡ (x || true)
-  or_true true = refl
-  or_true false = refl
 
   by_carried : (x y : Bool) → not x ≡ (not (x || y) || (false || (not x || false)))
   by_carried true y = refl
@@ -94,7 +73,7 @@ module _ (b : List ℕ) where
   by_tombstone false false = refl
 
   by_kind : (d : Option Held) → ByKind (held_read d) (tests d (has_key 0 (72 ∷ 67 ∷ []) b) (has_key 0 (72 ∷ 84 ∷ []) b))
-  by_kind None = or_true (not (has_key 0 (72 ∷ 67 ∷ []) b || has_key 0 (72 ∷ 84 ∷ []) b))
+  by_kind None = sym (or-true (not (has_key 0 (72 ∷ 67 ∷ []) b || has_key 0 (72 ∷ 84 ∷ []) b)))
   by_kind (Some (carried r ct)) = by_carried (has_key 0 (72 ∷ 67 ∷ []) b) (has_key 0 (72 ∷ 84 ∷ []) b)
   by_kind (Some (tombstone t)) = by_tombstone (has_key 0 (72 ∷ 67 ∷ []) b) (has_key 0 (72 ∷ 84 ∷ []) b)
 

@@ -1,12 +1,11 @@
 -- Laws of the depositors and tags of the carried records: gathered in rows, and counted there.
 -- Assumes nothing.
-use Rattle.std.proofs.Common.{◌≡◌, ℕ, suc, ◌+◌, ◌*◌, ◌<◌, ◌≤◌, Bool, true, false, cond, ◌&&◌, List, [], ◌∷◌, ◌++◌, map, length, drop, sym, refl, ap, ◌∙◌, subst, ap₂, append_assoc, append-nil, arith, length-append}
+use Rattle.std.proofs.Common.{◌≡◌, ℕ, suc, ◌+◌, ◌*◌, ◌≤◌, Bool, true, false, cond, ◌&&◌, List, [], ◌∷◌, ◌++◌, map, length, sym, refl, ap, ◌∙◌, subst, ap₂, append_assoc, append-nil, arith, length-append}
 use Rattle.octets.specs.Bytes.{part, same_bytes}
-use Rattle.octets.proofs.Parts.{part_part, part_whole}
+use Rattle.octets.proofs.Parts.{part_part}
 use Rattle.table.specs.Lists.{any, count_by, filter}
 use Rattle.table.specs.Rows.{rows, has_key, RowsNow}
-use Rattle.table.proofs.RowLaws.{rows_next, length_rows, length_join, length_written, Wide, wide_rows}
-use Rattle.table.proofs.FindLaws.{count_next, count_end}
+use Rattle.table.proofs.RowLaws.{length_rows, length_join, length_written, Wide, wide_rows}
 use Rattle.load_tests.specs.Records.{records, is_carried, counted, carried_keys, Gathered}
 use Rattle.load_tests.specs.Tests.{kind_tests, fails}
 use Rattle.load_tests.proofs.RecordLaws.{turn_count}
@@ -44,11 +43,8 @@ gathering_end {rs = rs} {size} {k} {keys} G e = record {
 module _ {all : List (List ℕ)} {size k : ℕ} {keys : List ℕ} {b : List ℕ} {left rest : List (List ℕ)} (G : Gathering all left size k keys) (e : left ≡ b ∷ rest) where
   keys_here : (x : Bool) → is_carried b ≡ x → carried_keys left ≡ cond x (part b 13 24 ∷ carried_keys rest) (carried_keys rest)
   unfolding carried_keys filter
-  keys_here x t = ap carried_keys e ∙ ap (λ (y : Bool). map (λ (r : List ℕ). part r 13 24) (cond y (b ∷ filter is_carried rest) (filter is_carried rest))) t ∙ out x
-    where
-      out : (y : Bool) → map (λ (r : List ℕ). part r 13 24) (cond y (b ∷ filter is_carried rest) (filter is_carried rest)) ≡ cond y (part b 13 24 ∷ carried_keys rest) (carried_keys rest)
-      out true = refl
-      out false = refl
+  keys_here true t = ap carried_keys e ∙ rw t refl
+  keys_here false t = ap carried_keys e ∙ rw t refl
 
   pub row_long : 49 ≤ length b
   row_long = kind_long b (none_here (fails kind_tests) G.kinds e)
@@ -98,29 +94,3 @@ module _ (o : ℕ) (key : List ℕ) (fits : o + length key ≤ 24) where
   pub in_file : {file keys : List ℕ} {k r : ℕ} → Gathered file keys k → r ≡ count_by (has_key o key) (rows 24 k keys)
       → r ≡ count_by (counted true (13 + o) key) (records file)
   in_file {file} G e = e ∙ ap (count_by (has_key o key)) G.are ∙ same_count (records file)
-
--- a walk through the rows: found of those before row i
-pub record Tally (p : List ℕ → Bool) (keys : List ℕ) (k i found : ℕ) : Type 0 where
-  pub within : i ≤ k
-  pub below : found ≤ i
-  pub count : count_by p (rows 24 k keys) ≡ found + count_by p (drop i (rows 24 k keys))
-
-module _ (p : List ℕ → Bool) (keys : List ℕ) (k : ℕ) where
-  pub tally_end : {i found : ℕ} → Tally p keys k i found → k ≤ i → found ≡ count_by p (rows 24 k keys)
-  tally_end {i} T h = omega (arith, T.count, count_end p (rows 24 k keys) i (omega (arith, length_rows 24 k keys)))
-
-  pub tally_next : {i found : ℕ} → Tally p keys k i found → i < k → (x : Bool) → p (part keys (i * 24) 24) ≡ x → {f : ℕ} → f ≡ cond x (found + 1) found → Tally p keys k (i + 1) f
-  tally_next {i} {found} T h x t q = go x q (count_next p (rows 24 k keys) i (part keys (i * 24) 24) x (rows_next 24 i k keys h) t)
-    where
-      go : {f : ℕ} (x : Bool) → f ≡ cond x (found + 1) found
-          → count_by p (drop i (rows 24 k keys)) ≡ cond x (suc (count_by p (drop (i + 1) (rows 24 k keys)))) (count_by p (drop (i + 1) (rows 24 k keys)))
-          → Tally p keys k (i + 1) f
-      go true q c = record { within = omega arith; below = omega (arith, T.below); count = omega (arith, T.count) }
-      go false q c = record { within = omega arith; below = omega (arith, T.below); count = omega (arith, T.count) }
-
--- what a comparison says of row i
-pub key_in_row : (keys key : List ℕ) (i o : ℕ) {r x : Bool} → o + length key ≤ 24
-    → r ≡ same_bytes (part keys (i * 24 + o) (length key)) (part key 0 (length key)) → r ≡ x → has_key o key (part keys (i * 24) 24) ≡ x
-unfolding has_key
-key_in_row keys key i o h e t =
-    ap₂ same_bytes (part_part keys (i * 24) 24 o (length key) h) (sym (part_whole key (length key) refl)) ∙ sym e ∙ t

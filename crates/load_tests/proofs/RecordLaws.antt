@@ -1,13 +1,16 @@
 -- Laws of the records of a file: the next one, those after it, and how long they are.
 -- Assumes nothing.
-use Rattle.std.proofs.Common.{◌≡◌, ℕ, zero, suc, ◌+◌, ◌-◌, ◌<◌, ◌≤◌, min, Bool, true, false, cond, ◌&&◌, eqb, ltb, leb, List, [], ◌∷◌, length, take, drop, sym, refl, ap, ◌∙◌, arith, length-append, length-drop, length-take, length-take-le, drop_of_length-le, le-leb, leb-false, leb-true}
+use Rattle.std.proofs.Common.{◌≡◌, ℕ, zero, suc, ◌+◌, ◌-◌, ◌<◌, ◌≤◌, min, Bool, true, false, cond, ◌&&◌, ◌||◌, eqb, ltb, leb, List, [], ◌∷◌, length, take, drop, sym, refl, ap, ◌∙◌, subst, arith, length-append, length-drop, length-take, length-take-le, drop_of_length-le, le-leb, leb-false, leb-true}
+use Rattle.std.proofs.lemmas.Bool.{cond_both}
+use mathlib.Core.Bool.{and-false}
 use borrow.Author.Tests.{lt-leb}
-use Rattle.std.specs.List.{filter}
+use Rattle.std.specs.List.{filter, list_any, fold, sum_by}
 use Rattle.std.proofs.lemmas.List.{take_all}
 use Rattle.octets.specs.Bytes.{part, num, same_bytes}
 use Rattle.octets.proofs.Parts.{part_whole}
-use Rattle.table.specs.Lists.{count_by}
+use Rattle.table.specs.Lists.{All, none, more, any, count_by}
 use Rattle.table.specs.Rows.{join, has_key}
+use Rattle.table.proofs.ListLaws.{all_get}
 use Rattle.load_tests.specs.declared.RecordIter.{RecordIter}
 use Rattle.load_tests.specs.Records.{record_size, records_in, records_at, records, left}
 use Rattle.load_tests.specs.Tests.{cut_short}
@@ -26,16 +29,18 @@ sized b e = ap (λ (k : ℕ). 12 + k) e
 pub lent_tail : (k : ℕ) (b : List ℕ) → take (length b - k) (drop k b) ≡ drop k b
 lent_tail k b = take_all (length b - k) (drop k b) (omega (arith, length-drop k b))
 
+-- one that is not whole
+pub records_none : (n : ℕ) (b : List ℕ) → length b < record_size b → records_in n b ≡ []
+unfolding records_in
+records_none zero b h = refl
+records_none (suc n) b h =
+    ap (λ (t : Bool). cond t (take (record_size b) b ∷ records_in n (drop (record_size b) b)) []) (lt-leb (record_size b) (length b) h)
+
 -- any bound that is high enough gives the same records
 records_bound : (n m : ℕ) (b : List ℕ) → length b ≤ n → length b ≤ m → records_in n b ≡ records_in m b
 unfolding records_in
-records_bound zero zero b h k = refl
-records_bound zero (suc m) b h k =
-    let z = size_least b in
-    sym (ap (λ (t : Bool). cond t (take (record_size b) b ∷ records_in m (drop (record_size b) b)) []) (lt-leb (record_size b) (length b) (omega arith)))
-records_bound (suc n) zero b h k =
-    let z = size_least b in
-    ap (λ (t : Bool). cond t (take (record_size b) b ∷ records_in n (drop (record_size b) b)) []) (lt-leb (record_size b) (length b) (omega arith))
+records_bound zero m b h k = sym (records_none m b (omega (arith, size_least b)))
+records_bound (suc n) zero b h k = records_none (suc n) b (omega (arith, size_least b))
 records_bound (suc n) (suc m) b h k =
     let z = size_least b in
     ap (λ (l : List (List ℕ)). cond (leb (record_size b) (length b)) (take (record_size b) b ∷ l) [])
@@ -54,24 +59,17 @@ records_next b n e h =
     step k =
         rw (← e) (ap (λ (t : Bool). cond t (take n b ∷ records_in k (drop n b)) []) (le-leb n (length b) h))
 
--- one that is not
-pub records_none : (n : ℕ) (b : List ℕ) → length b < record_size b → records_in n b ≡ []
-unfolding records_in
-records_none zero b h = refl
-records_none (suc n) b h =
-    ap (λ (t : Bool). cond t (take (record_size b) b ∷ records_in n (drop (record_size b) b)) []) (lt-leb (record_size b) (length b) h)
-
 -- each has its mark, its slot and its length
-head_long : (n : ℕ) (b : List ℕ) {r : List ℕ} {rs : List (List ℕ)} → records_in n b ≡ r ∷ rs → 12 ≤ length r
+all_long : (n : ℕ) (b : List ℕ) → All (λ (r : List ℕ). 12 ≤ length r) (records_in n b)
 unfolding records_in
-head_long zero b e = let z : ◌≡◌ {A = ℕ} 0 1 = cc in absurd (omega arith)
-head_long (suc n) b {r} {rs} e = go (leb (record_size b) (length b)) refl e
-  where
-    go : (t : Bool) → leb (record_size b) (length b) ≡ t → cond t (take (record_size b) b ∷ records_in n (drop (record_size b) b)) [] ≡ r ∷ rs → 12 ≤ length r
-    go true q f =
-        let z : take (record_size b) b ≡ r = cc in
-        omega (arith, ap length z, size_least b, length-take-le (record_size b) b (leb-true (record_size b) (length b) q))
-    go false q f = let z : ◌≡◌ {A = ℕ} 0 1 = cc in absurd (omega arith)
+all_long zero b = none
+all_long (suc n) b =
+    cond_both (leb (record_size b) (length b)) _ _ (All (λ (r : List ℕ). 12 ≤ length r))
+    (λ q. more (omega (arith, size_least b, length-take-le (record_size b) b (leb-true (record_size b) (length b) q))) (all_long n (drop (record_size b) b))) (λ q. none)
+
+pub records_long : (file : List ℕ) → All (λ (r : List ℕ). 12 ≤ length r) (records file)
+unfolding records_at
+records_long file = all_long (length file - 10) (drop 10 file)
 
 -- ---- a walk through them
 
@@ -94,14 +92,10 @@ starts file {k} e = rw (lent_tail k file) (go (leb 10 (length file)) refl)
 
 pub turn_long : (walk : RecordIter) {r : List ℕ} {rs : List (List ℕ)} → left walk ≡ r ∷ rs → 12 ≤ length r
 unfolding left
-turn_long walk e = head_long (length walk.rest.now) walk.rest.now e
+turn_long walk {r} {rs} e = all_get 0 (r ∷ rs) r (subst (All (λ (x : List ℕ). 12 ≤ length x)) e (all_long (length walk.rest.now) walk.rest.now)) (omega arith)
 
-module _ {all rs : List (List ℕ)} {r : List ℕ} (e : all ≡ r ∷ rs) where
-  pub turn_join : length (join all) ≡ length r + length (join rs)
-  unfolding join
-  turn_join = ap (λ (l : List (List ℕ)). length (join l)) e ∙ length-append r (join rs)
-
-  pub turn_count : (p : List ℕ → Bool) (x : Bool) → p r ≡ x → count_by p all ≡ cond x (suc (count_by p rs)) (count_by p rs)
+module _ {A : Type 0} {all rs : List A} {r : A} (e : all ≡ r ∷ rs) where
+  pub turn_count : (p : A → Bool) (x : Bool) → p r ≡ x → count_by p all ≡ cond x (suc (count_by p rs)) (count_by p rs)
   unfolding count_by
   turn_count p x t = ap (count_by p) e ∙ ap (λ (y : Bool). cond y (suc (count_by p rs)) (count_by p rs)) t
 
@@ -109,14 +103,11 @@ module _ {all rs : List (List ℕ)} {r : List ℕ} (e : all ≡ r ∷ rs) where
 within_in : (n : ℕ) (b : List ℕ) → length (join (records_in n b)) ≤ length b
 unfolding records_in join
 within_in zero b = omega arith
-within_in (suc n) b = pick (leb (record_size b) (length b)) refl (within_in n (drop (record_size b) b))
-  where
-    pick : (t : Bool) → leb (record_size b) (length b) ≡ t → length (join (records_in n (drop (record_size b) b))) ≤ length (drop (record_size b) b)
-        → length (join (cond t (take (record_size b) b ∷ records_in n (drop (record_size b) b)) [])) ≤ length b
-    pick true q i =
-        let f = leb-true (record_size b) (length b) q in
-        omega (arith, length-append (take (record_size b) b) (join (records_in n (drop (record_size b) b))), length-take-le (record_size b) b f, length-drop (record_size b) b)
-    pick false q i = omega arith
+within_in (suc n) b =
+    cond_both (leb (record_size b) (length b)) _ _ (λ (rs : List (List ℕ)). length (join rs) ≤ length b) (λ q.
+    let f = leb-true (record_size b) (length b) q in
+    let i = within_in n (drop (record_size b) b) in
+    omega (arith, length-append (take (record_size b) b) (join (records_in n (drop (record_size b) b))), length-take-le (record_size b) b f, length-drop (record_size b) b)) (λ q. omega arith)
 
 pub records_within : (file : List ℕ) → length (join (records file)) ≤ length file - 10
 unfolding records_at
@@ -126,12 +117,9 @@ records_within file = omega (arith, within_in (length file - 10) (drop 10 file),
 records_few : (n : ℕ) (b : List ℕ) → length (records_in n b) ≤ length b
 unfolding records_in
 records_few zero b = omega arith
-records_few (suc n) b = pick (leb (record_size b) (length b)) refl (records_few n (drop (record_size b) b))
-  where
-    pick : (t : Bool) → leb (record_size b) (length b) ≡ t → length (records_in n (drop (record_size b) b)) ≤ length (drop (record_size b) b)
-        → length (cond t (take (record_size b) b ∷ records_in n (drop (record_size b) b)) []) ≤ length b
-    pick true q i = omega (arith, leb-true (record_size b) (length b) q, size_least b, i, length-drop (record_size b) b)
-    pick false q i = omega arith
+records_few (suc n) b =
+    cond_both (leb (record_size b) (length b)) _ _ (λ (rs : List (List ℕ)). length rs ≤ length b)
+    (λ q. omega (arith, leb-true (record_size b) (length b) q, size_least b, records_few n (drop (record_size b) b), length-drop (record_size b) b)) (λ q. omega arith)
 
 pub few_records : (file : List ℕ) → length (records file) ≤ length file
 unfolding records_at
@@ -141,18 +129,31 @@ few_records file = omega (arith, records_few (length file - 10) (drop 10 file), 
 pub count_filter : (p : List ℕ → Bool) (rs : List (List ℕ)) → length (filter p rs) ≡ count_by p rs
 unfolding count_by
 count_filter p [] = refl
-count_filter p (r ∷ rs) = go (p r) (count_filter p rs)
-  where
-    go : (t : Bool) → length (filter p rs) ≡ count_by p rs → length (cond t (r ∷ filter p rs) (filter p rs)) ≡ cond t (suc (count_by p rs)) (count_by p rs)
-    go true e = ap suc e
-    go false e = e
+count_filter p (r ∷ rs) =
+    cond_both (p r) _ _ (λ (n : ℕ). length (filter p (r ∷ rs)) ≡ n) (λ e. rw (e, count_filter p rs)) (λ e. rw (e, count_filter p rs))
+
+-- a test of each, as the library writes it
+pub list_any_is : (p : List ℕ → Bool) (rs : List (List ℕ)) → list_any p rs ≡ any p rs
+unfolding any
+list_any_is p [] = refl
+list_any_is p (r ∷ rs) = ap (λ (b : Bool). p r || b) (list_any_is p rs)
+
+-- how long the records are together
+fold_lengths : (n : ℕ) (rs : List (List ℕ)) → fold (λ (a : ℕ) (x : List ℕ). a + length x) n rs ≡ n + length (join rs)
+unfolding join
+fold_lengths n [] = omega arith
+fold_lengths n (r ∷ rs) = let e = fold_lengths (n + length r) rs in omega (arith, e, length-append r (join rs))
+
+sum_lengths : (rs : List (List ℕ)) → sum_by length rs ≡ length (join rs)
+sum_lengths rs = omega (arith, fold_lengths 0 rs)
+
+pub sum_within : (file : List ℕ) → sum_by length (records file) ≤ length file - 10
+sum_within file = omega (arith, sum_lengths (records file), records_within file)
 
 -- bytes are left behind the last
-pub cut_lem : (file : List ℕ) (end : ℕ) {rs : List (List ℕ)} → end + length (join rs) ≡ 10 + length (join (records file)) → rs ≡ [] → ltb end (length file) ≡ cut_short file
-unfolding cut_short join
-cut_lem file end e q =
-    let n : end ≡ 10 + length (join (records file)) = omega (arith, e, ap (λ (l : List (List ℕ)). length (join l)) q) in
-    ap (λ (k : ℕ). ltb k (length file)) n
+pub cut_lem : (file : List ℕ) (all : ℕ) → all ≡ sum_by length (records file) → ltb (10 + all) (length file) ≡ cut_short file
+unfolding cut_short
+cut_lem file all e = ap (λ (k : ℕ). ltb (10 + k) (length file)) (e ∙ sum_lengths (records file))
 
 -- ---- keys
 
@@ -162,11 +163,7 @@ unfolding same_bytes
 same_short [] [] h = absurd (omega arith)
 same_short [] (b ∷ y) h = refl
 same_short (a ∷ x) [] h = absurd (omega arith)
-same_short (a ∷ x) (b ∷ y) h = go (eqb a b) (same_short x y (omega arith))
-  where
-    go : (t : Bool) → same_bytes x y ≡ false → (t && same_bytes x y) ≡ false
-    go true e = e
-    go false e = refl
+same_short (a ∷ x) (b ∷ y) h = ap (λ (t : Bool). eqb a b && t) (same_short x y (omega arith)) ∙ and-false (eqb a b)
 
 module _ (b : List ℕ) (o : ℕ) (key : List ℕ) where
   pub no_key : length b - o < length key → false ≡ has_key o key b

@@ -1,6 +1,6 @@
--- Laws of slots: where they rise along a file, each is that of one record.
+-- Laws of slots: where they ascend along a file, each is that of one record.
 -- Assumes nothing.
-use Rattle.std.proofs.Common.{◌≡◌, ℕ, suc, ◌+◌, ◌≤◌, Bool, true, false, ltb, List, [], ◌∷◌, length, sym, refl, ap, ◌∙◌, arith, le-ltb}
+use Rattle.std.proofs.Common.{◌≡◌, ℕ, suc, ◌+◌, ◌≤◌, Bool, true, false, List, [], ◌∷◌, length, sym, refl, ap, ◌∙◌, arith}
 use Rattle.octets.specs.Bytes.{part, num}
 use Rattle.octets.proofs.Compare.{same_eq}
 use Rattle.table.specs.Lists.{count_by}
@@ -18,11 +18,11 @@ unfolding counted has_key
 slot_of slot b l e = ap num (ap (part b 2) (sym l) ∙ same_eq (part b 2 (length slot)) slot e)
 
 -- a walk: every slot so far is below low, and there once
-pub record Rising (all rs : List (List ℕ)) (low : ℕ) : Type 0 where
+pub record Ascending (all rs : List (List ℕ)) (low : ℕ) : Type 0 where
   pub once : (slot : List ℕ) → length slot ≡ 8 → of_slot slot all ≤ suc (of_slot slot rs)
   pub none : (slot : List ℕ) → length slot ≡ 8 → low ≤ num slot → of_slot slot all ≡ of_slot slot rs
 
-module _ {all : List (List ℕ)} {low : ℕ} {left rs : List (List ℕ)} {b : List ℕ} (R : Rising all left low) (e : left ≡ b ∷ rs) where
+module _ {all : List (List ℕ)} {low : ℕ} {left rs : List (List ℕ)} {b : List ℕ} (R : Ascending all left low) (e : left ≡ b ∷ rs) where
   module _ {s : ℕ} (q : s ≡ num (part b 2 8)) (k : low ≤ s) where
     step : (slot : List ℕ) → length slot ≡ 8 → (x : Bool) → counted false 2 slot b ≡ x
         → (of_slot slot all ≤ suc (of_slot slot rs)) × (s + 1 ≤ num slot → of_slot slot all ≡ of_slot slot rs)
@@ -33,16 +33,12 @@ module _ {all : List (List ℕ)} {low : ℕ} {left rs : List (List ℕ)} {b : Li
         (omega arith, λ f. absurd (omega arith))
     step slot l false t = let a = turn_count e (counted false 2 slot) false t in (omega (arith, R.once slot l), λ f. R.none slot l (omega arith) ∙ a)
 
-    pub rising_next : Rising all rs (s + 1)
-    rising_next = record {
+    pub ascending_next : Ascending all rs (s + 1)
+    ascending_next = record {
       once = λ slot l. (step slot l (counted false 2 slot b) refl).0;
       none = λ slot l. (step slot l (counted false 2 slot b) refl).1;
     }
 
-pub rising_end : {all rs : List (List ℕ)} {low : ℕ} → Rising all rs low → rs ≡ [] → SlotsOnce all
+pub ascending_end : {all rs : List (List ℕ)} {low : ℕ} → Ascending all rs low → rs ≡ [] → SlotsOnce all
 unfolding count_by
-rising_end R e slot l = omega (arith, R.once slot l, ap (of_slot slot) e)
-
--- no slot is counted twice then
-pub not_twice : (rs : List (List ℕ)) (slot : List ℕ) → length slot ≡ 8 → SlotsOnce rs → false ≡ ltb 1 (of_slot slot rs)
-not_twice rs slot l o = sym (le-ltb 1 (of_slot slot rs) (o slot l))
+ascending_end R e slot l = omega (arith, R.once slot l, ap (of_slot slot) e)

@@ -1,16 +1,18 @@
 -- Laws of the tests of a load: of a record, of the records one by one, and of a file.
 -- Assumes nothing.
-use Rattle.std.proofs.Common.{◌≡◌, ℕ, ◌/◌, ◌<◌, ◌≤◌, min, Bool, true, false, cond, not, ◌&&◌, ◌||◌, ltb, leb, List, [], ◌∷◌, map, length, sym, refl, ap, ◌∙◌, ap₂, arith, ltb-false, le-ltb, lt-ltb, le-leb, Result, Ok, Err}
+use Rattle.std.proofs.Common.{◌≡◌, ℕ, ◌/◌, ◌<◌, ◌≤◌, min, Bool, true, false, cond, not, ◌&&◌, ◌||◌, ltb, leb, List, [], ◌∷◌, map, length, sym, refl, ap, ◌∙◌, ap₂, ltb-false, le-ltb, lt-ltb, le-leb, Result, Ok, Err}
 use Rattle.std.proofs.Math.Nat.{min_comm}
+use mathlib.Core.Bool.{or-false, or-true}
 use borrow.Author.Tests.{lt-leb}
 use Rattle.octets.specs.Bytes.{part, num, same_bytes}
 use Rattle.octets.proofs.Parts.{part_whole}
 use Rattle.courier_core.specs.declared.ContactId.{ContactId}
 use Rattle.courier_core.specs.declared.Refusal.{Refusal}
 use Rattle.courier_core.specs.declared.Refusal.TheVariants as refusal
-use Rattle.table.specs.Lists.{any, count_by}
+use Rattle.table.specs.Lists.{All, more, any, count_by}
 use Rattle.table.specs.Rows.{has_key}
-use Rattle.table.proofs.ListLaws.{any_append}
+use Rattle.table.proofs.ListLaws.{all_imp, any_append}
+use Rattle.table.proofs.FindLaws.{any_none}
 use Rattle.rows.specs.declared.Contact.{Contact}
 use Rattle.model.specs.Contacts.{known}
 use Rattle.model.specs.Cells.{cell_count}
@@ -24,8 +26,13 @@ left_no true y e = e
 left_no false y e = refl
 
 pub right_no : (x y : Bool) → (x || y) ≡ false → y ≡ false
-right_no true y e = let z : ◌≡◌ {A = ℕ} 0 1 = cc in absurd (omega arith)
+right_no true y e = cc
 right_no false y e = e
+
+pub none_any : {A : Type 0} (p : A → Bool) (xs : List A) → All (λ (x : A). p x ≡ false) xs → any p xs ≡ false
+unfolding any
+none_any p [] a = refl
+none_any p (x ∷ xs) (more e a) = ap₂ ◌||◌ e (none_any p xs a)
 
 -- ---- of a record
 
@@ -104,31 +111,11 @@ module _ (b : List ℕ) (cs : List Contact) (rs : List (List ℕ)) where
 
           pub row_carried : c ≡ true → {r : Bool} → r ≡ carried_fails cs rs b → r ≡ Fails
           unfolding carried_fails
-          row_carried g er = er ∙ ends (not (known cs (contact_of (num (depositor_in b))))) (ltb 1 (count_by (counted true 21 (tag_in b)) rs)) (ltb 32 (count_by (counted true 13 (depositor_in b)) rs)) ∙ sym (row_kind true g)
-            where
-              ends : (x y z : Bool) → (x || (y || z)) ≡ (x || (y || (z || false)))
-              ends x y true = refl
-              ends x y false = refl
+          row_carried g er =
+              er ∙ ap (λ (x : Bool). not (known cs (contact_of (num (depositor_in b)))) || (ltb 1 (count_by (counted true 21 (tag_in b)) rs) || x))
+              (sym (or-false (ltb 32 (count_by (counted true 13 (depositor_in b)) rs)))) ∙ sym (row_kind true g)
 
--- ---- the records, one by one: those that are left decide
-
-module _ (p : List ℕ → Bool) (all : List (List ℕ)) where
-  module _ {rs ts : List (List ℕ)} {b : List ℕ} (left : any p all ≡ any p rs) (e : rs ≡ b ∷ ts) where
-    asked : (x : Bool) → p b ≡ x → any p all ≡ (x || any p ts)
-    unfolding any
-    asked x t = left ∙ ap (any p) e ∙ ap (λ (y : Bool). y || any p ts) t
-
-    pub asked_found : true ≡ p b → true ≡ any p all
-    asked_found t = sym (asked true (sym t))
-
-    pub asked_next : false ≡ p b → any p all ≡ any p ts
-    asked_next t = asked false (sym t)
-
-  pub asked_end : {rs : List (List ℕ)} → any p all ≡ any p rs → rs ≡ [] → false ≡ any p all
-  unfolding any
-  asked_end left e = sym (left ∙ ap (any p) e)
-
--- no one of those that are left
+-- ---- the records, one by one: no one of those that are left
 module _ (p : List ℕ → Bool) {rs ts : List (List ℕ)} {b : List ℕ} (none : any p rs ≡ false) (e : rs ≡ b ∷ ts) where
   pub none_here : p b ≡ false
   unfolding any
@@ -242,26 +229,14 @@ module _ (cs : List Contact) (file : List ℕ) where
           counted_all x t = marked false wrong (sym g) refl ∙ ap (λ (y : Bool). wrong || (y || false)) (ap (ltb 256) (sym en) ∙ t)
 
           pub file_over : r ≡ true → 256 < n → Is
-          file_over e k = e ∙ sym (counted_all true (lt-ltb 256 n k) ∙ ends wrong)
-            where
-              ends : (x : Bool) → (x || (true || false)) ≡ true
-              ends true = refl
-              ends false = refl
+          file_over e k = e ∙ sym (counted_all true (lt-ltb 256 n k) ∙ or-true wrong)
 
           pub file_records : n ≤ 256 → r ≡ wrong → Is
-          file_records k e = e ∙ sym (counted_all false (le-ltb 256 n k) ∙ ends wrong)
-            where
-              ends : (x : Bool) → (x || (false || false)) ≡ x
-              ends true = refl
-              ends false = refl
+          file_records k e = e ∙ sym (counted_all false (le-ltb 256 n k) ∙ or-false wrong)
 
         pub file_many : false ≡ cut_short file → false ≡ wrong → {n : ℕ} → n ≡ count_by (has_key 0 (72 ∷ 67 ∷ [])) (records file) → r ≡ ltb 256 n → Is
         unfolding many_carried is_carried
-        file_many g k en e = e ∙ ap (ltb 256) en ∙ sym (ends (ltb 256 (carried_count file))) ∙ sym (marked false false (sym g) (sym k))
-          where
-            ends : (x : Bool) → (x || false) ≡ x
-            ends true = refl
-            ends false = refl
+        file_many g k en e = e ∙ ap (ltb 256) en ∙ sym (or-false (ltb 256 (carried_count file))) ∙ sym (marked false false (sym g) (sym k))
 
   -- a file that is not refused by number 8 is whole
   pub fine_long : holds (wrongs cs file) ≡ false → 10 ≤ length file
@@ -312,9 +287,9 @@ module _ (cs : List Contact) (file : List ℕ) where
     -- where nothing is refused, no test holds
     module _ (e : Says (Ok tt)) where
       none_of : (x y z : Bool) → Ok tt ≡ fours x y z → (x ≡ false) × ((y ≡ false) × (z ≡ false))
-      none_of true y z f = let k : ◌≡◌ {A = ℕ} 0 1 = cc in absurd (omega arith)
-      none_of false true z f = let k : ◌≡◌ {A = ℕ} 0 1 = cc in absurd (omega arith)
-      none_of false false true f = let k : ◌≡◌ {A = ℕ} 0 1 = cc in absurd (omega arith)
+      none_of true y z f = absurd (cc)
+      none_of false true z f = absurd (cc)
+      none_of false false true f = absurd (cc)
       none_of false false false f = (refl, (refl, refl))
 
       pub fine_none : (holds (wrongs cs file) ≡ false) × ((ltb (cell_count cells) (carried_count file) ≡ false) × (ltb room (tombstone_count file) ≡ false))
@@ -323,14 +298,7 @@ module _ (cs : List Contact) (file : List ℕ) where
 
   -- and every record has the mark of its blob
   pub fine_kinds : holds (wrongs cs file) ≡ false → any (fails kind_tests) (records file) ≡ false
-  unfolding any
-  fine_kinds e = weaker (records file) (fine_records e)
-    where
-      weaker : (rs : List (List ℕ)) → any (fails (record_tests (next_in file) cs (records file))) rs ≡ false → any (fails kind_tests) rs ≡ false
-      weaker [] f = refl
-      weaker (r ∷ rs) f =
-          ap₂ (λ (x y : Bool). x || y)
-          (left_no (fails kind_tests r) (fails (row_tests (next_in file) cs (records file)) r)
-          (sym (both_tests (next_in file) cs (records file) r (fails kind_tests r) (fails (row_tests (next_in file) cs (records file)) r) refl refl)
-          ∙ left_no (fails (record_tests (next_in file) cs (records file)) r) (any (fails (record_tests (next_in file) cs (records file))) rs) f))
-          (weaker rs (right_no (fails (record_tests (next_in file) cs (records file)) r) (any (fails (record_tests (next_in file) cs (records file))) rs) f))
+  fine_kinds e =
+      none_any (fails kind_tests) (records file)
+      (all_imp (λ r f. left_no _ _ (sym (both_tests (next_in file) cs (records file) r _ _ refl refl) ∙ f)) (records file)
+      (any_none (fails (record_tests (next_in file) cs (records file))) (records file) (fine_records e)))

@@ -11,17 +11,31 @@ ghost use Rattle.load_tests.specs.Records.{left, records, counted, SlotsOnce, Ga
 ghost use Rattle.load_tests.specs.Tests.{fails, kind_tests, row_tests, record_tests, carried_fails, cut_short, carried_count, holds, wrongs, load_tests, tested_as};
 
 use courier_core::{ContactId, Refusal};
-use rows::CONTACT_WIDTH;
-use state::Held;
+use rows::{CONTACT_WIDTH, MAX_CARRIED, MAX_CELLS, MAX_PER_VERIFIED};
+use state::{
+    CARRIED_LETTER, DEPOSITOR_AT, FILE_HEAD, HEADER_AT, Held, LEN, NEXT_LETTER, RECORD_HEAD, SLOT,
+    TOMBSTONE_LETTER,
+};
 use table::Table;
 
-// What the record of a carried row starts with, and that of a tombstone.
-const CARRIED_MARK: &[u8; 2] = b"HC";
+// Where a carried record has its depositor and its tag, and where the tag ends.
+const DEPOSITOR: usize = RECORD_HEAD + DEPOSITOR_AT;
 
-const TOMBSTONE_MARK: &[u8; 2] = b"HT";
+const TAG: usize = RECORD_HEAD + HEADER_AT;
 
-// A depositor and a tag.
-const KEY_WIDTH: usize = 24;
+const TAG_END: usize = TAG + 16;
+
+// What a file starts with, the record of a carried row, and that of a tombstone.
+const FILE_MARK: &[u8; 2] = &[b'H', NEXT_LETTER];
+
+const CARRIED_MARK: &[u8; 2] = &[b'H', CARRIED_LETTER];
+
+const TOMBSTONE_MARK: &[u8; 2] = &[b'H', TOMBSTONE_LETTER];
+
+// A depositor and a tag, and where the tag stands behind the depositor.
+const KEY_WIDTH: usize = TAG_END - DEPOSITOR;
+
+const KEY_TAG: usize = TAG - DEPOSITOR;
 
 // ---- records
 
@@ -31,12 +45,12 @@ pub struct RecordIter<'a> {
     rest: &'a [u8],
 }
 
-// Those of a file stand behind its first ten bytes.
+// Those of a file.
 pub fn records(file: &[u8]) -> RecordIter<'_>
     ensures { left result ≡ records file.now }
 {
     RecordIter {
-        rest: &file[file.len().min(10)..],
+        rest: &file[file.len().min(FILE_HEAD)..],
     }
 }
 
@@ -48,10 +62,10 @@ impl<'a> Iterator for RecordIter<'a> {
     ghost remaining = { item_count left };
 
     fn next(&mut self) -> Option<&'a [u8]> {
-        if self.rest.len() < 12 {
+        if self.rest.len() < RECORD_HEAD {
             return None;
         }
-        let n = 12 + octets::get_u16(self.rest, 10) as usize;
+        let n = RECORD_HEAD + octets::get_u16(self.rest, LEN) as usize;
         if self.rest.len() < n {
             return None;
         }
@@ -65,14 +79,12 @@ impl<'a> Iterator for RecordIter<'a> {
 pub fn cut_short(file: &[u8]) -> bool
     ensures { result ≡ cut_short file.now }
 {
-    let mut end = 10;
-    for record in records(file) {
-        end += record.len();
-    }
-    end < file.len()
+    let all = records(file).map(|record| record.len()).sum::<usize>();
+    FILE_HEAD + all < file.len()
 }
 
-// Has a record the key at the offset?
+// Has a record the key at the offset? (Tried with `courier::within` for the first two tests: the proof did not close, as it has the
+// sum of `within` to take apart.)
 fn has_key(record: &[u8], offset: usize, key: &[u8]) -> bool
     requires { 0 < length key.now }
     ensures { result ≡ has_key offset key.now «record».now }
@@ -96,13 +108,15 @@ fn count(file: &[u8], offset: usize, key: &[u8]) -> usize
         .count()
 }
 
-// Do the slots rise along the file? Then no slot is there twice.
-fn slots_rise(file: &[u8]) -> bool
+// Do the slots ascend along the file? Then no slot is there twice. (At the highest number that a slot can be it says no: the file is walked then.)
+// (No `is_sorted_by`: no plainer. It ensures what holds of neighbours, and a lemma would have to say it of any two records; here `low` is above every
+// slot so far.)
+fn slots_ascend(file: &[u8]) -> bool
     ensures { result ≡ true → SlotsOnce (records file.now) }
 {
     let mut low = 0;
     for record in records(file) {
-        let slot = octets::get_u64(record, 2);
+        let slot = octets::get_u64(record, SLOT);
         if slot < low || slot == u64::MAX {
             return false;
         }
@@ -113,7 +127,8 @@ fn slots_rise(file: &[u8]) -> bool
 
 // ---- the depositors and tags of the carried records, side by side: each is counted there, not by a walk through the file
 
-// Writes those of each carried record, in rows of 24. Answers how many there are.
+// Writes those of each carried record, one row behind the other. Answers how many there are. (A fixed area, and the count that `push` answers: what a
+// Vec would hold, with no heap.)
 fn gather(file: &[u8], keys: &mut [u8]) -> usize
     requires { (any (fails kind_tests) (records file.now) ≡ false) × (carried_count file.now * 24 ≤ length keys.old) }
     ensures { Gathered file.now keys.new result }
@@ -121,7 +136,7 @@ fn gather(file: &[u8], keys: &mut [u8]) -> usize
     let mut k = 0;
     for record in records(file) {
         if has_key(record, 0, CARRIED_MARK) {
-            k = table::push(keys, KEY_WIDTH, k, &record[13..37]);
+            k = table::push(keys, KEY_WIDTH, k, &record[DEPOSITOR..TAG_END]);
         }
     }
     k
@@ -132,23 +147,22 @@ fn count_keys(keys: Table<KEY_WIDTH>, offset: usize, key: &[u8]) -> usize
     requires { (keys.count * 24 ≤ length keys.area.now) × (offset + length key.now ≤ 24) }
     ensures { result ≡ count_by (has_key offset key.now) (rows 24 keys.entry.count keys.entry.area.now) }
 {
-    let mut found = 0;
-    for i in 0..keys.count {
-        if octets::same(keys.area, i * KEY_WIDTH + offset, key, 0, key.len()) {
-            found += 1;
-        }
-    }
-    found
+    table::count(
+        keys.area,
+        KEY_WIDTH,
+        keys.count,
+        |row| octets::same(row, offset, key, 0, key.len()),
+    )
 }
 
-// ---- number 8, record by record
+// ---- `SavedFile`, record by record
 
 // Is its mark none, its blob refused, or its blob of another kind than its mark?
 fn wrong_kind(record: &[u8]) -> bool
     requires { 12 ≤ length «record».now }
     ensures { result ≡ fails kind_tests «record».now }
 {
-    match state::decode(&record[12..]) {
+    match state::decode(&record[RECORD_HEAD..]) {
         None => true,
         Some(Held::Carried(_)) => !has_key(record, 0, CARRIED_MARK),
         Some(Held::Tombstone(_)) => !has_key(record, 0, TOMBSTONE_MARK),
@@ -159,52 +173,47 @@ fn wrong_kind(record: &[u8]) -> bool
 fn wrong_kinds(file: &[u8]) -> bool
     ensures { result ≡ any (fails kind_tests) (records file.now) }
 {
-    for record in records(file) {
-        if wrong_kind(record) {
-            return true;
-        }
-    }
-    false
+    records(file).any(|record| wrong_kind(record))
 }
 
-// What the row of a record is tested against: all records of its file, the keys of the carried ones, and the contacts. Where rise is true no slot
-// is there twice.
+// What the row of a record is tested against: all records of its file, the keys of the carried ones, and the contacts. Where the slots ascend along
+// the file no slot is there twice.
 #[derive(Drop)]
 struct Against<'a, 'k> {
     file: &'a [u8],
     next: u64,
-    rise: bool,
+    ascending: bool,
     keys: Table<'k, KEY_WIDTH>,
     contacts: Table<'a, CONTACT_WIDTH>,
-    ghost once: { rise ≡ true → SlotsOnce (records file.now) },
+    ghost once: { ascending ≡ true → SlotsOnce (records file.now) },
     ghost gathered: { Gathered file.now keys.area.now keys.count },
 }
 
 impl Against<'_, '_> {
-    // A carried record: is its depositor unknown, its tag there twice, or are over 32 of its depositor?
+    // A carried record: is its depositor unknown, its tag there twice, or are too many of its depositor?
     fn wrong_carried(&self, record: &[u8]) -> bool
         requires { 37 ≤ length «record».now }
         ensures { result ≡ carried_fails (rows_in contact_codec self.now.contacts) (records self.now.file.now) «record».now }
     {
-        let id = octets::get_u64(record, 13);
+        let id = octets::get_u64(record, DEPOSITOR);
         if !contacts::known(self.contacts, ContactId(id)) {
             return true;
         }
-        if 1 < count_keys(self.keys, 8, &record[21..37]) {
+        if 1 < count_keys(self.keys, KEY_TAG, &record[TAG..TAG_END]) {
             return true;
         }
-        32 < count_keys(self.keys, 0, &record[13..21])
+        MAX_PER_VERIFIED < count_keys(self.keys, 0, &record[DEPOSITOR..TAG])
     }
 
-    // Is a slot that of two records? Where slots rise it is not, and the file is not walked.
+    // Is a slot that of two records? Where slots ascend it is not, and the file is not walked.
     fn slot_twice(&self, slot: &[u8]) -> bool
         requires { length slot.now ≡ 8 }
         ensures { result ≡ nat_lt 1 (count_by (counted false 2 slot.now) (records self.now.file.now)) }
     {
-        if self.rise {
+        if self.ascending {
             return false;
         }
-        1 < count(self.file, 2, slot)
+        1 < count(self.file, SLOT, slot)
     }
 
     // Is its slot not below the next, or there twice; or is it a wrong carried one?
@@ -213,10 +222,10 @@ impl Against<'_, '_> {
         requires { fails kind_tests «record».now ≡ false }
         ensures { result ≡ fails (row_tests self.now.next (rows_in contact_codec self.now.contacts) (records self.now.file.now)) «record».now }
     {
-        if self.next <= octets::get_u64(record, 2) {
+        if self.next <= octets::get_u64(record, SLOT) {
             return true;
         }
-        if self.slot_twice(&record[2..10]) {
+        if self.slot_twice(&record[SLOT..LEN]) {
             return true;
         }
         if has_key(record, 0, CARRIED_MARK) {
@@ -230,16 +239,11 @@ impl Against<'_, '_> {
         requires { any (fails kind_tests) (records self.now.file.now) ≡ false }
         ensures { result ≡ any (fails (row_tests self.now.next (rows_in contact_codec self.now.contacts) (records self.now.file.now))) (records self.now.file.now) }
     {
-        for record in records(self.file) {
-            if self.wrong_row(record) {
-                return true;
-            }
-        }
-        false
+        records(self.file).any(|record| self.wrong_row(record))
     }
 }
 
-// Is a record wrong? At most 256 are carried, so their keys fit 256 rows of 24.
+// Is a record wrong? Its file has at most as many carried records as their keys have rows here.
 fn wrong_records<'a>(file: &'a [u8], next: u64, contacts: Table<'a, CONTACT_WIDTH>) -> bool
     requires { carried_count file.now ≤ 256 }
     ensures { result ≡ any (fails (record_tests next (rows_in contact_codec contacts.entry) (records file.now))) (records file.now) }
@@ -247,13 +251,13 @@ fn wrong_records<'a>(file: &'a [u8], next: u64, contacts: Table<'a, CONTACT_WIDT
     if wrong_kinds(file) {
         return true;
     }
-    let mut area = [0u8; 256 * KEY_WIDTH];
+    let mut area = [0u8; MAX_CARRIED * KEY_WIDTH];
     let count = gather(file, &mut area);
     let keys = Table { area: &area, count };
     let against = Against {
         file,
         next,
-        rise: slots_rise(file),
+        ascending: slots_ascend(file),
         keys,
         contacts,
     };
@@ -266,23 +270,23 @@ fn wrong_records<'a>(file: &'a [u8], next: u64, contacts: Table<'a, CONTACT_WIDT
 fn wrong_file(file: &[u8], contacts: Table<CONTACT_WIDTH>) -> bool
     ensures { result ≡ holds (wrongs (rows_in contact_codec contacts.entry) file.now) }
 {
-    if file.len() < 10 {
+    if file.len() < FILE_HEAD {
         return true;
     }
-    if !octets::same(file, 0, b"HN", 0, 2) {
+    if !octets::same(file, 0, FILE_MARK, 0, 2) {
         return true;
     }
     if cut_short(file) {
         return true;
     }
-    if 256 < count(file, 0, CARRIED_MARK) {
+    if MAX_CARRIED < count(file, 0, CARRIED_MARK) {
         return true;
     }
-    let next = octets::get_u64(file, 2);
+    let next = octets::get_u64(file, SLOT);
     wrong_records(file, next, contacts)
 }
 
-// All that a load tests: the file, then the room of the cells, then that of the tombstones.
+// All that a load tests: the file, then the room for its rows. `cells` is how many bytes the area of cells has, `room` how many rows the tombstones' area has.
 pub fn test_file(
     file: &[u8],
     contacts: Table<CONTACT_WIDTH>,
@@ -294,7 +298,7 @@ pub fn test_file(
     if wrong_file(file, contacts) {
         return Err(Refusal::SavedFile);
     }
-    if (cells / state::CELL).min(256) < count(file, 0, CARRIED_MARK) {
+    if (cells / state::CELL).min(MAX_CELLS) < count(file, 0, CARRIED_MARK) {
         return Err(Refusal::NoCell);
     }
     if room < count(file, 0, TOMBSTONE_MARK) {

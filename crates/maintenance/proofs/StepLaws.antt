@@ -14,7 +14,7 @@ use Rattle.model.specs.Maintenance.{carried_expired, tombstone_expired, expired_
 use Rattle.by_slot.specs.declared.held.Held.{Held}
 use Rattle.by_slot.specs.BySlot.{TombstoneFirst}
 use Rattle.by_slot.proofs.SlotLaws.{slot_of}
-use Rattle.maintenance.specs.declared.Turn.{Turn}
+use Rattle.maintenance.specs.declared.Progress.{Progress}
 use Rattle.maintenance.specs.Expiry.{live_row, Listed, Moving, Merging, Moved}
 use Rattle.maintenance.proofs.TestLaws.{lives_yes, lives_no}
 use Rattle.maintenance.proofs.MergeLaws.{pass_carried, pass_tombstone, first_carried, first_tombstone, merging_pass, merging_list, merging_end}
@@ -27,7 +27,7 @@ module _ {A : Type 0} (c : Codec A) (n : ℕ) (a : List ℕ) (wide : 0 < c.width
   row_next : (i : ℕ) → i < length (table_of c n a) → drop i (table_of c n a) ≡ c.decode (part a (i * c.width) c.width) ∷ drop (i + 1) (table_of c n a)
   row_next i h = table_next c n a i (omega (arith, length_table c n a))
 
-module _ (minute : ℕ) (h : Held) (t : Turn) (len : ℕ) (M : Moving h t len) where
+module _ (minute : ℕ) (h : Held) (t : Progress) (len : ℕ) (M : Moving h t len) where
   abbrev n : ℕ
   n = h.carried.count
 
@@ -58,8 +58,8 @@ module _ (minute : ℕ) (h : Held) (t : Turn) (len : ℕ) (M : Moving h t len) w
   abbrev stone : Tombstone
   stone = tombstone_of (part ta (q * 44) 44)
 
-  abbrev turn : ℕ → ℕ → ℕ → Turn
-  turn i j k = record { next = record { carried = i; tombstones = j }; listed = k }
+  abbrev progress : ℕ → ℕ → ℕ → Progress
+  progress i j k = record { next = record { carried = i; tombstones = j }; listed = k }
 
   lc : length Cs ≡ n
   lc = length_whole carried_codec n ca (omega arith) h.carried_fit
@@ -91,7 +91,7 @@ module _ (minute : ℕ) (h : Held) (t : Turn) (len : ℕ) (M : Moving h t len) w
 
   -- whether the rows live
   module _ {b : Bool} (lives : b ≡ (ltb p n && live_row 48 minute (part ca (p * 57) 57))) where
-    pub step_carried : (x : List ℕ) → b ≡ true → Moved minute h x x t (turn (p + 1) q t.listed)
+    pub step_carried : (x : List ℕ) → b ≡ true → Moved minute h x x t (progress (p + 1) q t.listed)
     step_carried x e =
         let y = lives_yes p n _ minute lives e in
         record {
@@ -101,7 +101,7 @@ module _ (minute : ℕ) (h : Held) (t : Turn) (len : ℕ) (M : Moving h t len) w
         }
 
     module _ (dead : b ≡ false) {d : Bool} (stands : d ≡ (ltb q m && live_row 40 minute (part ta (q * 44) 44))) where
-      pub step_tombstone : (x : List ℕ) → d ≡ true → Moved minute h x x t (turn p (q + 1) t.listed)
+      pub step_tombstone : (x : List ℕ) → d ≡ true → Moved minute h x x t (progress p (q + 1) t.listed)
       step_tombstone x e =
           let y = lives_yes q m _ minute stands e in
           record {
@@ -122,7 +122,7 @@ module _ (minute : ℕ) (h : Held) (t : Turn) (len : ℕ) (M : Moving h t len) w
         room : (ac : List ℕ) → length ac ≡ length x → (t.listed + 1) * 13 ≤ length ac
         room ac l = omega (arith, l, lx, M.space, M.reached.more)
 
-        pub list_tombstone : f ≡ true → s ≡ num (part ta (q * 44) 8) → Moved minute h x y t (turn p (q + 1) (t.listed + 1))
+        pub list_tombstone : f ≡ true → s ≡ num (part ta (q * 44) 8) → Moved minute h x y t (progress p (q + 1) (t.listed + 1))
         list_tombstone e es =
             let w = F.tombstone e in
             record {
@@ -133,7 +133,7 @@ module _ (minute : ℕ) (h : Held) (t : Turn) (len : ℕ) (M : Moving h t len) w
               further = omega arith;
             }
 
-        pub list_carried : f ≡ false → s ≡ num (part ca (p * 57) 8) → Moved minute h x y t (turn (p + 1) q (t.listed + 1))
+        pub list_carried : f ≡ false → s ≡ num (part ca (p * 57) 8) → Moved minute h x y t (progress (p + 1) q (t.listed + 1))
         list_carried e es =
             let w = F.carried e in
             record {

@@ -3,7 +3,7 @@
 use Rattle.std.proofs.Common.{◌≡◌, ℕ, ◌+◌, ◌-◌, ◌*◌, ◌^◌, ◌<◌, ◌≤◌, Bool, true, false, cond, not, ◌&&◌, ltb, leb, List, length, sym, refl, ap, ◌∙◌, arith, ltb-false, ltb-true, lt-ltb, le-ltb, le-leb}
 use borrow.Author.Tests.{lt-leb, not-false}
 use Rattle.octets.specs.Bytes.{part, num}
-use Rattle.octets.proofs.Parts.{length_part}
+use Rattle.table.proofs.RowLaws.{row_at}
 use Rattle.table.specs.Lists.{filter}
 use Rattle.table.specs.Rows.{held, rows, RowsNow}
 use Rattle.table.specs.Codec.{table_of, TableNow}
@@ -28,15 +28,9 @@ after_is minute e = go (ltb minute e) refl
 pub live_row_lem : (row : List ℕ) (o minute : ℕ) {e : ℕ} → e ≡ num (part row o 4) → ltb minute e ≡ live_row o minute row
 live_row_lem row o minute {e} q = after_is minute e ∙ ap (λ (z : ℕ). not (leb z minute)) q
 
--- a row as the code takes it out of its area, and its length
-pub row_slice : (a : List ℕ) (at w : ℕ) → part a at (at + w - at) ≡ part a at w
-row_slice a at w = let e : at + w - at ≡ w = omega arith in ap (part a at) e
-
-pub length_slice : (a : List ℕ) (at w : ℕ) → at + w ≤ length a → length (part a at (at + w - at)) ≡ w
-length_slice a at w h = ap length (row_slice a at w) ∙ length_part a at w h
-
-pub tested : (a : List ℕ) (i w o minute : ℕ) {r : Bool} → r ≡ live_row o minute (part a (i * w) (i * w + w - i * w)) → r ≡ live_row o minute (part a (i * w) w)
-tested a i w o minute e = e ∙ ap (live_row o minute) (row_slice a (i * w) w)
+-- row i as the code takes it out of an area of n rows
+pub tested : (a : List ℕ) (i w n o minute : ℕ) {r : Bool} → r ≡ live_row o minute (part a (i * w) (i * w + w - i * w)) → r ≡ live_row o minute (part a (i * w) w)
+tested a i w n o minute e = e ∙ ap (live_row o minute) (row_at a w i n)
 
 -- a test of a row that is there, and of one that is not
 pub there : (i n : ℕ) {b r : Bool} → i < n → r ≡ b → r ≡ (ltb i n && b)

@@ -19,7 +19,7 @@ use Rattle.model.specs.Areas.{Areas}
 use Rattle.by_slot.specs.declared.held.Held.{Held}
 use Rattle.by_slot.specs.BySlot.{Reached}
 use Rattle.model.specs.Lent.{refused_or, device_in, own_in, carried_in, tombstones_in}
-use Rattle.maintenance.specs.declared.Turn.{Turn}
+use Rattle.maintenance.specs.declared.Progress.{Progress}
 
 -- does a row, whose expiry is at an offset, stay at the minute
 abbrev pub live_row : ℕ → ℕ → List ℕ → Bool
@@ -37,7 +37,7 @@ pub record Listed (ac : List ℕ) (k : ℕ) (acts : List Action) (m : ℕ) (x : 
   pub area : x ≡ splice ac (k * 13) (join (map action_bytes acts))
 
 -- what a step of the deletions relies on: a row is left, and there is room for an action of each
-pub record Moving (h : Held) (t : Turn) (actions : ℕ) : Type 0 where
+pub record Moving (h : Held) (t : Progress) (actions : ℕ) : Type 0 where
   pub reached : Reached h t.next
   pub space : (t.listed + (h.carried.count + h.tombstones.count)) * 13 ≤ actions + (t.next.carried + t.next.tombstones) * 13
 
@@ -51,7 +51,7 @@ pub record Merging (minute : ℕ) (cs : List Carried) (ts : List Tombstone) (ac 
   pub below : m ≤ k + (p + q)
 
 -- one step of the deletions, from t to r; the action area was x and is now y
-pub record Moved (minute : ℕ) (h : Held) (x y : List ℕ) (t r : Turn) : Type 0 where
+pub record Moved (minute : ℕ) (h : Held) (x y : List ℕ) (t r : Progress) : Type 0 where
   pub merging : (ac : List ℕ) (k : ℕ) → length ac ≡ length x
       → Merging minute (rows_in carried_codec h.carried) (rows_in tombstone_codec h.tombstones) ac k x t.next.carried t.next.tombstones t.listed
       → Merging minute (rows_in carried_codec h.carried) (rows_in tombstone_codec h.tombstones) ac k y r.next.carried r.next.tombstones r.listed

@@ -15,12 +15,15 @@ ghost use Rattle.maintenance.specs.Expiry.{live_row, Listed, Moving, Moved, Rewr
 
 use by_slot::{Cursor, Held};
 use courier_core::Refusal;
-use rows::{CARRIED_WIDTH, Device, OWN_WIDTH, Own, Row as _, TOMBSTONE_WIDTH};
+use rows::{
+    ACTION_WIDTH, CARRIED_AREA, CARRIED_WIDTH, Carried, Device, OWN_AREA, OWN_WIDTH, Own, Row as _,
+    TOMBSTONE_WIDTH, Tombstone,
+};
 use table::Table;
 
 // How far the list of deletions is: the next row of each table, and how many actions are listed.
 #[derive(Drop)]
-struct Turn {
+struct Progress {
     next: Cursor,
     listed: usize,
 }
@@ -35,26 +38,13 @@ fn is_live(row: &[u8], offset: usize, minute: u32) -> bool
 
 // ---- held rows
 
-// Where the expiry of a carried row stands, and that of a tombstone.
-const CARRIED_EXPIRY: usize = 48;
-
-const TOMBSTONE_EXPIRY: usize = 40;
-
 // Takes out the rows whose expiry, at an offset, is not after the minute; answers how many are left.
 fn keep_live(area: &mut [u8], width: usize, count: usize, offset: usize, minute: u32) -> usize
     requires { (0 < width) × (offset + 4 ≤ width) }
     ensures { RowsNow width area.old (filter (live_row offset minute) (rows width (held (length area.old) width count) area.old)) result area.new }
 {
     let n = table::fit(area.len(), width, count);
-    let mut k = 0;
-    for i in 0..n {
-        let at = i * width;
-        if is_live(&area[at..at + width], offset, minute) {
-            table::keep_row(area, width, k, i);
-            k += 1;
-        }
-    }
-    k
+    table::retain(area, width, n, |row| is_live(row, offset, minute))
 }
 
 // ---- deletions: carried rows and tombstones together, by slot
@@ -71,29 +61,40 @@ fn lives<const W: usize>(table: Table<W>, offset: usize, i: usize, minute: u32) 
     is_live(&table.area[at..at + W], offset, minute)
 }
 
-// One row further: a row that lives is passed; else the lower slot is listed.
-fn list_one(held: Held, minute: u32, t: &mut Turn, actions: &mut [u8])
-    requires { Moving held t.old (length actions.old) }
-    ensures { Moved minute held.entry actions.old actions.new t.old t.new }
+// One row further: a row that has not expired is passed; else the lower slot is listed. (Each branch lists its own: given the slot behind them, the proof
+// would match on the branch again.)
+// (No iterator over all held rows by slot, with a filter behind it: a row that has not expired is passed before slots are compared, and slots of an
+// area need not be in order, so that what is listed would stand in another order.)
+fn list_one(held: Held, minute: u32, progress: &mut Progress, actions: &mut [u8])
+    requires { Moving held progress.old (length actions.old) }
+    ensures { Moved minute held.entry actions.old actions.new progress.old progress.new }
 {
-    if lives::<CARRIED_WIDTH>(held.carried, CARRIED_EXPIRY, t.next.carried, minute) {
-        t.next.carried += 1;
+    if lives::<CARRIED_WIDTH>(held.carried, Carried::EXPIRY, progress.next.carried, minute) {
+        progress.next.carried += 1;
         return;
     }
-    if lives::<TOMBSTONE_WIDTH>(held.tombstones, TOMBSTONE_EXPIRY, t.next.tombstones, minute) {
-        t.next.tombstones += 1;
+    if lives::<TOMBSTONE_WIDTH>(
+        held.tombstones,
+        Tombstone::EXPIRY,
+        progress.next.tombstones,
+        minute,
+    ) {
+        progress.next.tombstones += 1;
         return;
     }
-    if held.tombstone_first(t.next) {
-        let slot = octets::get_u64(held.tombstones.area, t.next.tombstones * TOMBSTONE_WIDTH);
-        answers::delete_courier(actions, t.listed * 13, slot);
-        t.next.tombstones += 1;
+    if held.tombstone_first(progress.next) {
+        let slot = octets::get_u64(
+            held.tombstones.area,
+            progress.next.tombstones * TOMBSTONE_WIDTH,
+        );
+        answers::delete_courier(actions, progress.listed * ACTION_WIDTH, slot);
+        progress.next.tombstones += 1;
     } else {
-        let slot = octets::get_u64(held.carried.area, t.next.carried * CARRIED_WIDTH);
-        answers::delete_courier(actions, t.listed * 13, slot);
-        t.next.carried += 1;
+        let slot = octets::get_u64(held.carried.area, progress.next.carried * CARRIED_WIDTH);
+        answers::delete_courier(actions, progress.listed * ACTION_WIDTH, slot);
+        progress.next.carried += 1;
     }
-    t.listed += 1;
+    progress.listed += 1;
 }
 
 // Lists the deletions behind k actions; answers how many are listed.
@@ -101,20 +102,18 @@ fn list_held(held: Held, minute: u32, k: usize, actions: &mut [u8]) -> usize
     requires { (k + (held.carried.count + held.tombstones.count)) * 13 ≤ length actions.old }
     ensures { Listed actions.old k (map delete_courier (expired_slots minute (rows_in carried_codec held.entry.carried) (rows_in tombstone_codec held.entry.tombstones))) result actions.new }
 {
-    let next = Cursor {
-        carried: 0,
-        tombstones: 0,
-    };
-    let mut t = Turn { next, listed: k };
+    let next = Cursor::default();
+    let mut progress = Progress { next, listed: k };
     for _row in 0..held.len() {
-        list_one(held, minute, &mut t, actions);
+        list_one(held, minute, &mut progress, actions);
     }
-    t.listed
+    progress.listed
 }
 
 // ---- own rows
 
 // Lists an own put for each own row that has expired; answers how many are listed.
+// (k counts by hand: the actions stand one behind the other in a lent area, and no Vec is there to count them, since there is no heap.)
 fn list_own(own: Table<OWN_WIDTH>, minute: u32, actions: &mut [u8]) -> usize
     requires { held (length own.area.now) own_width own.count * 13 ≤ length actions.old }
     ensures { Listed actions.old 0 (own_puts minute (rows_in own_codec own.entry)) result actions.new }
@@ -124,7 +123,7 @@ fn list_own(own: Table<OWN_WIDTH>, minute: u32, actions: &mut [u8]) -> usize
     for i in 0..n {
         let row = Own::read(own.area, i * OWN_WIDTH);
         if row.expiry_min <= minute {
-            answers::put_queued(actions, k * 13, row.contact, row.msgno);
+            answers::put_queued(actions, k * ACTION_WIDTH, row.contact, row.msgno);
             k += 1;
         }
     }
@@ -154,7 +153,8 @@ fn renew_expired(row: Own, minute: u32, copies: u8, end: u32) -> Own
 }
 
 // Takes out the rows expired the second time and renews the other expired ones; answers how many are left.
-// (The area is the host's and the count is the device's; a Table is read only, and here the rows change.)
+// (One walk by hand, no less plain: table::retain leaves the rows that stay as they are, so that renewing them would be a second walk by hand behind it. A
+// Table is read only: what changes is an area, with the device's count beside.)
 fn maintain_own(own: &mut [u8], count: usize, minute: u32, copies: u8, end: u32) -> usize
     ensures { Rewritten own_codec own.old (maintain_own minute copies end (table_of own_codec count own.old)) result own.new }
 {
@@ -175,8 +175,8 @@ fn maintain_own(own: &mut [u8], count: usize, minute: u32, copies: u8, end: u32)
 // Lists what maintenance does: the own puts, then the deletions. Answers how many are listed.
 fn list_actions(
     device: Device,
-    own: &[u8; 13824],
-    carried: &[u8; 14592],
+    own: &[u8; OWN_AREA],
+    carried: &[u8; CARRIED_AREA],
     tombstones: &[u8],
     minute: u32,
     actions: &mut [u8],
@@ -207,8 +207,8 @@ fn list_actions(
 // Renews and drops own rows, then deletes the held rows that have expired. Answers how many actions are listed.
 pub fn maintain_couriers(
     device: &mut Device,
-    own: &mut [u8; 13824],
-    carried: &mut [u8; 14592],
+    own: &mut [u8; OWN_AREA],
+    carried: &mut [u8; CARRIED_AREA],
     tombstones: &mut [u8],
     actions: &mut [u8],
 ) -> Result<usize, Refusal>
@@ -217,8 +217,7 @@ pub fn maintain_couriers(
         (lent_tables device.new own.new carried.new tombstones.new)
         (actions_lent actions.old) (actions_lent actions.new) }
 {
-    let room = tombstones.len() / TOMBSTONE_WIDTH;
-    if actions.len() < 13 * (512 + room) {
+    if answers::short_actions(actions.len(), tombstones.len()) {
         return Err(Refusal::ShortArea);
     }
     let minute = contacts::now_min(device.now_s);
@@ -229,14 +228,14 @@ pub fn maintain_couriers(
         carried,
         CARRIED_WIDTH,
         device.carried,
-        CARRIED_EXPIRY,
+        Carried::EXPIRY,
         minute,
     );
     device.tombstones = keep_live(
         tombstones,
         TOMBSTONE_WIDTH,
         device.tombstones,
-        TOMBSTONE_EXPIRY,
+        Tombstone::EXPIRY,
         minute,
     );
     Ok(listed)

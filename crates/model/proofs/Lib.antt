@@ -8,6 +8,7 @@ pub mod KeepParts
 pub mod KeepCalls
 pub mod RunLaws
 pub mod CallLaws
+pub mod CellLaws
 pub mod CornerLaws
 pub mod BeforeLaws
 pub mod FetchLaws

@@ -1,6 +1,6 @@
 -- What is offered: a row's tests, its reply, its offer.
 -- Assumes nothing.
-use Rattle.std.proofs.Common.{◌≡◌, ℕ, ◌+◌, ◌*◌, ◌<◌, ◌≤◌, Bool, true, false, not, ◌&&◌, ltb, List, [], ◌∷◌, ◌++◌, length, take, sym, refl, ap, ◌∙◌, subst, ap₂, arith, length-append, Option, Some, None}
+use Rattle.std.proofs.Common.{◌≡◌, ℕ, ◌+◌, ◌*◌, ◌<◌, ◌≤◌, Bool, true, false, cond, not, ◌&&◌, ltb, List, [], ◌∷◌, ◌++◌, length, take, sym, refl, ap, ◌∙◌, subst, ap₂, arith, length-append, Option, Some, None}
 use Rattle.octets.specs.Bytes.{splice, same_bytes}
 use Rattle.octets.proofs.Numbers.{length_be}
 use Rattle.table.specs.Lists.{any, position, replace_at}
@@ -31,40 +31,52 @@ use Rattle.answers.proofs.Laws.{length_reply}
 abbrev pub Tested : List Tombstone → List (List ℕ) → Entry → (searched offered : Bool) → Type 0
 Tested ts ls e a o = (passes (in_question ls) e ≡ a) × (passes (is_offered ts ls) e ≡ o)
 
--- what is asked of a row, in this order: may it be offered, is its prefix listed, is its tag tombstoned
-module _ (ts : List Tombstone) (ls : List (List ℕ)) (e : Entry) (row : Row) (is : row ≡ row_of e) where
-  abbrev Spare : Row → Bool
-  Spare r = r.goes && ltb 1 r.copies
+-- what is asked of a row, in this order: may it go, has it copies to spare, is its prefix listed, is its tag tombstoned
+module _ (ts : List Tombstone) (ls : List (List ℕ)) (e : Entry) where
+  abbrev first_row : Row
+  first_row = record { tag = e.envelope.head.tag; copies = e.envelope.head.copies }
 
-  abbrev Listed : Row → Bool
-  Listed r = any (λ (p : List ℕ). same_bytes p (take 8 r.tag)) ls
+  abbrev Listed : List ℕ → Bool
+  Listed tag = any (λ (p : List ℕ). same_bytes p (take 8 tag)) ls
 
-  abbrev Tombstoned : Row → Bool
-  Tombstoned r = any (tombstone_of_tag r.tag) ts
+  abbrev Tombstoned : List ℕ → Bool
+  Tombstoned tag = any (tombstone_of_tag tag) ts
 
-  tested : Tested ts ls e (Spare row && not (Listed row)) ((Spare row && not (Listed row)) && not (Tombstoned row))
+  pub stays : None ≡ row_of e → Tested ts ls e false false
   unfolding is_offered in_question row_of
-  tested = rw is (go e.goes (ltb 1 e.envelope.head.copies) (Listed (row_of e)) (Tombstoned (row_of e)))
+  stays q = go e.goes q (ltb 1 e.envelope.head.copies && not (Listed e.envelope.head.tag)) (not (Tombstoned e.envelope.head.tag))
     where
-      go : (g m l t : Bool) → ((g && (m && not l)) ≡ ((g && m) && not l)) × ((g && ((m && not l) && not t)) ≡ (((g && m) && not l) && not t))
-      go true m l t = (refl, refl)
-      go false m l t = (refl, refl)
+      go : (g : Bool) → None ≡ cond g (Some first_row) None → (k t : Bool) → ((g && k) ≡ false) × ((g && (k && t)) ≡ false)
+      go true q k t = cc
+      go false q k t = (refl, refl)
 
-  pub not_spare : Spare row ≡ false → Tested ts ls e false false
-  not_spare h = rw h at tested
+  module _ {row : Row} (is : Some row ≡ row_of e) where
+    goes : Tested ts ls e (ltb 1 row.copies && not (Listed row.tag)) ((ltb 1 row.copies && not (Listed row.tag)) && not (Tombstoned row.tag))
+    unfolding is_offered in_question row_of
+    goes = go e.goes is
+      where
+        go : (g : Bool) → Some row ≡ cond g (Some first_row) None
+            → ((g && (ltb 1 e.envelope.head.copies && not (Listed e.envelope.head.tag))) ≡ (ltb 1 row.copies && not (Listed row.tag)))
+            × ((g && ((ltb 1 e.envelope.head.copies && not (Listed e.envelope.head.tag)) && not (Tombstoned e.envelope.head.tag)))
+            ≡ ((ltb 1 row.copies && not (Listed row.tag)) && not (Tombstoned row.tag)))
+        go true q = (cc, cc)
+        go false q = cc
 
-  pub was_listed : Listed row ≡ true → Tested ts ls e false false
-  was_listed h = go (Spare row) (rw h at tested)
-    where
-      go : (b : Bool) → Tested ts ls e (b && not true) ((b && not true) && not (Tombstoned row)) → Tested ts ls e false false
-      go true q = q
-      go false q = q
+    pub last_copy : ltb 1 row.copies ≡ false → Tested ts ls e false false
+    last_copy h = rw h at goes
 
-  pub was_tombstoned : Spare row ≡ true → Listed row ≡ false → Tombstoned row ≡ true → Tested ts ls e true false
-  was_tombstoned s l t = rw (s, l, t) at tested
+    pub was_listed : Listed row.tag ≡ true → Tested ts ls e false false
+    was_listed h = go (ltb 1 row.copies) (rw h at goes)
+      where
+        go : (b : Bool) → Tested ts ls e (b && not true) ((b && not true) && not (Tombstoned row.tag)) → Tested ts ls e false false
+        go true q = q
+        go false q = q
 
-  pub is_offered_lem : Spare row ≡ true → Listed row ≡ false → Tombstoned row ≡ false → Tested ts ls e true true
-  is_offered_lem s l t = rw (s, l, t) at tested
+    pub was_tombstoned : ltb 1 row.copies ≡ true → Listed row.tag ≡ false → Tombstoned row.tag ≡ true → Tested ts ls e true false
+    was_tombstoned s l t = rw (s, l, t) at goes
+
+    pub is_offered_lem : ltb 1 row.copies ≡ true → Listed row.tag ≡ false → Tombstoned row.tag ≡ false → Tested ts ls e true true
+    is_offered_lem s l t = rw (s, l, t) at goes
 
 -- ---- an envelope as it is offered
 

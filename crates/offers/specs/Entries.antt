@@ -1,6 +1,6 @@
 -- The held rows, own rows first, then carried ones, and whether each may go to a peer.
 -- Assumes nothing.
-use Rattle.std.specs.Prelude.{ℕ, ◌-◌, ◌*◌, Bool, true, cond, ◌&&◌, List, ◌++◌, map, nat_lt}
+use Rattle.std.specs.Prelude.{ℕ, ◌-◌, ◌*◌, Bool, true, cond, ◌&&◌, List, ◌++◌, map, nat_lt, Option, Some, None}
 use Rattle.octets.specs.Bytes.{part}
 use Rattle.courier_core.specs.declared.ContactId.{ContactId}
 use Rattle.rows.specs.declared.Own.{Own}
@@ -48,9 +48,9 @@ entries peer = held_by (own_entry peer) carried_entry
 abbrev pub entry_at : ContactId → List ℕ → ℕ → List ℕ → ℕ → Entry
 entry_at peer = held_by_at (own_entry peer) carried_entry
 
--- what is asked of it
-unfoldable pub row_of : Entry → Row
-row_of e = record { goes = e.goes; tag = e.envelope.head.tag; copies = e.envelope.head.copies }
+-- what is asked of it, if it may go
+unfoldable pub row_of : Entry → Option Row
+row_of e = cond e.goes (Some (record { tag = e.envelope.head.tag; copies = e.envelope.head.copies })) None
 
 -- it may go, and the test holds of its envelope
 abbrev pub passes : (Envelope → Bool) → Entry → Bool

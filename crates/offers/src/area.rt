@@ -1,4 +1,4 @@
-// Rows at the front of an area that is lent, and how many there are: what a Vec would hold, with no heap.
+// Rows at the front of an area that is lent, and how many there are.
 #![tactic(auto)]
 
 ghost use Rattle.std.specs.Prelude.{◌≡◌, ◌*◌, ◌^◌, ◌<◌, ◌≤◌, length};
@@ -6,7 +6,9 @@ ghost use Rattle.table.specs.Rows.{Fits};
 
 use table::Table;
 
-// The rows of W bytes at the front of an area, of which there are n. (A table's count may be anything; here it is cut once, for the loops that go through rows over and over.)
+// The rows of W bytes at the front of an area, of which there are n.
+// (Not a `Table`: its count may be anything, and each of its searches cuts it anew. Here it was cut once, and the type says that n rows fit, so that the
+// loops over n owe no bound for a row that they read.)
 #[derive(Clone, Copy)]
 pub struct Rows<'a, const W: usize> {
     pub area: &'a [u8],

@@ -1,11 +1,11 @@
--- Laws of the tests of the own envelope call, of the place of a new row and of its cell.
+-- Laws of the tests of the own envelope call, and of the place of a new row.
 -- Assumes nothing.
-use Rattle.std.proofs.Common.{◌≡◌, ℕ, zero, suc, ◌+◌, ◌-◌, ◌*◌, ◌/◌, ◌<◌, ◌≤◌, min, Bool, true, false, cond, ◌&&◌, ◌||◌, eqb, ltb, leb, List, length, sym, refl, ap, ◌∙◌, ap₂, zero-add, add-zero, div-mul-le_self, arith, ltb-false, le-ltb, eq-eqb, ne_eqb, leb-false, Some, None}
+use Rattle.std.proofs.Common.{◌≡◌, ℕ, ◌+◌, ◌-◌, ◌*◌, ◌<◌, ◌≤◌, Bool, true, false, ◌&&◌, ◌||◌, eqb, ltb, leb, List, length, sym, refl, ap, ◌∙◌, subst, ap₂, zero-add, add-zero, arith, ltb-false, le-ltb, eq-eqb, ne_eqb, leb-false, Option, Some, None}
 use mathlib.Core.Bool.{or-false}
-use native.Mathlib.Nat.{min-le_left, min-le_right}
+use Rattle.std.specs.Option.{MatchOption, unwrap_or as unwrap_or_of}
 use Rattle.octets.specs.Bytes.{part, num}
 use Rattle.octets.proofs.Parts.{part_part}
-use Rattle.table.specs.Lists.{any, position, unwrap_or, insert_at}
+use Rattle.table.specs.Lists.{position, unwrap_or, insert_at}
 use Rattle.table.specs.Rows.{held}
 use Rattle.table.specs.Codec.{table_of, TableNow}
 use Rattle.table.proofs.FindLaws.{position_le, position_next}
@@ -15,7 +15,6 @@ use Rattle.rows.specs.declared.Contact.{Contact}
 use Rattle.rows.specs.declared.Own.{Own}
 use Rattle.rows.specs.Rows.{own_codec, contact_codec, contact_of}
 use Rattle.model.specs.Contacts.{is_contact, contact_place, added_before}
-use Rattle.model.specs.Cells.{free_from, free_cell, cell_count}
 use Rattle.model.specs.Own.{none_made, stands_after, insert_own}
 use Rattle.own_envelope.specs.OwnEnvelope.{own_place}
 use Rattle.own_envelope.proofs.WalkLaws.{first_found}
@@ -51,6 +50,13 @@ module _ (count : ℕ) (a : List ℕ) (id : ContactId) where
   pub first_inside : {n : ℕ} → n ≡ held (length a) 9 count → added_before (table_of contact_codec count a) id ≤ n
   unfolding added_before contact_place
   first_inside h = omega (arith, position_le (is_contact id) (table_of contact_codec count a), length_table contact_codec count a)
+
+  -- the place that a search finds, or the count
+  pub found_from : (r : Option ℕ) (n v start : ℕ) (No : ℕ → Type 0) → n ≡ held (length a) 9 count
+      → MatchOption r ((k : ℕ) → start ≤ k → k < n → No k) (λ (i : ℕ). (start ≤ i) × (i < n) × (num (part a (i * 9) 8) ≡ id.0) × ((k : ℕ) → start ≤ k → k < i → No k))
+      → v ≡ unwrap_or_of r n → added_before (table_of contact_codec count a) id ≤ v
+  found_from (Some i) n v start No h m e = rw e (first_by {k = i} (subst (λ (x : ℕ). i < x) h m.1) refl m.2)
+  found_from None n v start No h m e = rw e (first_inside h)
 
 -- does a row stand after the new one: its number decides if it is of the same contact, else its contact
 module _ (ps : List Contact) (id : ContactId) (msgno : ℕ) (row : Own) where
@@ -93,20 +99,3 @@ pub inserted : (ps : List Contact) (row : Own) (own : List Own) {a x : List ℕ}
     → TableNow own_codec a (insert_at i row own) m x → TableNow own_codec a (insert_own ps row own) m x
 unfolding insert_own own_place
 inserted ps row own e N = rw e at N
-
--- ---- the free cell is one of the area's, and of 256
-
-free_from_lem : (n i : ℕ) (named : List ℕ) {j : ℕ} → free_from n i named ≡ Some j → j < i + n
-unfolding free_from
-free_from_lem zero i named e = let z : ◌≡◌ {A = ℕ} 0 1 = cc in absurd (omega arith)
-free_from_lem (suc n) i named {j} e = go (any (λ (m : ℕ). eqb m i) named) e (λ f. free_from_lem n (suc i) named f)
-  where
-    go : (b : Bool) → cond b (free_from n (suc i) named) (Some i) ≡ Some j → (free_from n (suc i) named ≡ Some j → j < suc i + n) → j < i + suc n
-    go true f rest = omega (arith, rest f)
-    go false f rest = let z : i ≡ j = cc in omega arith
-
-pub free_inside : (size : ℕ) (named : List ℕ) (j : ℕ) → Some j ≡ free_cell size named → (j < 256) × (j * 2064 + 2064 ≤ size)
-unfolding free_cell cell_count
-free_inside size named j e =
-    let h = free_from_lem (min 256 (size / 2064)) 0 named (sym e) in
-    (omega (arith, h, min-le_left 256 (size / 2064)), omega (arith, h, min-le_right 256 (size / 2064), div-mul-le_self size 2064))

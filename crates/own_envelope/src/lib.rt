@@ -15,14 +15,9 @@ ghost use Rattle.own_envelope.specs.OwnEnvelope.{own_says, lent_own, made_own, o
 
 use chain::Dir;
 use courier_core::{ContactId, Refusal};
-use rows::{CONTACT_WIDTH, Device, OWN_WIDTH, Own, Row};
+use rows::{CONTACT_AREA, CONTACT_WIDTH, Device, MAX_OWN, OWN_AREA, OWN_WIDTH, Own, Row};
 use state::CELL;
 use table::Table;
-
-const MAX_OWN: usize = 256;
-
-// Where the message number stands in an own row, behind the contact.
-const MSGNO_AT: usize = 8;
 
 // ---- the tests
 
@@ -30,7 +25,8 @@ const MSGNO_AT: usize = 8;
 fn has_message(own: Table<OWN_WIDTH>, id: ContactId, msgno: u32) -> bool
     ensures { result ≡ any (is_message id msgno) (rows_in own_codec own.entry) }
 {
-    own.any(|row| octets::get_u64(row, 0) == id.0 && octets::get_u32(row, MSGNO_AT) == msgno)
+    own.any(|row| ContactId(octets::get_u64(row, 0)) == id
+        && octets::get_u32(row, Own::MSGNO) == msgno)
 }
 
 // Is the length, less 16, an inner length?
@@ -38,7 +34,7 @@ fn has_message(own: Table<OWN_WIDTH>, id: ContactId, msgno: u32) -> bool
 fn own_length(len: usize) -> bool
     ensures { result ≡ own_length len }
 {
-    16 <= len && chain::is_bucket(len - 16)
+    chain::TAG_LEN <= len && chain::is_bucket(len - chain::TAG_LEN)
 }
 
 // Is no envelope made: inner length above COURIER_INNER_MAX, or 256 own rows there?
@@ -51,17 +47,18 @@ fn none_made(own: Table<OWN_WIDTH>, len: usize) -> bool
 
 // ---- the row
 
-// Where a contact stands from `at` on, or how many there are: its first place is no later.
+// Where a contact stands from `at` on, or how many there are: never before the contact's first place.
 fn place_from(contacts: Table<CONTACT_WIDTH>, at: usize, id: ContactId) -> usize
     ensures { added_before (rows_in contact_codec contacts.entry) id ≤ result }
 {
     let n = contacts.len();
-    for k in at..n {
-        if octets::get_u64(contacts.area, k * CONTACT_WIDTH) == id.0 {
-            return k;
-        }
-    }
-    n
+    (at..n)
+        .find(
+            |&k|
+                requires { k * 9 + 8 ≤ length contacts.area.now }
+            { ContactId(octets::get_u64(contacts.area, k * CONTACT_WIDTH)) == id },
+        )
+        .unwrap_or(n)
 }
 
 // Does a row stand after one of this contact and message number? `mine` contacts were added before that one.
@@ -84,7 +81,8 @@ fn stands_after(
 }
 
 // Where a new row goes: own rows stand by contact as added and message number.
-// So a row's contact is looked for from the place of the row's before it on.
+// So the search for a row's contact begins where that for the row before it ended.
+// (A loop and no `position`: that place goes on from row to row.)
 fn own_place(
     contacts: Table<CONTACT_WIDTH>,
     own: Table<OWN_WIDTH>,
@@ -107,7 +105,7 @@ fn own_place(
 }
 
 // Puts a row in at its place; answers how many there are.
-// (Own rows are written here: the area is the host's, lent across the C interface, and the count is the device's, so that they stand apart.)
+// (Area and count, and no Table: the area changes, and a Table is lent to be read.)
 fn insert_own(contacts: Table<CONTACT_WIDTH>, own: &mut [u8], count: usize, row: Own) -> usize
     requires { held (length own.old) own_width count * own_width + own_width ≤ length own.old }
     ensures { TableNow own_codec own.old (insert_own (rows_in contact_codec contacts.entry) row (table_of own_codec count own.old)) result own.new }
@@ -117,6 +115,7 @@ fn insert_own(contacts: Table<CONTACT_WIDTH>, own: &mut [u8], count: usize, row:
     Own::insert(own, count, i, row)
 }
 
+// (Beside the device, what the row has that is not the device's: in a struct it would be the row again.)
 fn new_own(
     device: &Device,
     id: ContactId,
@@ -146,7 +145,7 @@ fn new_own(
 
 // An own envelope of a queued message: its ciphertext goes to the first free cell, its row among the own rows. Answers the row, or none where no
 // envelope is made.
-// (As the C interface lends them, each area is a parameter.)
+// (The call is lent what the exported function of crate goosetable is lent: each area by itself.)
 pub fn own_envelope(
     device: &mut Device,
     id: ContactId,
@@ -157,8 +156,8 @@ pub fn own_envelope(
     idx: u32,
     s: [u8; 16],
     ct: &[u8],
-    contacts: &[u8; 2304],
-    own: &mut [u8; 13824],
+    contacts: &[u8; CONTACT_AREA],
+    own: &mut [u8; OWN_AREA],
     own_cells: &mut [u8],
 ) -> Result<Option<Own>, Refusal>
     ensures { Does own_says (add_own id msgno key dir generation idx s ct.now) result

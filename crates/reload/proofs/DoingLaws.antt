@@ -1,6 +1,7 @@
 -- The theorems about saving and loading and about the screen page: of every list of calls and loads from empty holdings.
 -- Assumes nothing.
-use Rattle.std.proofs.Common.{◌≡◌, ℕ, zero, suc, ◌^◌, ◌<◌, ◌≤◌, Bool, true, false, not, eqb, ltb, List, [], ◌∷◌, map, length, sym, refl, ap, ◌∙◌, arith, ltb-false, ltb-true, eqb-true}
+use Rattle.std.proofs.Common.{◌≡◌, ℕ, zero, suc, ◌^◌, ◌<◌, ◌≤◌, Bool, true, false, not, eqb, List, [], ◌∷◌, map, length, sym, refl, ap, ◌∙◌, arith, eqb-true}
+use Rattle.std.proofs.Math.Arith.{lt_of_le-ne}
 use lib.ListN.{length-map}
 use borrow.Author.Tests.{eqb-false, not-true}
 use Rattle.table.specs.Lists.{All, filter}
@@ -25,7 +26,7 @@ use Rattle.history.proofs.CellLaws.{length_split}
 use Rattle.history.proofs.LimitLaws.{known_kept}
 use Rattle.history.proofs.KeptLaws.{effect_at}
 use Rattle.history.proofs.LifeLaws.{size_run}
-use Rattle.load.specs.Reload.{ReadBack, Savable, Reloaded}
+use Rattle.load.specs.Reload.{Savable, Reloaded}
 use Rattle.load.proofs.OrderLaws.{sorted_with}
 use Rattle.load.proofs.SavedLaws.{sorted_map}
 use Rattle.load.proofs.FineLaws.{at_most_one}
@@ -34,7 +35,7 @@ use Rattle.load.proofs.RefusedLaws.{unread_refused}
 use Rattle.reload.specs.Doings.{Doing, call, load, ProperDoing, after_doing, run_doings}
 use Rattle.reload.specs.ScreenHistory.{ScreenHistory}
 use Rattle.reload.specs.SavedHistory.{Above0, SavedHistory}
-use Rattle.reload.proofs.LengthLaws.{Lengths, performed}
+use Rattle.reload.proofs.LengthLaws.{performed}
 use Rattle.reload.proofs.KeepLaws.{Keeps, Grows, keeps_empty, keeps_call, keeps_load}
 
 -- ---- a list of calls and loads
@@ -72,16 +73,9 @@ few_below (suc n) xs s a =
     let left : Sorted (λ (a b : ℕ). a ≡ b → ⊥) rest =
     became_sorted {G = λ (x : ℕ). Unit {0}} {S = λ (x y : ℕ). y ≡ x} (λ x y z u p q f e. f (sym p ∙ e ∙ q)) (became_filter (λ (x : ℕ). not (is x)) xs (λ x. refl) (λ x e. tt)) s in
     let below : All (λ (x : ℕ). x < n) rest =
-    all_imp (λ x h. less x h.0 (eqb-false x n (not-true (is x) h.1))) rest (all_both rest (all_filter (λ (x : ℕ). not (is x)) xs a) (filter_holds (λ (x : ℕ). not (is x)) xs)) in
+    all_imp (λ x h. lt_of_le-ne (omega (arith, h.0)) (eqb-false x n (not-true (is x) h.1))) rest (all_both rest (all_filter (λ (x : ℕ). not (is x)) xs a) (filter_holds (λ (x : ℕ). not (is x)) xs)) in
     let once = at_most_one is xs (sorted_with {W = λ (x : ℕ). x < suc n} (λ x y u v f i j. f (eqb-true x n i ∙ sym (eqb-true y n j))) xs a s) in
     omega (arith, length_split is xs, few_below n rest left below, once)
-  where
-    less : (x : ℕ) → x < suc n → (x ≡ n → ⊥) → x < n
-    less x h f = go (ltb x n) refl
-      where
-        go : (b : Bool) → ltb x n ≡ b → x < n
-        go true e = ltb-true x n e
-        go false e = absurd (f (omega (arith, h, ltb-false x n e)))
 
 -- a cell is named by at most one row, so there are no more rows than cells
 cells_enough : (carried : List Carried) (tombstones : List Tombstone) (n : ℕ) (cells : List ℕ) → HeldOrder carried tombstones n cells → length carried ≤ cell_count (length cells)
@@ -94,10 +88,6 @@ cells_enough carried tombstones n cells o =
     )
 
 -- ---- the theorem
-
-read_back : (rs : List Carried) → Lengths rs → All Above0 rs → All ReadBack rs
-read_back [] a b = lists.none
-read_back (r ∷ rs) (lists.more n a) (lists.more h b) = lists.more (record { len = n; copies = h.copies; expiry = h.expiry }) (read_back rs a b)
 
 module _ (p : Post) (k : Keeps p) where
   abbrev held : HeldOrder p.state.carried p.state.tombstones p.state.next_slot p.state.carried_cells
@@ -115,7 +105,7 @@ module _ (p : Post) (k : Keeps p) where
     fits = fits;
     tags_differ = k.kept.limits.tags_differ;
     quota = k.kept.limits.quota;
-    back = read_back p.state.carried k.lengths h;
+    back = all_imp (λ r b. record { len = b.0; copies = b.1.copies; expiry = b.1.expiry }) p.state.carried (all_both p.state.carried k.lengths h);
   }
 
   loads_at : (t : State) → cell_count (length p.state.carried_cells) ≤ cell_count (length t.carried_cells) → p.state.tombstone_rows ≤ t.tombstone_rows

@@ -42,8 +42,8 @@ performed ts o e = go (tested_as ts) refl
 
 valid_first : (on valid : Bool) (rest : Custody) → cond (not on) custody.Off (cond (not valid) custody.Invalid rest) ≡ custody.Accepted → valid ≡ true
 valid_first true true rest e = refl
-valid_first true false rest e = let z : ◌≡◌ {A = ℕ} 0 1 = cc in absurd (omega arith)
-valid_first false valid rest e = let z : ◌≡◌ {A = ℕ} 0 1 = cc in absurd (omega arith)
+valid_first true false rest e = absurd (cc)
+valid_first false valid rest e = absurd (cc)
 
 module _ (s : State) (replies actions : ℕ) (window : List ℕ) (peer : ContactId) (head : Header) (ct : List ℕ) where
   -- an envelope that gives a row was accepted
@@ -51,12 +51,12 @@ module _ (s : State) (replies actions : ℕ) (window : List ℕ) (peer : Contact
       → match_found f (λ (i : ℕ). ours_at (get_or (window_rows window) i no_reachable)) (answer_custody s peer head ct code) ≡ answer_custody s peer head ct custody.Accepted
       → code ≡ custody.Accepted
   unfolding ours_at answer_custody
-  accepted (Some i) code e = let z : ◌≡◌ {A = ℕ} 0 1 = ap (λ (o : Outcome). length o.actions) e in absurd (omega arith)
+  accepted (Some i) code e = absurd (omega (arith, ap (λ (o : Outcome). length o.actions) e))
   accepted None custody.Accepted e = refl
-  accepted None custody.Full e = let z : ◌≡◌ {A = ℕ} 0 1 = ap (λ (o : Outcome). length o.actions) e in absurd (omega arith)
-  accepted None custody.Duplicate e = let z : ◌≡◌ {A = ℕ} 0 1 = ap (λ (o : Outcome). length o.actions) e in absurd (omega arith)
-  accepted None custody.Off e = let z : ◌≡◌ {A = ℕ} 0 1 = ap (λ (o : Outcome). length o.actions) e in absurd (omega arith)
-  accepted None custody.Invalid e = let z : ◌≡◌ {A = ℕ} 0 1 = ap (λ (o : Outcome). length o.actions) e in absurd (omega arith)
+  accepted None custody.Full e = absurd (omega (arith, ap (λ (o : Outcome). length o.actions) e))
+  accepted None custody.Duplicate e = absurd (omega (arith, ap (λ (o : Outcome). length o.actions) e))
+  accepted None custody.Off e = absurd (omega (arith, ap (λ (o : Outcome). length o.actions) e))
+  accepted None custody.Invalid e = absurd (omega (arith, ap (λ (o : Outcome). length o.actions) e))
 
   given_length : step s (Calls.envelope replies actions window peer head ct) ≡ answer_custody s peer head ct custody.Accepted → carried_length (length ct) ≡ true
   unfolding step tests perform receive_envelope custody_of answer_custody

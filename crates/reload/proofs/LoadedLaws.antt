@@ -1,11 +1,12 @@
 -- What a file that number 8 does not refuse gives: rows that fit their fields, of known depositors, tags that differ, no more than 32 of one.
 -- Assumes nothing.
-use Rattle.std.proofs.Common.{◌≡◌, ℕ, suc, ◌+◌, ◌-◌, ◌^◌, ◌<◌, ◌≤◌, Bool, true, false, cond, ◌&&◌, eqb, ltb, leb, ◌⊎◌, List, [], ◌∷◌, length, get_or, take, drop, sym, refl, ap, ◌∙◌, subst, ap₂, inl, inr, zero-add, arith, length-drop, take-append-drop, drop-drop, ltb-false, eqb-true, Option, Some, None, Ok}
+use Rattle.std.proofs.Common.{◌≡◌, ℕ, suc, ◌+◌, ◌-◌, ◌^◌, ◌<◌, ◌≤◌, Bool, true, false, cond, ◌&&◌, eqb, ltb, leb, ◌⊎◌, List, [], ◌∷◌, length, get_or, take, drop, sym, refl, ap, ◌∙◌, subst, ap₂, inl, inr, zero-add, arith, length-drop, take-append-drop, ltb-false, eqb-true, Option, Some, None, Ok}
+use Rattle.std.proofs.lemmas.Bool.{cond_both}
 use mathlib.Core.Bool.{false≢true}
 use borrow.Author.Tests.{not-false}
 use Rattle.octets.specs.Bytes.{Bytes, part, num, be, same_bytes}
 use Rattle.octets.proofs.Compare.{same_refl}
-use Rattle.octets.proofs.Parts.{length_part, part_part}
+use Rattle.octets.proofs.Parts.{length_part}
 use Rattle.octets.proofs.Numbers.{bytes_drop, bytes_part, num_part_lt, be_num_part}
 use Rattle.courier_core.specs.declared.ContactId.{ContactId}
 use Rattle.table.specs.Lists.{All, count_by, position, unwrap_or, insert_at}
@@ -25,15 +26,16 @@ use Rattle.rows.specs.Proper.{ProperCarried, ProperTombstone}
 use Rattle.model.specs.Basics.{match_some, same_contact}
 use Rattle.model.specs.Contacts.{known}
 use Rattle.model.specs.Custody.{deposited}
-use Rattle.history.specs.Order.{Sorted, empty, next}
+use Rattle.history.specs.Order.{Sorted, empty}
+use Rattle.history.proofs.SortedLaws.{all_both}
 use Rattle.history.proofs.RowLaws.{TagsDiffer}
 use Rattle.load_tests.specs.Records.{records, depositor_in, tag_in, is_carried, is_tombstone, counted}
 use Rattle.load_tests.specs.Tests.{kind_tests, fails, unknown_depositor, tag_twice, many_of_one, next_in, carried_count, tombstone_count, load_tests, tested_as}
 use Rattle.load_tests.proofs.BlobLaws.{Decoded, decoded, kind_long}
 use Rattle.load.specs.Load.{insert_by, carried_slot, tombstone_slot, carried_row, tombstone_row, Rows, load_held, load_record, load_records, no_rows, loaded}
 use Rattle.load.proofs.LoadLaws.{some_kind, marked_carried, marked_tombstone, carried_alone, tombstone_alone}
-use Rattle.load.proofs.OrderLaws.{slot_of, Passed, fine_passed, Whole, records_whole, counted_apart, sorted_with, length_by, all_by, differ_by}
-use Rattle.load.proofs.FineLaws.{count_imp}
+use Rattle.load.proofs.OrderLaws.{slot_of, Passed, fine_passed, Whole, records_whole, head_of, rest_of, first_away, rest_away, counted_apart, sorted_with, length_by, all_by, differ_by}
+use Rattle.load.proofs.FineLaws.{tag_read, depositor_read, count_imp}
 
 -- ---- the ciphertext of a blob that is taken has a length that a courier carries
 
@@ -47,20 +49,11 @@ valid_in b = envelope_valid (length b - 46) (carried_of b).header.copies (carrie
 
 length_in : (b : List ℕ) → LengthIn (held_decode b)
 unfolding held_decode carried_in tombstone_in
-length_in b = by_kind (eqb (get_or b 0 0) 0) (eqb (get_or b 0 0) 1)
-  where
-    by_carried : (t : Bool) → (leb 46 (length b) && valid_in b) ≡ t → LengthIn (cond t (Some (held.carried (carried_of b) (drop 46 b))) None)
-    by_carried false e = tt
-    by_carried true e = ap carried_length (length-drop 46 b) ∙ (valid_parts _ _ _ _ (both (leb 46 (length b)) (valid_in b) e).1).0
-
-    by_tombstone : (t : Bool) → LengthIn (cond t (Some (held.tombstone (tombstone_of b))) None)
-    by_tombstone false = tt
-    by_tombstone true = tt
-
-    by_kind : (s t : Bool) → LengthIn (cond s (carried_in b) (cond t (tombstone_in b) None))
-    by_kind true t = by_carried (leb 46 (length b) && valid_in b) refl
-    by_kind false true = by_tombstone (eqb (length b) 37)
-    by_kind false false = tt
+length_in b =
+    cond_both (eqb (get_or b 0 0) 0) _ _ LengthIn
+    (λ k. cond_both (leb 46 (length b) && valid_in b) _ _ LengthIn
+    (λ e. ap carried_length (length-drop 46 b) ∙ (valid_parts _ _ _ _ (both (leb 46 (length b)) (valid_in b) e).1).0) (λ e. tt))
+    (λ k. cond_both (eqb (get_or b 0 0) 1) _ _ LengthIn (λ t. cond_both (eqb (length b) 37) _ _ LengthIn (λ e. tt) (λ e. tt)) (λ t. tt))
 
 -- ---- a record and its row
 
@@ -70,15 +63,6 @@ Taken b = Whole b × (fails kind_tests b ≡ false)
 module _ (b : List ℕ) where
   abbrev blob : List ℕ
   blob = drop 12 b
-
-  -- its tag and its depositor
-  tag_read : (carried_of blob).header.tag ≡ tag_in b
-  unfolding carried_of header_of part
-  tag_read = part_part blob 9 37 0 16 (omega arith) ∙ ap (λ (l : List ℕ). take 16 l) (drop-drop 9 12 b)
-
-  depositor_read : (carried_of blob).depositor.0 ≡ num (depositor_in b)
-  unfolding carried_of part
-  depositor_read = ap (λ (l : List ℕ). num (take 8 l)) (drop-drop 1 12 b)
 
   module _ (w : Taken b) where
     long : 49 ≤ length b
@@ -132,8 +116,7 @@ module _ (b : List ℕ) where
 -- ---- what the tests leave of the tags and depositors of a file
 
 and_off : (x y : Bool) → x ≡ true → (x && y) ≡ false → y ≡ false
-and_off true y e f = f
-and_off false y e f = absurd (false≢true e)
+and_off x y e f = ap (λ (t : Bool). t && y) (sym e) ∙ f
 
 abbrev TagsApart : List ℕ → List ℕ → Type 0
 TagsApart a b = is_carried a ≡ true → is_carried b ≡ true → tag_in a ≡ tag_in b → ⊥
@@ -154,15 +137,15 @@ from_one id b = is_carried b && eqb (num (depositor_in b)) id.0
 bounded : {A : Type 0} (p : A → Bool) (n : ℕ) (xs ys : List A) → All (λ (y : A). p y ≡ true → count_by p xs ≤ n) ys → (count_by p ys ≡ 0) ⊎ (count_by p xs ≤ n)
 unfolding count_by
 bounded p n xs [] a = inl refl
-bounded p n xs (y ∷ ys) (lists.more f a) = go (p y) refl (bounded p n xs ys a)
-  where
-    go : (t : Bool) → p y ≡ t → (count_by p ys ≡ 0) ⊎ (count_by p xs ≤ n) → (cond t (suc (count_by p ys)) (count_by p ys) ≡ 0) ⊎ (count_by p xs ≤ n)
-    go true e r = inr (f e)
-    go false e r = r
+bounded p n xs (y ∷ ys) (lists.more f a) =
+    cond_both (p y) _ _ (λ (m : ℕ). (m ≡ 0) ⊎ (count_by p xs ≤ n)) (λ e. inr (f e)) (λ e. bounded p n xs ys a)
 
 few_of_one : (rs : List (List ℕ)) → All Taken rs → All (λ (b : List ℕ). many_of_one rs b ≡ false) rs → (id : ContactId) → count_by (from_one id) rs ≤ 32
 unfolding many_of_one
-few_of_one rs w t id = done (bounded (from_one id) 32 rs rs (each rs w t))
+few_of_one rs w t id =
+    done (bounded (from_one id) 32 rs rs (all_imp (λ b k f.
+    let g = both (is_carried b) (eqb (num (depositor_in b)) id.0) f in
+    one b k.0 (and_off (is_carried b) _ g.0 k.1) (eqb-true (num (depositor_in b)) id.0 g.1)) rs (all_both rs w t)))
   where
     done : (count_by (from_one id) rs ≡ 0) ⊎ (count_by (from_one id) rs ≤ 32) → count_by (from_one id) rs ≤ 32
     done (inl e) = omega (arith, e)
@@ -177,14 +160,6 @@ few_of_one rs w t id = done (bounded (from_one id) 32 rs rs (each rs w t))
               let g = both (is_carried c) (eqb (num (depositor_in c)) id.0) f in
               same_number b c v g.0 13 8 (omega arith) u (q ∙ sym (eqb-true (num (depositor_in c)) id.0 g.1))) rs w),
         )
-
-    each : (bs : List (List ℕ)) → All Taken bs → All (λ (b : List ℕ). (is_carried b && ltb 32 (count_by (counted true 13 (depositor_in b)) rs)) ≡ false) bs
-        → All (λ (b : List ℕ). from_one id b ≡ true → count_by (from_one id) rs ≤ 32) bs
-    each [] v u = lists.none
-    each (b ∷ bs) (lists.more v vs) (lists.more u us) =
-        lists.more (λ f.
-        let g = both (is_carried b) (eqb (num (depositor_in b)) id.0) f in
-        one b v (and_off (is_carried b) _ g.0 u) (eqb-true (num (depositor_in b)) id.0 g.1)) (each bs vs us)
 
 -- ---- the rows so far
 
@@ -227,18 +202,6 @@ module _ {A : Type 0} (p : A → Bool) where
       )
 
 module _ (cs : List Contact) (nc nt : ℕ) (few : nc ≤ 256) (l : Rows) (b : List ℕ) (rs : List (List ℕ)) (L : Loaded cs nc nt l (b ∷ rs)) where
-  head_of : {P : List ℕ → Type 0} → All P (b ∷ rs) → P b
-  head_of (lists.more p a) = p
-
-  rest_of : {P : List ℕ → Type 0} → All P (b ∷ rs) → All P rs
-  rest_of (lists.more p a) = a
-
-  first_apart : {R : List ℕ → List ℕ → Type 0} → Sorted R (b ∷ rs) → All (R b) rs
-  first_apart (next a s) = a
-
-  rest_apart : {R : List ℕ → List ℕ → Type 0} → Sorted R (b ∷ rs) → Sorted R rs
-  rest_apart (next a s) = s
-
   module _ (ct : List ℕ) (m : is_carried b ≡ true) (v : carried_length (length ct) ≡ true) (h : 46 ≤ length (drop 12 b)) where
     abbrev new : Carried
     new = carried_row (slot_of b) (length ct) (length l.carried) (carried_of (drop 12 b))
@@ -273,12 +236,6 @@ module _ (cs : List Contact) (nc nt : ℕ) (few : nc ≤ 256) (l : Rows) (b : Li
             by true p q = omega (arith, p, q, L.quota id)
             by false p q = omega (arith, p, q, L.quota id)
 
-    tags_new_lem : (ds : List (List ℕ)) → All (TagsApart b) ds → All (λ (d : List ℕ). is_carried d ≡ true → All (λ (r : Carried). r.tag ≡ tag_in d → ⊥) l.carried) ds
-        → All (λ (d : List ℕ). is_carried d ≡ true → All (λ (r : Carried). r.tag ≡ tag_in d → ⊥) (insert_by carried_slot new l.carried)) ds
-    tags_new_lem [] x y = lists.none
-    tags_new_lem (d ∷ ds) (lists.more f x) (lists.more g y) =
-        lists.more (λ q. all_by carried_slot new l.carried (λ e. f m q (sym (tag_read b) ∙ e)) (g q)) (tags_new_lem ds x y)
-
     carried_next : Loaded cs nc nt (load_held l (slot_of b) (held.carried (carried_of (drop 12 b)) ct)) rs
     unfolding load_held
     carried_next = record {
@@ -289,8 +246,9 @@ module _ (cs : List Contact) (nc nt : ℕ) (few : nc ≤ 256) (l : Rows) (b : Li
       tags = differ_by carried_slot (λ (x y : Carried). x.tag ≡ y.tag → ⊥) new l.carried
           (all_imp (λ r f e. f (e ∙ tag_read b)) l.carried (head_of L.tags_new m))
           (all_imp (λ r f e. f (sym e ∙ tag_read b)) l.carried (head_of L.tags_new m)) L.tags;
-      tags_new = tags_new_lem rs (first_apart L.tags_left) (rest_of L.tags_new);
-      tags_left = rest_apart L.tags_left;
+      tags_new = all_imp (λ d k q. all_by carried_slot new l.carried (λ e. k.0 m q (sym (tag_read b) ∙ e)) (k.1 q)) rs
+          (all_both rs (first_away L.tags_left) (rest_of L.tags_new));
+      tags_left = rest_away L.tags_left;
       quota = quota_next;
       taken = rest_of L.taken;
       depositors = rest_of L.depositors;
@@ -308,7 +266,7 @@ module _ (cs : List Contact) (nc nt : ℕ) (few : nc ≤ 256) (l : Rows) (b : Li
         tombstone_count = omega (arith, L.tombstone_count, count_one is_tombstone b rs true m, length_by tombstone_slot new l.tombstones);
         tags = L.tags;
         tags_new = rest_of L.tags_new;
-        tags_left = rest_apart L.tags_left;
+        tags_left = rest_away L.tags_left;
         quota = λ id. omega (arith, L.quota id, count_one (from_one id) b rs false (ap (λ (x : Bool). x && eqb (num (depositor_in b)) id.0) other));
         taken = rest_of L.taken;
         depositors = rest_of L.depositors;
@@ -341,17 +299,13 @@ loaded_all cs nc nt few l (b ∷ rs) L = loaded_all cs nc nt few (load_record l 
 
 -- ---- a file that is fine
 
-taken_all : (limit : ℕ) (cs : List Contact) (all rs : List (List ℕ)) → All Whole rs → All (Passed limit cs all) rs → All Taken rs
-taken_all limit cs all [] w p = lists.none
-taken_all limit cs all (b ∷ rs) (lists.more v w) (lists.more q p) = lists.more (v, q.kinds) (taken_all limit cs all rs w p)
-
 pub loaded_fine : (cs : List Contact) (cells : List ℕ) (room : ℕ) (file : List ℕ) → Bytes file → carried_count file ≤ 256 → Ok tt ≡ tested_as (load_tests cs (length cells) room file)
     → Loaded cs (carried_count file) (tombstone_count file) (loaded cells file) []
 unfolding loaded deposited count_by unknown_depositor
 loaded_fine cs cells room file w few e =
     let rs : List (List ℕ) = records file in
     let p : All (Passed (next_in file) cs rs) rs = fine_passed cs cells room file e in
-    let v : All Taken rs = taken_all (next_in file) cs rs rs (records_whole file w) p in
+    let v : All Taken rs = all_imp (λ b k. (k.0, k.1.kinds)) rs (all_both rs (records_whole file w) p) in
     loaded_all cs (carried_count file) (tombstone_count file) few (no_rows cells) rs (record {
       fair = lists.none;
       proper = lists.none;

@@ -1,24 +1,26 @@
 // Makes the calls of a sample of the oracle's answers again, on a post of its own, and compares every answer with the sample's.
 #![tactic(auto)]
 
+ghost use Rattle.std.specs.Iterator.{IsFinite};
+
+use courier::{Custody, Header};
+use host_answers::{DONE, MALFORMED, MISSING, NO_ENVELOPE, OURS};
 use replay_calls::{Post, front};
 use replay_compare::{Difference, compare};
-use replay_log::{Entry, KINDS, List, Record, Walk};
+use replay_log::{Entry, KINDS, LAST_REFUSAL, List, Record, Walk};
+use rows::{Action, Reply, Row};
+use std::fmt;
 use std::io::Result;
 
 const STDIN: i32 = 0;
 
 // ---- what was reached, counted
 
-// How often each byte was there.
-#[derive(Drop)]
+// How often each byte was there. (Not a map: no program of this repository has a heap.)
+#[derive(Default, Drop)]
 struct Counts([u64; 256]);
 
 impl Counts {
-    fn none() -> Counts {
-        Counts([0; 256])
-    }
-
     fn add(&mut self, byte: u8) {
         let i = usize::from(byte);
         self.0[i] = self.0[i].saturating_add(1);
@@ -30,7 +32,7 @@ impl Counts {
 }
 
 // Calls by the byte of their kind, what they said by its number, replies and actions by their kinds, and custody codes.
-#[derive(Drop)]
+#[derive(Default, Drop)]
 struct Tally {
     calls: Counts,
     said: Counts,
@@ -39,33 +41,22 @@ struct Tally {
     actions: Counts,
 }
 
-// The kind of a reply that has a custody code, and where that stands.
-const CUSTODY: u8 = 2;
-
-const CODE: usize = 19;
+// Where the code stands in a custody reply's body: behind the tag. (As in an envelope's the commitment does: the number stands once, in `Header`.)
+const CODE: usize = Header::C;
 
 impl Tally {
-    fn none() -> Tally {
-        Tally {
-            calls: Counts::none(),
-            said: Counts::none(),
-            replies: Counts::none(),
-            codes: Counts::none(),
-            actions: Counts::none(),
-        }
-    }
-
     fn count(&mut self, r: &Record) {
         self.calls.add(r.kind.byte());
         self.said.add(r.said());
         for row in r.replies {
-            self.replies.add(row[0]);
-            if row[0] == CUSTODY {
-                self.codes.add(row[CODE]);
+            let reply = Reply::read(row, 0);
+            self.replies.add(reply.kind);
+            if reply.kind == Reply::CUSTODY {
+                self.codes.add(reply.body[CODE]);
             }
         }
         for row in r.actions {
-            self.actions.add(row[0]);
+            self.actions.add(Action::read(row, 0).kind);
         }
     }
 }
@@ -73,7 +64,7 @@ impl Tally {
 // ---- the post, call by call
 
 // Where the program stands: the list, how many calls of it were made and are left, and how many of them and of all calls differ.
-#[derive(Clone, Copy)]
+#[derive(Clone, Copy, Default)]
 struct State {
     list: usize,
     calls: usize,
@@ -83,16 +74,6 @@ struct State {
 }
 
 impl State {
-    fn start() -> State {
-        State {
-            list: 0,
-            calls: 0,
-            left: 0,
-            differ: 0,
-            all: 0,
-        }
-    }
-
     fn begin(&mut self, list: List) {
         self.list = self.list.saturating_add(1);
         self.calls = 0;
@@ -134,7 +115,7 @@ fn make_call(rt: &(impl Print + Eprint), s: &mut State, p: &mut Post, r: &Record
 // Makes all calls of a sample of right shape, and says how many differ.
 fn replay(rt: &(impl Print + Eprint), sample: &[u8], tally: &mut Tally) -> Result<usize> {
     let mut post = Post::fresh();
-    let mut s = State::start();
+    let mut s = State::default();
     for (_, entry) in replay_log::entries_of(sample) {
         match entry {
             Entry::List(list) => {
@@ -153,66 +134,91 @@ fn replay(rt: &(impl Print + Eprint), sample: &[u8], tally: &mut Tally) -> Resul
 
 // ---- the totals
 
-// One line: each name with the count of its byte.
-fn line(rt: &impl Print, title: &str, counts: &Counts, names: &[(u8, &str)]) -> Result<()> {
+// One line: each name, and its count. (A flag for the first: `enumerate` asks that the counts are fewer than 2^64, which this function would ask of its
+// callers in turn; and a text kept for what stands before a name asks for an invariant that it is text.)
+fn line<N: fmt::Display + Drop, I: Iterator<Item = (u64, N)>>(
+    rt: &impl Print,
+    title: &str,
+    counts: I,
+) -> Result<()>
+    requires { I.can_next counts × IsFinite (I.remaining counts) }
+{
     print!(rt; "{title}:")?;
-    for (i, (byte, name)) in names.iter().enumerate() {
-        let comma = if i == 0 { "" } else { "," };
-        print!(rt; "{comma} {name} {}", counts.of(*byte))?;
+    let mut first = true;
+    for (count, name) in counts {
+        let comma = if first { "" } else { "," };
+        print!(rt; "{comma} {name} {count}")?;
+        first = false;
     }
     println!(rt)
 }
 
-fn calls_line(rt: &impl Print, calls: &Counts) -> Result<()> {
-    print!(rt; "calls:")?;
-    for (i, kind) in KINDS.iter().enumerate() {
-        let comma = if i == 0 { "" } else { "," };
-        print!(rt; "{comma} {kind} {}", calls.of(kind.byte()))?;
+// A refusal, as its line names it.
+#[derive(Drop)]
+struct Refused(u8);
+
+impl fmt::Display for Refused {
+    fn fmt<W: fmt::Write>(&self, f: &mut fmt::Formatter<W>) -> fmt::Result {
+        write!(f, "number {}", self.0)
     }
-    println!(rt)
 }
 
-fn refused_line(rt: &impl Print, said: &Counts) -> Result<()> {
-    print!(rt; "refused:")?;
-    for n in 1..=replay_log::LAST_REFUSAL {
-        let comma = if n == 1 { "" } else { "," };
-        print!(rt; "{comma} number {n} {}", said.of(n))?;
-    }
-    println!(rt)
-}
-
+// (A name beside each number or code, here and below: a `Display` would need a type of one field for each table, with a match as long as the table. `Said` of
+// replay_log is no such type: its `Ours` has a key.)
 const SAID: [(u8, &str); 5] = [
-    (replay_log::DONE, "done"),
-    (replay_log::MALFORMED, "malformed"),
-    (replay_log::OURS, "ours"),
-    (replay_log::MISSING, "missing"),
-    (replay_log::NO_ENVELOPE, "no envelope"),
+    (DONE, "done"),
+    (MALFORMED, "malformed"),
+    (OURS, "ours"),
+    (MISSING, "missing"),
+    (NO_ENVELOPE, "no envelope"),
 ];
 
 const REPLIES: [(u8, &str); 4] = [
-    (0, "fetch"),
-    (1, "envelope"),
-    (CUSTODY, "custody"),
-    (3, "tomb"),
+    (Reply::FETCH, "fetch"),
+    (Reply::ENVELOPE, "envelope"),
+    (Reply::CUSTODY, "custody"),
+    (Reply::TOMB, "tomb"),
 ];
 
-const CODES: [(u8, &str); 5] = [
-    (0, "accepted"),
-    (1, "full"),
-    (2, "duplicate"),
-    (3, "off"),
-    (4, "invalid"),
+const CODES: [(Custody, &str); 5] = [
+    (Custody::Accepted, "accepted"),
+    (Custody::Full, "full"),
+    (Custody::Duplicate, "duplicate"),
+    (Custody::Off, "off"),
+    (Custody::Invalid, "invalid"),
 ];
 
-const ACTIONS: [(u8, &str); 3] = [(0, "put"), (1, "delete"), (2, "own put")];
+const ACTIONS: [(u8, &str); 3] = [
+    (Action::PUT, "put"),
+    (Action::DELETE, "delete"),
+    (Action::PUT_QUEUED, "own put"),
+];
+
+// One line of bytes that have names.
+fn named_line(
+    rt: &impl Print,
+    title: &str,
+    counts: &Counts,
+    names: &[(u8, &'static str)],
+) -> Result<()> {
+    let named = names.iter().map(|(byte, name)| (counts.of(*byte), *name));
+    line(rt, title, named)
+}
 
 fn totals(rt: &impl Print, w: Walk, differ: usize, tally: &Tally) -> Result<()> {
-    calls_line(rt, &tally.calls)?;
-    refused_line(rt, &tally.said)?;
-    line(rt, "said", &tally.said, &SAID)?;
-    line(rt, "replies", &tally.replies, &REPLIES)?;
-    line(rt, "custody", &tally.codes, &CODES)?;
-    line(rt, "actions", &tally.actions, &ACTIONS)?;
+    let calls = KINDS
+        .iter()
+        .map(|kind| (tally.calls.of(kind.byte()), *kind));
+    line(rt, "calls", calls)?;
+    let refused = (1..=LAST_REFUSAL).map(|n| (tally.said.of(n), Refused(n)));
+    line(rt, "refused", refused)?;
+    named_line(rt, "said", &tally.said, &SAID)?;
+    named_line(rt, "replies", &tally.replies, &REPLIES)?;
+    let codes = CODES
+        .iter()
+        .map(|(custody, name)| (tally.codes.of(custody.code()), *name));
+    line(rt, "custody", codes)?;
+    named_line(rt, "actions", &tally.actions, &ACTIONS)?;
     println!(rt; "{} lists, {} calls, {differ} differ", w.lists, w.calls)
 }
 
@@ -222,7 +228,7 @@ fn totals(rt: &impl Print, w: Walk, differ: usize, tally: &Tally) -> Result<()> 
 fn run(rt: &(impl Print + Eprint), sample: &[u8]) -> Result<()> {
     match replay_log::walked(sample) {
         Ok(w) => {
-            let mut tally = Tally::none();
+            let mut tally = Tally::default();
             let differ = replay(rt, sample, &mut tally)?;
             totals(rt, w, differ, &tally)
         }

@@ -3,14 +3,17 @@
 #![tactic(auto)]
 
 use courier_core::Refusal;
-use replay_log::{Key, List, Record, Said};
-use rows::{BAD_TAG_WIDTH, Device, Exchange, OWN_WIDTH, Own, Row, TOMBSTONE_WIDTH};
+use replay_log::{EXCHANGES, Key, List, MAX_BAD_TAGS, MAX_TOMBSTONES, Record, Said};
+use rows::{
+    BAD_TAG_WIDTH, CARRIED_AREA, CONTACT_AREA, Device, Exchange, MAX_CELLS, OWN_AREA, Own,
+    PREFIX_WIDTH, Reply, Row, TOMBSTONE_WIDTH,
+};
 
 // ---- the areas of a post
 
 // How many first bytes of four areas are lent: as many as a list's post has. They stand beside the areas, and not with each in a struct: of one
 // that holds half a million bytes an unoptimized build keeps copies, and the program ran out of stack. It has no heap.
-#[derive(Clone, Copy)]
+#[derive(Clone, Copy, Default)]
 pub struct Lent {
     pub tombstones: usize,
     pub bad_tags: usize,
@@ -18,15 +21,8 @@ pub struct Lent {
     pub cells: usize,
 }
 
-const NOTHING: Lent = Lent {
-    tombstones: 0,
-    bad_tags: 0,
-    own_cells: 0,
-    cells: 0,
-};
-
-// The first n bytes of an area, or all where there are fewer.
-pub fn front(area: &[u8], n: usize) -> &[u8] {
+// The first n bytes or rows, or all where there are fewer. (Two functions, as std has `get` and `get_mut`.)
+pub fn front<T>(area: &[T], n: usize) -> &[T] {
     &area[..n.min(area.len())]
 }
 
@@ -35,56 +31,74 @@ pub fn front_mut(area: &mut [u8], n: usize) -> &mut [u8] {
     &mut area[..n]
 }
 
-// An exchange, with prefixes and offers of its own: as long as each call says.
+// The bytes of the tables of a list's size, and of its cells.
+const TOMBSTONE_AREA: usize = MAX_TOMBSTONES * TOMBSTONE_WIDTH;
+
+const BAD_TAG_AREA: usize = MAX_BAD_TAGS * BAD_TAG_WIDTH;
+
+const CELL_AREA: usize = MAX_CELLS * state::CELL;
+
+// The most bytes of the other areas: each call says how many it lends, and some lend more than the library asks for.
+const MOST_PREFIXES: usize = 4_200;
+
+const MOST_OFFERS: usize = 8_900;
+
+const MOST_REPLIES: usize = 600_000;
+
+const MOST_ACTIONS: usize = 22_000;
+
+// An exchange, with prefixes and offers of its own.
 #[derive(Clone, Copy)]
 pub struct Session {
     exchange: Exchange,
-    prefixes: [u8; 4200],
-    offers: [u8; 8900],
+    prefixes: [u8; MOST_PREFIXES],
+    offers: [u8; MOST_OFFERS],
 }
 
 impl Session {
     fn closed() -> Session {
         Session {
             exchange: Exchange::closed(),
-            prefixes: [0; 4200],
-            offers: [0; 8900],
+            prefixes: [0; MOST_PREFIXES],
+            offers: [0; MOST_OFFERS],
         }
     }
 }
 
-// A post of any list: areas of the greatest sizes, and three exchanges. The replies and actions are as long as each call says.
+// A post of any list: areas of the greatest sizes, and the exchanges.
+// (The drill's, courier_post's and screen_page's posts have areas of other sizes, which their calls or their contracts name, and no exchanges or one.
+// One struct for all would have a parameter for each size.)
 #[derive(Drop)]
 pub struct Post {
     pub device: Device,
     pub lent: Lent,
-    sessions: [Session; 3],
-    pub contacts: [u8; 2304],
-    pub own: [u8; 13824],
-    pub carried: [u8; 14592],
-    pub tombstones: [u8; 48400],
-    pub bad_tags: [u8; 240],
-    pub own_cells: [u8; 528384],
-    pub cells: [u8; 528384],
-    pub replies: [u8; 600000],
-    pub actions: [u8; 22000],
+    sessions: [Session; EXCHANGES],
+    pub contacts: [u8; CONTACT_AREA],
+    pub own: [u8; OWN_AREA],
+    pub carried: [u8; CARRIED_AREA],
+    pub tombstones: [u8; TOMBSTONE_AREA],
+    pub bad_tags: [u8; BAD_TAG_AREA],
+    pub own_cells: [u8; CELL_AREA],
+    pub cells: [u8; CELL_AREA],
+    pub replies: [u8; MOST_REPLIES],
+    pub actions: [u8; MOST_ACTIONS],
 }
 
 impl Post {
     pub fn fresh() -> Post {
         Post {
             device: Device::fresh(),
-            lent: NOTHING,
-            sessions: [Session::closed(); 3],
-            contacts: [0; 2304],
-            own: [0; 13824],
-            carried: [0; 14592],
-            tombstones: [0; 48400],
-            bad_tags: [0; 240],
-            own_cells: [0; 528384],
-            cells: [0; 528384],
-            replies: [0; 600000],
-            actions: [0; 22000],
+            lent: Lent::default(),
+            sessions: [Session::closed(); EXCHANGES],
+            contacts: [0; CONTACT_AREA],
+            own: [0; OWN_AREA],
+            carried: [0; CARRIED_AREA],
+            tombstones: [0; TOMBSTONE_AREA],
+            bad_tags: [0; BAD_TAG_AREA],
+            own_cells: [0; CELL_AREA],
+            cells: [0; CELL_AREA],
+            replies: [0; MOST_REPLIES],
+            actions: [0; MOST_ACTIONS],
         }
     }
 
@@ -106,7 +120,8 @@ impl Post {
 // ---- answers
 
 // What a call said that was not refused, how many replies, actions and bytes it wrote, and for how many rows an inventory's end searched the
-// tombstones.
+// tombstones. (Not host_answers' `Answer`, which is numbers for C: here a refusal is an `Err`, what is said an enum, and a length counts bytes in every
+// call.)
 #[derive(Clone, Copy)]
 pub struct Answer {
     pub said: Said,
@@ -168,7 +183,7 @@ pub fn call_clock(p: &mut Post, r: &Record) -> Answer {
 
 pub fn call_fresh_exchange(p: &mut Post, r: &Record) -> Result<Answer, Refusal> {
     let session = &mut p.sessions[r.exchange()];
-    exchange::fresh_exchange(
+    contacts::fresh_exchange(
         &mut session.exchange,
         p.device,
         r.peer(),
@@ -209,10 +224,12 @@ pub fn call_envelope(p: &mut Post, r: &Record) -> Result<Answer, Refusal> {
     }
 }
 
-// What a fetch of so many bytes' ciphertext says: the record has the length in the place of the one reply's cell, and the bytes.
+// What a fetch says that found a ciphertext: the record has the length in the place of the one reply's cell, and the bytes.
 fn fetched(r: &Record, ct: &[u8]) -> Said {
     match r.replies.first() {
-        Some(reply) if ct == front(r.expected, octets::get_u16(reply, 1) as usize) => Said::Done,
+        Some(reply) if ct == front(r.expected, usize::from(Reply::read(reply, 0).cell)) => {
+            Said::Done
+        }
         _ => Said::OtherCiphertext,
     }
 }
@@ -238,7 +255,8 @@ pub fn call_fetch(p: &mut Post, r: &Record) -> Result<Answer, Refusal> {
     }
 }
 
-// What is written one run behind the other in front of an area, as far as there is room.
+// What is written one run behind the other at the front of an area, as far as there is room. (Not std's `Cursor`: each run's result would be passed on
+// through every caller, and no run has too little room here.)
 #[derive(Drop)]
 pub struct Writer<'a> {
     area: &'a mut [u8],
@@ -269,7 +287,7 @@ impl<'a> Writer<'a> {
 fn put_own(row: Own, cells: &[u8], area: &mut [u8]) -> usize {
     let bytes = row.bytes();
     let mut writer = Writer::new(area);
-    writer.put(front(&bytes, OWN_WIDTH - 2));
+    writer.put(front(&bytes, Own::CELL));
     writer.put(fetch::cell_part(cells, row.cell, row.len));
     writer.end()
 }
@@ -303,7 +321,7 @@ pub fn call_own_envelope(p: &mut Post, r: &Record) -> Result<Answer, Refusal> {
 
 pub fn call_inventory(p: &mut Post, r: &Record) -> Result<Answer, Refusal> {
     let session = &mut p.sessions[r.exchange()];
-    let said = exchange::receive_inventory(
+    let said = inventory::receive_inventory(
         &mut session.exchange,
         p.device,
         r.peer(),
@@ -330,7 +348,7 @@ pub fn call_inventory(p: &mut Post, r: &Record) -> Result<Answer, Refusal> {
 
 pub fn call_custody_code(p: &mut Post, r: &Record) -> Result<Answer, Refusal> {
     let session = &mut p.sessions[r.exchange()];
-    let actions = exchange::handed_over(
+    let actions = handover::handed_over(
         &mut session.exchange,
         &mut p.device,
         r.peer(),
@@ -347,7 +365,7 @@ pub fn call_custody_code(p: &mut Post, r: &Record) -> Result<Answer, Refusal> {
     Ok(Answer::listed(actions))
 }
 
-// The listed prefixes, eight bytes each, go into the answer area.
+// The listed prefixes go to the front of `replies`: these calls list no reply.
 pub fn call_inventory_of_ours(p: &mut Post, r: &Record) -> Result<Answer, Refusal> {
     let count = inventory::inventory(
         p.device,
@@ -357,5 +375,5 @@ pub fn call_inventory_of_ours(p: &mut Post, r: &Record) -> Result<Answer, Refusa
         &p.carried,
         front_mut(&mut p.replies, r.answer_area()),
     )?;
-    Ok(Answer::wrote(count.saturating_mul(8)))
+    Ok(Answer::wrote(count.saturating_mul(PREFIX_WIDTH)))
 }

@@ -2,16 +2,12 @@
 // of its row, and what the call wrote or read.
 #![tactic(auto)]
 
+use answers::FIRST_CARRIED;
 use courier_core::Refusal;
 use replay_calls::{Answer, Post, front};
 use replay_log::{PUT_WIDTH, Record};
 use rows::{ACTION_WIDTH, Action, CARRIED_WIDTH, Carried, OWN_WIDTH, Own, REPLY_WIDTH, Reply, Row};
 use std::fmt;
-
-// The kind of a reply that has an envelope, and of an action that puts a held row.
-const ENVELOPE: u8 = 1;
-
-const PUT: u8 = 0;
 
 // What differs. Replies and actions are told by their place, from 0 on.
 #[derive(Clone, Copy)]
@@ -42,71 +38,66 @@ fn same_answer(r: &Record, answer: Result<Answer, Refusal>) -> bool {
     let a = answer.unwrap_or(Answer::done());
     let number = match answer {
         Ok(a) => a.said.number(),
-        Err(why) => why.number(),
+        Err(why) => Some(why.number()),
     };
-    r.said() == number
+    Some(r.said()) == number
         && r.said_key() == a.said.key()
         && r.replies.len() == a.replies
         && r.actions.len() == a.actions
         && r.searched() == a.searched
 }
 
-// The first n rows, or all where there are fewer.
-fn first<T>(rows: &[T], n: usize) -> &[T] {
-    &rows[..n.min(rows.len())]
-}
-
 // The ciphertext of an own row's cell; none where no row names it.
 fn own_sent(p: &Post, cell: u16) -> &[u8] {
     let rows: &[[u8; OWN_WIDTH]] = p.own.as_chunks().0;
-    for bytes in first(rows, p.device.own) {
-        let row = Own::read(bytes, 0);
-        if row.cell == cell {
-            return fetch::cell_part(front(&p.own_cells, p.lent.own_cells), cell, row.len);
-        }
+    let row = front(rows, p.device.own)
+        .iter()
+        .map(|bytes| Own::read(bytes, 0))
+        .find(|row| row.cell == cell);
+    match row {
+        Some(row) => fetch::cell_part(front(&p.own_cells, p.lent.own_cells), cell, row.len),
+        None => b"",
     }
-    b""
 }
 
-// The same, of a carried row. (Two functions: rows by the trait have bytes alone, and a cell and a length would be a trait more, with two impls.)
+// The same, of a carried row. (Two functions: the trait `Row` has no method for a cell. One function would take the rows, the cells and a closure that
+// gives a row's cell and length: no shorter at its two calls.)
 fn carried_sent(p: &Post, cell: u16) -> &[u8] {
     let rows: &[[u8; CARRIED_WIDTH]] = p.carried.as_chunks().0;
-    for bytes in first(rows, p.device.carried) {
-        let row = Carried::read(bytes, 0);
-        if row.cell == cell {
-            return fetch::cell_part(front(&p.cells, p.lent.cells), cell, row.len);
-        }
+    let row = front(rows, p.device.carried)
+        .iter()
+        .map(|bytes| Carried::read(bytes, 0))
+        .find(|row| row.cell == cell);
+    match row {
+        Some(row) => fetch::cell_part(front(&p.cells, p.lent.cells), cell, row.len),
+        None => b"",
     }
-    b""
 }
 
-// The ciphertext of a reply's cell: own from 0, carried from 256.
+// The ciphertext of a reply's cell.
 fn sent(p: &Post, cell: u16) -> &[u8] {
-    if cell < 256 {
-        own_sent(p, cell)
-    } else {
-        carried_sent(p, cell - 256)
+    match cell.checked_sub(FIRST_CARRIED) {
+        None => own_sent(p, cell),
+        Some(cell) => carried_sent(p, cell),
     }
 }
 
 // Compares the reply at i, and takes its ciphertext off the front of the expected bytes. An envelope's cell is not compared: the record has
 // the length of the ciphertext in its place.
-fn see_reply<'r>(
+fn compare_reply<'r>(
     expected: &'r [u8],
     i: usize,
     ours: Reply,
     theirs: Reply,
     p: &Post,
 ) -> Result<&'r [u8], Difference> {
-    if ours.kind != theirs.kind || ours.body != theirs.body {
+    let has_envelope = ours.kind == Reply::ENVELOPE;
+    let same_cell = has_envelope || ours.cell == theirs.cell;
+    if ours.kind != theirs.kind || ours.body != theirs.body || !same_cell {
         return Err(Difference::Reply(i));
     }
-    if ours.kind != ENVELOPE {
-        return if ours.cell == theirs.cell {
-            Ok(expected)
-        } else {
-            Err(Difference::Reply(i))
-        };
+    if !has_envelope {
+        return Ok(expected);
     }
     let sent = sent(p, ours.cell);
     if sent.len() != usize::from(theirs.cell) {
@@ -115,7 +106,7 @@ fn see_reply<'r>(
     expected.strip_prefix(sent).ok_or(Difference::Ciphertext(i))
 }
 
-// The blob of a row that was put; of no bytes where no row has the slot.
+// Is the blob of the row that was put theirs? It has no bytes where no row has the slot.
 fn same_put(p: &Post, slot: u64, theirs: &[u8]) -> bool {
     let mut blob = [0u8; state::BLOB];
     match saved::row_blob(
@@ -132,8 +123,9 @@ fn same_put(p: &Post, slot: u64, theirs: &[u8]) -> bool {
     }
 }
 
-// The same, of the action at i. A record's action has two bytes more, the length of the blob.
-fn see_action<'r>(
+// Compares the action at i, and takes the blob of the row that it put off the front of the expected bytes. A record's action has two bytes more,
+// the length of the blob.
+fn compare_action<'r>(
     expected: &'r [u8],
     i: usize,
     ours: &[u8; ACTION_WIDTH],
@@ -144,7 +136,7 @@ fn see_action<'r>(
         return Err(Difference::Action(i));
     }
     let action = Action::read(ours, 0);
-    if action.kind != PUT {
+    if action.kind != Action::PUT {
         return Ok(expected);
     }
     let n = usize::from(octets::get_u16(theirs, ACTION_WIDTH));
@@ -162,11 +154,11 @@ pub fn compare(answer: Result<Answer, Refusal>, p: &Post, r: &Record) -> Result<
     let mut expected = r.expected;
     let replies: &[[u8; REPLY_WIDTH]] = p.replies.as_chunks().0;
     for (i, (ours, theirs)) in replies.iter().zip(r.replies).enumerate() {
-        expected = see_reply(expected, i, Reply::read(ours, 0), Reply::read(theirs, 0), p)?;
+        expected = compare_reply(expected, i, Reply::read(ours, 0), Reply::read(theirs, 0), p)?;
     }
     let actions: &[[u8; ACTION_WIDTH]] = p.actions.as_chunks().0;
     for (i, (ours, theirs)) in actions.iter().zip(r.actions).enumerate() {
-        expected = see_action(expected, i, ours, theirs, p)?;
+        expected = compare_action(expected, i, ours, theirs, p)?;
     }
     let wrote = answer.map_or(0, |a| a.length);
     if front(&p.replies, wrote) == expected {

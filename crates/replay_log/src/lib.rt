@@ -2,7 +2,7 @@
 //
 //   sample   "SAMPLE 3", the lists, then `E`, how many lists (2 bytes) and how many calls (4)
 //   list     `L`, carried cells (2), own cells (2), tombstone rows (2), bad-tag rows (2), calls (2); then the calls
-//   call     a head of 112 bytes at the places below, and five runs of bytes:
+//   call     a head of 112 bytes, the first of them `C`, the others at the places below, and five runs of bytes:
 //            the front (window rows, skipped rows, or a route key), the rest (ciphertext, prefixes, chain rows, blob, or file),
 //            reply rows of 40 bytes, with the length of the ciphertext in the place of the cell,
 //            action rows of 15 bytes: the library's 13, and the length of the blob of a row that was put,
@@ -14,16 +14,26 @@ ghost use Rattle.std.specs.Iterator.{at_most};
 
 use chain::Dir;
 use courier::{Custody, Header};
-use courier_core::{ContactId, Verification};
-use rows::{ACTION_WIDTH, REPLY_WIDTH};
+use courier_core::{ContactId, Refusal, Verification};
+use host_answers::{DONE, MALFORMED, MISSING, NO_ENVELOPE, OURS};
+use rows::{ACTION_WIDTH, MAX_CELLS, REPLY_WIDTH};
 use std::fmt;
+
+// ---- the sizes of a post
+
+pub const EXCHANGES: usize = 3;
+
+// The most tombstone and bad-tag rows that a list has.
+pub const MAX_TOMBSTONES: usize = 1_100;
+
+pub const MAX_BAD_TAGS: usize = 10;
 
 // ---- places in the head of a call
 
 // The byte of a `Kind`.
 const KIND: usize = 1;
 
-// Which of the three exchanges.
+// Which of the exchanges.
 const EXCHANGE: usize = 2;
 
 // A verification, enabled, a custody code, or a direction.
@@ -49,7 +59,7 @@ const TAG: usize = 28;
 // A commitment or a secret.
 const SECOND: usize = 44;
 
-// The lengths of the areas that number 1 speaks of.
+// The lengths of the areas for answers, prefixes and offers: where one is too short the call is refused with `ShortArea`.
 const REPLIES_AREA: usize = 60;
 
 const PREFIXES_AREA: usize = 64;
@@ -197,36 +207,23 @@ pub enum Said {
     OtherCiphertext, // than that of the fetched envelope
 }
 
-// The library's numbers of them (crates/host_answers).
-pub const DONE: u8 = 0;
-
-pub const MALFORMED: u8 = 128;
-
-pub const OURS: u8 = 129;
-
-pub const MISSING: u8 = 130;
-
-pub const NO_ENVELOPE: u8 = 131;
-
-// What no record has.
-const NEVER_SAID: u8 = 255;
-
 // The last number of a refusal; 1 is the first.
-pub const LAST_REFUSAL: u8 = 13;
+pub const LAST_REFUSAL: u8 = Refusal::LogRecord as u8;
 
 impl Said {
-    pub fn number(self) -> u8 {
+    // The number that a record has for it: what the library answers a host. No record says another ciphertext: that has no number.
+    pub fn number(self) -> Option<u8> {
         match self {
-            Said::Done => DONE,
-            Said::Malformed => MALFORMED,
-            Said::Ours(_) => OURS,
-            Said::Missing => MISSING,
-            Said::NoEnvelope => NO_ENVELOPE,
-            Said::OtherCiphertext => NEVER_SAID,
+            Said::Done => Some(DONE),
+            Said::Malformed => Some(MALFORMED),
+            Said::Ours(_) => Some(OURS),
+            Said::Missing => Some(MISSING),
+            Said::NoEnvelope => Some(NO_ENVELOPE),
+            Said::OtherCiphertext => None,
         }
     }
 
-    // The key that it names, of zeros where it names none.
+    // The key that it names; zeros where it names none. (Not `Option`: the record of every call has the bytes of a key, and they are compared.)
     pub fn key(self) -> Key {
         match self {
             Said::Ours(key) => key,
@@ -253,23 +250,19 @@ pub struct List {
 
 const LIST_HEAD: usize = 11;
 
-// A number of two bytes, as a length.
-fn half(bytes: &[u8; LIST_HEAD], at: usize) -> usize {
-    usize::from(octets::get_u16(bytes, at.min(LIST_HEAD - 2)))
-}
-
 impl List {
-    // The list with which the bytes begin, and those behind it; none where the program has no areas for it.
+    // The list with which the bytes begin, and those behind it; none where the program has no areas for it, or it has no call. (Each place of a list's head and of the end
+    // stands once, as the first lines of this file give them: they have no names.)
     fn first_of(bytes: &[u8]) -> Option<(List, &[u8])>
         ensures { IfSome result (λ p. length p.1.now < length bytes.now) }
     {
         let (head, rest) = bytes.split_first_chunk::<LIST_HEAD>()?;
         let list = List {
-            cells: half(head, 1),
-            own_cells: half(head, 3),
-            tombstones: half(head, 5),
-            bad_tags: half(head, 7),
-            calls: half(head, 9),
+            cells: usize::from(octets::get_u16(head, 1)),
+            own_cells: usize::from(octets::get_u16(head, 3)),
+            tombstones: usize::from(octets::get_u16(head, 5)),
+            bad_tags: usize::from(octets::get_u16(head, 7)),
+            calls: usize::from(octets::get_u16(head, 9)),
         };
         if list.is_small() && list.calls > 0 {
             return Some((list, rest));
@@ -278,7 +271,10 @@ impl List {
     }
 
     fn is_small(&self) -> bool {
-        self.cells <= 256 && self.own_cells <= 256 && self.tombstones <= 1100 && self.bad_tags <= 10
+        self.cells <= MAX_CELLS
+            && self.own_cells <= MAX_CELLS
+            && self.tombstones <= MAX_TOMBSTONES
+            && self.bad_tags <= MAX_BAD_TAGS
     }
 }
 
@@ -287,7 +283,12 @@ impl List {
 // An action row, and the length of the blob of a row that was put.
 pub const PUT_WIDTH: usize = ACTION_WIDTH + 2;
 
+// The bytes of a route key, which is the front of an own envelope.
+const ROUTE_KEY: usize = 32;
+
 // What the call is made with, and what it must answer.
+// (Not an enum of 21 kinds with their fields: all heads are laid out alike, and the call of a kind asks for the fields that it takes. The enum would
+// list them a second time.)
 #[derive(Clone, Copy)]
 pub struct Record<'s> {
     pub kind: Kind,
@@ -331,43 +332,47 @@ impl<'s> Record<'s> {
     // May the head's bytes be what its kind of call takes them for?
     fn is_call(&self) -> bool {
         let small = self.head[SMALL];
-        self.head[EXCHANGE] < 3
+        usize::from(self.head[EXCHANGE]) < EXCHANGES
             && match self.kind {
                 Kind::Contact => Verification::from_byte(small).is_some(),
-                Kind::Setting => small < 2,
+                Kind::Setting => wire::enabled_of(small).is_some(),
                 Kind::CustodyCode => Custody::from_code(small).is_some(),
-                Kind::OwnEnvelope => Dir::from_label(small).is_some() && self.front.len() == 32,
+                Kind::OwnEnvelope => Dir::from_label(small).is_some()
+                    && self.front.len() == ROUTE_KEY,
                 _ => true,
             }
     }
 
-    // As a reference of its own: what a field that is a reference shows cannot be lent on as a slice.
+    // (The borrow check takes `self.head()` as a slice, `self.head` not.)
     fn head(&self) -> &'s [u8; HEAD] {
         self.head
     }
 
     // ---- what the call is made with
 
-    // Which of the three exchanges.
+    // Which of the exchanges. (`is_call` has tested the byte: it is less than their number. The `min` is for the proofs of callers.)
     pub fn exchange(&self) -> usize
         ensures { result ≤ 2 }
     {
-        usize::from(self.head[EXCHANGE]).min(2)
+        usize::from(self.head[EXCHANGE]).min(EXCHANGES - 1)
     }
 
-    // Of a contact call; and so each of the four that read this byte.
+    // Of a contact call. (`is_call` has tested the byte, here, in `enabled`, in `custody` and in `dir`: so the value behind `unwrap_or` is never answered.)
     pub fn verification(&self) -> Verification {
         Verification::from_byte(self.head[SMALL]).unwrap_or(Verification::Compromised)
     }
 
+    // Of a setting.
     pub fn enabled(&self) -> bool {
-        self.head[SMALL] == 1
+        wire::enabled_of(self.head[SMALL]).unwrap_or(false)
     }
 
+    // Of a custody code.
     pub fn custody(&self) -> Custody {
         Custody::from_code(self.head[SMALL]).unwrap_or(Custody::Invalid)
     }
 
+    // Of an own envelope.
     pub fn dir(&self) -> Dir {
         Dir::from_label(self.head[SMALL]).unwrap_or(Dir::I)
     }
@@ -426,8 +431,8 @@ impl<'s> Record<'s> {
     }
 
     // Of an own envelope.
-    pub fn route_key(&self) -> [u8; 32] {
-        self.front.first_chunk().copied().unwrap_or([0; 32])
+    pub fn route_key(&self) -> [u8; ROUTE_KEY] {
+        self.front.first_chunk().copied().unwrap_or([0; ROUTE_KEY])
     }
 
     // ---- how long the areas are that it lends
@@ -481,6 +486,8 @@ pub enum Entry<'s> {
     End { lists: usize, calls: usize }, // how many there are; nothing stands behind it
 }
 
+const END_WIDTH: usize = 7;
+
 impl<'s> Entry<'s> {
     // The entry with which the bytes begin, and those behind it.
     fn first_of(bytes: &'s [u8]) -> Option<(Entry<'s>, &'s [u8])>
@@ -496,7 +503,7 @@ impl<'s> Entry<'s> {
                 Some((Entry::Call(record), behind))
             }
             b'E' => {
-                let end = bytes.as_array::<7>()?;
+                let end = bytes.as_array::<END_WIDTH>()?;
                 let lists = usize::from(octets::get_u16(end, 1));
                 let calls = octets::get_u32(end, 3) as usize;
                 Some((Entry::End { lists, calls }, b""))
@@ -538,7 +545,7 @@ impl<'s> Iterator for Entries<'s> {
 }
 
 // How many lists and calls a walk has passed, and how many calls of this list are left.
-#[derive(Clone, Copy)]
+#[derive(Clone, Copy, Default)]
 pub struct Walk {
     pub lists: usize,
     pub calls: usize,
@@ -571,11 +578,7 @@ impl Walk {
 
 // The walk over a sample of right shape; or the place of the entry at which its shape is wrong.
 pub fn walked(sample: &[u8]) -> Result<Walk, usize> {
-    let mut walk = Walk {
-        lists: 0,
-        calls: 0,
-        left: 0,
-    };
+    let mut walk = Walk::default();
     let mut whole = entries_of(sample);
     for (at, entry) in &mut whole {
         if let Entry::End { lists, calls } = entry {

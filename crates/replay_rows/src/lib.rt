@@ -2,13 +2,15 @@
 #![tactic(auto)]
 
 use courier_core::Refusal;
+use host_answers::Row;
 use replay_calls::{Answer, Post, Writer, front, front_mut};
 use replay_log::{Kind, Record, Said};
-use state::{Carried, Held, Tombstone};
+use state::Held;
 
 // ---- tombs, reports, tombstones, maintenance
 
-fn tombed(said: tombs::Said, replies: usize) -> Answer {
+// What a tomb or a report says, which writes so many replies where it is done. (host_answers' makes the numbers for C: see replay_calls' `Answer`.)
+fn tomb_answer(said: tombs::Said, replies: usize) -> Answer {
     match said {
         tombs::Said::Done(actions) => Answer {
             replies,
@@ -30,7 +32,7 @@ fn call_tomb(p: &mut Post, r: &Record) -> Result<Answer, Refusal> {
         front_mut(&mut p.tombstones, p.lent.tombstones),
         front_mut(&mut p.actions, r.actions_area()),
     )?;
-    Ok(tombed(said, 0))
+    Ok(tomb_answer(said, 0))
 }
 
 fn call_opened(p: &mut Post, r: &Record) -> Result<Answer, Refusal> {
@@ -45,7 +47,7 @@ fn call_opened(p: &mut Post, r: &Record) -> Result<Answer, Refusal> {
         front_mut(&mut p.replies, r.replies_area()),
         front_mut(&mut p.actions, r.actions_area()),
     )?;
-    Ok(tombed(said, 1))
+    Ok(tomb_answer(said, 1))
 }
 
 fn call_failed(p: &mut Post, r: &Record) -> Result<Answer, Refusal> {
@@ -56,7 +58,7 @@ fn call_failed(p: &mut Post, r: &Record) -> Result<Answer, Refusal> {
         &p.contacts,
         front_mut(&mut p.bad_tags, p.lent.bad_tags),
     )?;
-    Ok(tombed(said, 0))
+    Ok(tomb_answer(said, 0))
 }
 
 fn call_stored_tombstone(p: &mut Post, r: &Record) -> Result<Answer, Refusal> {
@@ -82,13 +84,12 @@ fn call_maintenance(p: &mut Post, r: &Record) -> Result<Answer, Refusal> {
     Ok(Answer::listed(actions))
 }
 
-// ---- held rows as blobs, files, the window: what is written goes into the answer area
+// ---- held rows as blobs, files, the window, pages: what is written goes to the front of `replies`, as these calls list no reply
 
-// Six bytes for each listed row.
 fn call_window(p: &mut Post, r: &Record) -> Result<Answer, Refusal> {
     let area = front_mut(&mut p.replies, r.answer_area());
     let count = chain::window(r.front, r.rest, area)?;
-    Ok(Answer::wrote(count.saturating_mul(6)))
+    Ok(Answer::wrote(count.saturating_mul(chain::KEY_WIDTH)))
 }
 
 fn call_row_blob(p: &mut Post, r: &Record) -> Result<Answer, Refusal> {
@@ -106,43 +107,27 @@ fn call_row_blob(p: &mut Post, r: &Record) -> Result<Answer, Refusal> {
     }
 }
 
-// The bytes of the two kinds of held rows that are read.
-const CARRIED: u8 = 1;
-
-const TOMBSTONE: u8 = 2;
-
-// Kind, depositor, tag, commitment or secret, expiry, copies. A carried row's ciphertext is what stands behind the blob's head.
-fn put_carried(row: Carried, ct: &[u8], area: &mut [u8]) -> usize {
+// A held row as a host reads it: kind, depositor, tag, commitment or secret, expiry, copies; and its ciphertext.
+fn put_row(row: Row, ct: &[u8], area: &mut [u8]) -> usize {
     let mut writer = Writer::new(area);
-    writer.put(&[CARRIED]);
-    writer.put(&row.depositor.0.to_be_bytes());
-    writer.put(&row.header.tag);
-    writer.put(&row.header.c);
-    writer.put(&row.header.expiry_min.to_be_bytes());
-    writer.put(&[row.header.copies]);
+    writer.put(&[row.kind]);
+    writer.put(&row.depositor.to_be_bytes());
+    writer.put(&row.tag);
+    writer.put(&row.second);
+    writer.put(&row.expiry_min.to_be_bytes());
+    writer.put(&[row.copies]);
     writer.put(ct);
     writer.end()
 }
 
-// The same, of depositor and copies 0.
-fn put_tombstone(row: Tombstone, area: &mut [u8]) -> usize {
-    let mut writer = Writer::new(area);
-    writer.put(&[TOMBSTONE]);
-    writer.put(&[0; 8]);
-    writer.put(&row.tag);
-    writer.put(&row.s);
-    writer.put(&row.expiry_min.to_be_bytes());
-    writer.put(&[0]);
-    writer.end()
-}
-
+// A carried row's ciphertext is what stands behind the blob's head.
 fn call_row_read(p: &mut Post, r: &Record) -> Answer {
     match state::decode(r.rest) {
         Some(Held::Carried(row)) => {
-            let ct = &r.rest[state::CARRIED_HEAD.min(r.rest.len())..];
-            Answer::wrote(put_carried(row, ct, &mut p.replies))
+            let ct = r.rest.get(state::CARRIED_HEAD..).unwrap_or(b"");
+            Answer::wrote(put_row(row.into(), ct, &mut p.replies))
         }
-        Some(Held::Tombstone(row)) => Answer::wrote(put_tombstone(row, &mut p.replies)),
+        Some(Held::Tombstone(row)) => Answer::wrote(put_row(row.into(), b"", &mut p.replies)),
         None => Answer::of(Said::Missing),
     }
 }

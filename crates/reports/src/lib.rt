@@ -1,8 +1,7 @@
 // What follows local opening: the calls report opened and report failed.
 #![tactic(auto)]
 
-ghost use Rattle.std.specs.Prelude.{◌≡◌, ◌+◌, ◌*◌, ◌/◌, ◌||◌, length, nat_lt};
-ghost use Rattle.rows.specs.Rows.{action_width, reply_width, tombstone_width};
+ghost use Rattle.std.specs.Prelude.{length};
 ghost use Rattle.model.specs.Calls.{opened, failed};
 ghost use Rattle.model.specs.Lent.{Does, no_answers, answers_lent};
 ghost use Rattle.tombs.specs.Tombs.{says};
@@ -10,31 +9,21 @@ ghost use Rattle.reports.specs.Reports.{opened_lent, failed_lent};
 
 use contacts::known;
 use courier_core::{ContactId, Refusal};
-use rows::{BAD_TAG_WIDTH, BadTag, Device, REPLY_WIDTH, Row};
+use rows::{BAD_TAG_WIDTH, BadTag, CONTACT_AREA, Device, Row};
 use table::Table;
 use tombs::Said;
-use tombstones::{Tomb, short_actions, store_choice, store_tombstone};
-
-// The rows that a reply area has at least.
-const REPLY_ROWS: usize = 1536;
-
-// Is the reply area or the action area too short?
-fn short_answers(replies: usize, actions: usize, tombstones: usize) -> bool
-    ensures { result ≡ (nat_lt replies (1536 * reply_width) || nat_lt actions (action_width * (512 + tombstones / tombstone_width))) }
-{
-    replies < REPLY_ROWS * REPLY_WIDTH || short_actions(actions, tombstones)
-}
+use tombstones::{Tomb, store_choice, store_tombstone};
 
 // An envelope was opened: its tombstone is stored, and its tomb answered, one row of the reply area, also where the tag has a tombstone.
 // The tombstone expires with the envelope, or when the lifetime from now ends, if that is sooner.
-// (As the C interface lends them, each area is a parameter.)
+// (It is lent what the exported function of crate goosetable is lent, each area and each value by itself.)
 pub fn report_opened(
     device: &mut Device,
     peer: ContactId,
     tag: [u8; 16],
     s: [u8; 16],
     expiry: u32,
-    contacts: &[u8; 2304],
+    contacts: &[u8; CONTACT_AREA],
     tombstones: &mut [u8],
     replies: &mut [u8],
     actions: &mut [u8],
@@ -43,7 +32,9 @@ pub fn report_opened(
         (opened_lent device.old contacts.now tombstones.old) (opened_lent device.new contacts.now tombstones.new)
         (answers_lent replies.old actions.old) (answers_lent replies.new actions.new) }
 {
-    if short_answers(replies.len(), actions.len(), tombstones.len()) {
+    if answers::short_replies(replies.len())
+        || answers::short_actions(actions.len(), tombstones.len())
+    {
         return Err(Refusal::ShortArea);
     }
     let contacts = Table {
@@ -64,7 +55,7 @@ pub fn report_failed(
     device: &mut Device,
     peer: ContactId,
     tag: [u8; 16],
-    contacts: &[u8; 2304],
+    contacts: &[u8; CONTACT_AREA],
     bad_tags: &mut [u8],
 ) -> Result<Said, Refusal>
     ensures { Does says (failed peer tag) result (failed_lent device.old contacts.now bad_tags.old)

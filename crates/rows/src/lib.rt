@@ -1,4 +1,4 @@
-// The rows of the tables that a host lends, and what goes by value beside them. Rows have no padding, and every field is a number
+// The rows of the tables that a host lends, and the device and the exchange beside them. Rows have no padding, and every field is a number
 // of full range or a run of bytes, so that any bytes are a row. So a kind, a direction, a verification and a flag are bytes here too, as the
 // host's area has them: an enum would have no value for the others.
 #![tactic(auto)]
@@ -68,15 +68,15 @@ pub struct Offer {
     pub copies: u8,
 }
 
-// Kind 0 fetch, 1 envelope, 2 custody, 3 tomb. An envelope's cell: own from 0, carried from 256.
+// The kind is one of Reply's constants. An envelope's cell: own ones from 0, carried ones from MAX_CELLS.
 #[derive(Clone, Copy)]
 pub struct Reply {
     pub kind: u8,
     pub cell: u16,
-    pub body: [u8; 37],
+    pub body: [u8; REPLY_BODY],
 }
 
-// Kind 0 put, 1 delete, 2 own put. The number is a slot or a contact; the message number is 0 if the row is held.
+// The kind is one of Action's constants. The number is a slot or a contact; the message number is 0 if the row is held.
 #[derive(Clone, Copy)]
 pub struct Action {
     pub kind: u8,
@@ -94,8 +94,8 @@ pub struct Reachable {
     pub tag: [u8; 16],
 }
 
-// What goes by value: the setting, the clock, how many rows each table has, and the next slot.
-#[derive(Clone, Copy)]
+// The setting, the clock, how many rows each table has, and the next slot. A call that only reads takes it by value; one that changes it is lent it.
+#[derive(Clone, Copy, Default)]
 pub struct Device {
     pub courier: CourierConfig,
     pub now_s: u64,
@@ -108,7 +108,7 @@ pub struct Device {
 }
 
 // One session's exchange, and the peer that it was opened for; its listed prefixes and its offers lie in areas beside it.
-#[derive(Clone, Copy)]
+#[derive(Clone, Copy, Default)]
 pub struct Exchange {
     pub peer: Option<ContactId>,
     pub complete: bool,
@@ -121,16 +121,7 @@ impl Device {
     pub fn fresh() -> Device
         ensures { result ≡ fresh_device }
     {
-        Device {
-            courier: CourierConfig::default(),
-            now_s: 0,
-            contacts: 0,
-            own: 0,
-            carried: 0,
-            tombstones: 0,
-            bad_tags: 0,
-            next_slot: 0,
-        }
+        Device::default()
     }
 }
 
@@ -139,12 +130,7 @@ impl Exchange {
     pub fn closed() -> Exchange
         ensures { result ≡ closed_exchange }
     {
-        Exchange {
-            peer: None,
-            complete: false,
-            listed: 0,
-            offered: 0,
-        }
+        Exchange::default()
     }
 
     // Opened for a peer.
@@ -153,9 +139,7 @@ impl Exchange {
     {
         Exchange {
             peer: Some(peer),
-            complete: false,
-            listed: 0,
-            offered: 0,
+            ..Exchange::closed()
         }
     }
 }
@@ -180,6 +164,117 @@ pub const ACTION_WIDTH: usize = 13;
 
 pub const REACHABLE_WIDTH: usize = 30;
 
+// The bytes of a reply behind its kind and cell: an envelope's header, or a tag and what follows it.
+pub const REPLY_BODY: usize = 37;
+
+// A prefix is the first bytes of a tag.
+pub const PREFIX_WIDTH: usize = 8;
+
+// ---- where the fields stand that are read in place, without their row
+// (The other fields' offsets stand in `read` and `bytes` alone, beside the field's name, and a number that a row begins with is read at 0: a name there would
+// say no more.)
+
+impl Carried {
+    pub const DEPOSITOR: usize = 8;
+
+    pub const TAG: usize = 16;
+
+    pub const EXPIRY: usize = 48;
+
+    pub const LEN: usize = 53;
+
+    pub const CELL: usize = 55;
+}
+
+impl Own {
+    pub const MSGNO: usize = 8;
+
+    pub const TAG: usize = 12;
+
+    pub const CELL: usize = 52;
+}
+
+impl Tombstone {
+    pub const TAG: usize = 8;
+
+    pub const EXPIRY: usize = 40;
+}
+
+impl BadTag {
+    pub const TAG: usize = 8;
+}
+
+impl Offer {
+    pub const TAG: usize = 0;
+}
+
+impl Reachable {
+    pub const DIR: usize = 8;
+
+    pub const TAG: usize = 14;
+}
+
+// ---- the kinds of replies and of actions: bytes, as the host's area has them
+
+impl Reply {
+    pub const FETCH: u8 = 0;
+
+    pub const ENVELOPE: u8 = 1;
+
+    pub const CUSTODY: u8 = 2;
+
+    pub const TOMB: u8 = 3;
+}
+
+impl Action {
+    pub const PUT: u8 = 0;
+
+    pub const DELETE: u8 = 1;
+
+    pub const PUT_QUEUED: u8 = 2;
+}
+
+// ---- the areas that calls are lent
+
+// The rows of a table of fixed size, and the cells of an area that count.
+pub const MAX_CONTACTS: usize = 256;
+
+pub const MAX_OWN: usize = 256;
+
+pub const MAX_CARRIED: usize = 256;
+
+pub const MAX_CELLS: usize = 256;
+
+// The carried rows of one verified depositor, at most; in a loaded file, those of any depositor, verified or not.
+pub const MAX_PER_VERIFIED: usize = 32;
+
+// The prefixes and the offers of an exchange, at most.
+pub const MAX_PREFIXES: usize = 512;
+
+pub const MAX_OFFERS: usize = 512;
+
+// The replies that a reply area has room for: a fetch and a tomb for each prefix, and an offer of each row.
+pub const LISTED_REPLIES: usize = 2 * MAX_PREFIXES + MAX_OFFERS;
+
+// Rows that are held for queued messages and for others, at most.
+pub const MAX_ROWS: usize = MAX_OWN + MAX_CARRIED;
+
+// The actions that an action area has room for, beside one for each tombstone row: one for each of MAX_ROWS rows.
+pub const LISTED_ACTIONS: usize = MAX_ROWS;
+
+// The bytes of the areas that hold so many rows.
+pub const CONTACT_AREA: usize = MAX_CONTACTS * CONTACT_WIDTH;
+
+pub const OWN_AREA: usize = MAX_OWN * OWN_WIDTH;
+
+pub const CARRIED_AREA: usize = MAX_CARRIED * CARRIED_WIDTH;
+
+pub const PREFIX_AREA: usize = MAX_PREFIXES * PREFIX_WIDTH;
+
+pub const OFFER_AREA: usize = MAX_OFFERS * OFFER_WIDTH;
+
+pub const REPLY_AREA: usize = LISTED_REPLIES * REPLY_WIDTH;
+
 // ---- each row type: its bytes, and the row of an area's bytes
 // (The nine impls have one shape, and each its own fields: the check refuses an impl that a macro of the repository writes.)
 
@@ -192,26 +287,26 @@ impl Row<CARRIED_WIDTH> for Carried {
         let b = &area[at..at + CARRIED_WIDTH];
         Carried {
             slot: octets::get_u64(b, 0),
-            depositor: ContactId(octets::get_u64(b, 8)),
-            tag: octets::get_array(b, 16),
+            depositor: ContactId(octets::get_u64(b, Carried::DEPOSITOR)),
+            tag: octets::get_array(b, Carried::TAG),
             c: octets::get_array(b, 32),
-            expiry_min: octets::get_u32(b, 48),
+            expiry_min: octets::get_u32(b, Carried::EXPIRY),
             copies: octets::get_u8(b, 52),
-            len: octets::get_u16(b, 53),
-            cell: octets::get_u16(b, 55),
+            len: octets::get_u16(b, Carried::LEN),
+            cell: octets::get_u16(b, Carried::CELL),
         }
     }
 
     fn bytes(self) -> [u8; CARRIED_WIDTH] {
         let mut b = [0u8; CARRIED_WIDTH];
         octets::put_u64(&mut b, 0, self.slot);
-        octets::put_u64(&mut b, 8, self.depositor.0);
-        octets::put_array(&mut b, 16, self.tag);
+        octets::put_u64(&mut b, Carried::DEPOSITOR, self.depositor.0);
+        octets::put_array(&mut b, Carried::TAG, self.tag);
         octets::put_array(&mut b, 32, self.c);
-        octets::put_u32(&mut b, 48, self.expiry_min);
+        octets::put_u32(&mut b, Carried::EXPIRY, self.expiry_min);
         octets::put_u8(&mut b, 52, self.copies);
-        octets::put_u16(&mut b, 53, self.len);
-        octets::put_u16(&mut b, 55, self.cell);
+        octets::put_u16(&mut b, Carried::LEN, self.len);
+        octets::put_u16(&mut b, Carried::CELL, self.cell);
         b
     }
 
@@ -229,28 +324,28 @@ impl Row<OWN_WIDTH> for Own {
         let b = &area[at..at + OWN_WIDTH];
         Own {
             contact: ContactId(octets::get_u64(b, 0)),
-            msgno: octets::get_u32(b, 8),
-            tag: octets::get_array(b, 12),
+            msgno: octets::get_u32(b, Own::MSGNO),
+            tag: octets::get_array(b, Own::TAG),
             s: octets::get_array(b, 28),
             expiry_min: octets::get_u32(b, 44),
             copies: octets::get_u8(b, 48),
             renewed: octets::get_u8(b, 49),
             len: octets::get_u16(b, 50),
-            cell: octets::get_u16(b, 52),
+            cell: octets::get_u16(b, Own::CELL),
         }
     }
 
     fn bytes(self) -> [u8; OWN_WIDTH] {
         let mut b = [0u8; OWN_WIDTH];
         octets::put_u64(&mut b, 0, self.contact.0);
-        octets::put_u32(&mut b, 8, self.msgno);
-        octets::put_array(&mut b, 12, self.tag);
+        octets::put_u32(&mut b, Own::MSGNO, self.msgno);
+        octets::put_array(&mut b, Own::TAG, self.tag);
         octets::put_array(&mut b, 28, self.s);
         octets::put_u32(&mut b, 44, self.expiry_min);
         octets::put_u8(&mut b, 48, self.copies);
         octets::put_u8(&mut b, 49, self.renewed);
         octets::put_u16(&mut b, 50, self.len);
-        octets::put_u16(&mut b, 52, self.cell);
+        octets::put_u16(&mut b, Own::CELL, self.cell);
         b
     }
 
@@ -268,18 +363,18 @@ impl Row<TOMBSTONE_WIDTH> for Tombstone {
         let b = &area[at..at + TOMBSTONE_WIDTH];
         Tombstone {
             slot: octets::get_u64(b, 0),
-            tag: octets::get_array(b, 8),
+            tag: octets::get_array(b, Tombstone::TAG),
             s: octets::get_array(b, 24),
-            expiry_min: octets::get_u32(b, 40),
+            expiry_min: octets::get_u32(b, Tombstone::EXPIRY),
         }
     }
 
     fn bytes(self) -> [u8; TOMBSTONE_WIDTH] {
         let mut b = [0u8; TOMBSTONE_WIDTH];
         octets::put_u64(&mut b, 0, self.slot);
-        octets::put_array(&mut b, 8, self.tag);
+        octets::put_array(&mut b, Tombstone::TAG, self.tag);
         octets::put_array(&mut b, 24, self.s);
-        octets::put_u32(&mut b, 40, self.expiry_min);
+        octets::put_u32(&mut b, Tombstone::EXPIRY, self.expiry_min);
         b
     }
 
@@ -322,14 +417,14 @@ impl Row<BAD_TAG_WIDTH> for BadTag {
         let b = &area[at..at + BAD_TAG_WIDTH];
         BadTag {
             peer: ContactId(octets::get_u64(b, 0)),
-            tag: octets::get_array(b, 8),
+            tag: octets::get_array(b, BadTag::TAG),
         }
     }
 
     fn bytes(self) -> [u8; BAD_TAG_WIDTH] {
         let mut b = [0u8; BAD_TAG_WIDTH];
         octets::put_u64(&mut b, 0, self.peer.0);
-        octets::put_array(&mut b, 8, self.tag);
+        octets::put_array(&mut b, BadTag::TAG, self.tag);
         b
     }
 
@@ -346,14 +441,14 @@ impl Row<OFFER_WIDTH> for Offer {
     fn read(area: &[u8], at: usize) -> Offer {
         let b = &area[at..at + OFFER_WIDTH];
         Offer {
-            tag: octets::get_array(b, 0),
+            tag: octets::get_array(b, Offer::TAG),
             copies: octets::get_u8(b, 16),
         }
     }
 
     fn bytes(self) -> [u8; OFFER_WIDTH] {
         let mut b = [0u8; OFFER_WIDTH];
-        octets::put_array(&mut b, 0, self.tag);
+        octets::put_array(&mut b, Offer::TAG, self.tag);
         octets::put_u8(&mut b, 16, self.copies);
         b
     }
@@ -426,20 +521,20 @@ impl Row<REACHABLE_WIDTH> for Reachable {
         let b = &area[at..at + REACHABLE_WIDTH];
         Reachable {
             contact: ContactId(octets::get_u64(b, 0)),
-            dir: octets::get_u8(b, 8),
+            dir: octets::get_u8(b, Reachable::DIR),
             generation: octets::get_u8(b, 9),
             idx: octets::get_u32(b, 10),
-            tag: octets::get_array(b, 14),
+            tag: octets::get_array(b, Reachable::TAG),
         }
     }
 
     fn bytes(self) -> [u8; REACHABLE_WIDTH] {
         let mut b = [0u8; REACHABLE_WIDTH];
         octets::put_u64(&mut b, 0, self.contact.0);
-        octets::put_u8(&mut b, 8, self.dir);
+        octets::put_u8(&mut b, Reachable::DIR, self.dir);
         octets::put_u8(&mut b, 9, self.generation);
         octets::put_u32(&mut b, 10, self.idx);
-        octets::put_array(&mut b, 14, self.tag);
+        octets::put_array(&mut b, Reachable::TAG, self.tag);
         b
     }
 

@@ -1,5 +1,5 @@
 pub mod BlobLaws
 pub mod RowBlobLaws
 pub mod RecordLaws
-pub mod TurnLaws
+pub mod ProgressLaws
 pub mod SaveLaws

@@ -7,9 +7,7 @@ use Rattle.octets.proofs.Parts.{splice_then, length_splice}
 use Rattle.octets.proofs.Numbers.{length_be}
 use Rattle.table.specs.Rows.{join}
 use Rattle.state.specs.Held.{held_row}
-use Rattle.rows.specs.declared.Carried.{Carried}
-use Rattle.rows.specs.declared.Tombstone.{Tombstone}
-use Rattle.model.specs.Saved.{Slotted, carried_held, tombstone_held, held_mark, saved_record, saved_file}
+use Rattle.model.specs.Saved.{Slotted, held_mark, saved_record, saved_file}
 use Rattle.saved.specs.Blobs.{Blobbed}
 use Rattle.saved.specs.Saving.{record_bytes, RecordPut, Recorded, Records, Filled}
 
@@ -40,7 +38,7 @@ length_record letter slot row = simp (length-append, length_be) (omega arith)
 
 -- the record of a held row, of its blob
 module _ (most letter : ℕ) (h : Slotted) (marked : held_mark h.held ≡ 72 ∷ letter ∷ []) where
-  recorded : (area blob : List ℕ) (n slot at : ℕ) (file : List ℕ) (r : ℕ) (after : List ℕ) → Blobbed most h area n blob → h.slot ≡ slot
+  pub recorded : (area blob : List ℕ) (n slot at : ℕ) (file : List ℕ) (r : ℕ) (after : List ℕ) → Blobbed most h area n blob → h.slot ≡ slot
       → RecordPut letter slot (take (n - 0) blob) at file r after → Recorded (12 + most) h at file r after
   unfolding splice saved_record record_bytes
   recorded area blob n slot at file r after B es P =
@@ -56,17 +54,6 @@ module _ (most letter : ℕ) (h : Slotted) (marked : held_mark h.held ≡ 72 ∷
         within = omega (arith, P.end, ap length eb, B.count, B.within);
         area = P.area ∙ ap (splice file at) e;
       }
-
-module _ (area blob : List ℕ) (n at : ℕ) (file : List ℕ) (r : ℕ) (after : List ℕ) where
-  pub carried_recorded : (cells : List ℕ) (row : Carried) → Blobbed 2110 (carried_held cells row) area n blob
-      → RecordPut 67 row.slot (take (n - 0) blob) at file r after → Recorded 2122 (carried_held cells row) at file r after
-  unfolding carried_held
-  carried_recorded cells row B P = recorded 2110 67 _ refl area blob n row.slot at file r after B refl P
-
-  pub tombstone_recorded : (row : Tombstone) → Blobbed 37 (tombstone_held row) area n blob
-      → RecordPut 84 row.slot (take (n - 0) blob) at file r after → Recorded 49 (tombstone_held row) at file r after
-  unfolding tombstone_held
-  tombstone_recorded row B P = recorded 37 84 _ refl area blob n row.slot at file r after B refl P
 
 -- the next slot, then the records
 pub file_filled : (next : ℕ) (rows : List Slotted) (lent x after head : List ℕ) (r : ℕ) → 10 ≤ length lent → head ≡ mark 78 next → x ≡ splice lent 0 head

@@ -10,7 +10,7 @@ use Rattle.model.specs.Saved.{Slotted, carried_held, tombstone_held, saved_recor
 use Rattle.by_slot.specs.declared.held.Held.{Held}
 use Rattle.by_slot.specs.BySlot.{rows_left}
 use Rattle.saved.specs.declared.HeldRows.{HeldRows}
-use Rattle.saved.specs.declared.Turn.{Turn}
+use Rattle.saved.specs.declared.Progress.{Progress}
 
 -- ---- a record
 
@@ -32,7 +32,7 @@ pub record Recorded (most : ℕ) (h : Slotted) (at : ℕ) (before : List ℕ) (r
 -- ---- the records, by slot
 
 -- the file, of so many bytes, has room for the records of the rows, and the next record goes to t's place
-pub record RoomFor (h : Held) (t : Turn) (file : ℕ) : Type 0 where
+pub record RoomFor (h : Held) (t : Progress) (file : ℕ) : Type 0 where
   pub size : 10 + (2122 * h.carried.count + 49 * h.tombstones.count) ≤ file
   pub place : t.at ≤ 10 + (2122 * t.next.carried + 49 * t.next.tombstones)
 
@@ -41,7 +41,7 @@ unfoldable pub left : HeldRows → (p q : ℕ) → List Slotted
 left h p q = rows_left (λ (s : Slotted). s.slot) (carried_held h.cells.now) tombstone_held h.rows p q
 
 -- one row more is saved
-pub record More (h : HeldRows) (t : Turn) (before : List ℕ) (r : Turn) (after : List ℕ) : Type 0 where
+pub record More (h : HeldRows) (t : Progress) (before : List ℕ) (r : Progress) (after : List ℕ) : Type 0 where
   pub row : Slotted
   pub next : left h t.next.carried t.next.tombstones ≡ row ∷ left h r.next.carried r.next.tombstones
   pub area : after ≡ splice before t.at (saved_record row)
@@ -52,7 +52,7 @@ pub record More (h : HeldRows) (t : Turn) (before : List ℕ) (r : Turn) (after 
   pub room : r.at + (2122 * t.next.carried + 49 * t.next.tombstones) ≤ t.at + (2122 * r.next.carried + 49 * r.next.tombstones)
 
 -- the rows done so far, in a file that was lent and is now area
-pub record Saving (h : HeldRows) (lent area : List ℕ) (t : Turn) : Type 0 where
+pub record Saving (h : HeldRows) (lent area : List ℕ) (t : Progress) : Type 0 where
   pub done : List Slotted
   pub all : done ++ left h t.next.carried t.next.tombstones ≡ left h 0 0
   pub bytes : area ≡ splice lent 10 (join (map saved_record done))

@@ -1,21 +1,24 @@
 // Held rows as blobs: the row blob call, and the saved file.
 #![tactic(auto)]
 
-ghost use Rattle.std.specs.Prelude.{◌≡◌, ◌+◌, ◌*◌, ◌<◌, ◌≤◌, [], ◌∷◌, ◌++◌, length, nat_lt};
+ghost use Rattle.std.specs.Prelude.{◌≡◌, ℕ, ◌+◌, ◌*◌, ◌<◌, ◌≤◌, true, List, [], ◌∷◌, ◌++◌, length, nat_le, nat_lt, refl};
 ghost use Rattle.octets.specs.Bytes.{be};
 ghost use Rattle.table.specs.Lists.{position};
 ghost use Rattle.table.specs.Rows.{rows, held};
 ghost use Rattle.model.specs.Calls.{row_blob, save as save_call};
 ghost use Rattle.model.specs.Cells.{cell_count};
 ghost use Rattle.model.specs.Lent.{Does, bytes_lent};
-ghost use Rattle.model.specs.Saved.{carried_held, tombstone_held, saved_file};
-ghost use Rattle.saved.specs.Blobs.{has_slot, held_carried, held_tombstone, Blobbed, blob_says, held_in};
+ghost use Rattle.model.specs.Saved.{Slotted, carried_held, tombstone_held, held_mark, saved_file};
+ghost use Rattle.saved.specs.Blobs.{has_slot, Blobbed, blob_says, held_in};
 ghost use Rattle.by_slot.specs.BySlot.{Reached};
 ghost use Rattle.saved.specs.Saving.{RecordPut, Recorded, RoomFor, More, left, Rooms, Records, Filled, save_says};
 
 use by_slot::{Cursor, Held};
 use courier_core::Refusal;
-use rows::{CARRIED_WIDTH, Carried, Device, Row as _, TOMBSTONE_WIDTH, Tombstone};
+use rows::{
+    CARRIED_AREA, CARRIED_WIDTH, Carried, Device, MAX_CELLS, Row as _, TOMBSTONE_WIDTH, Tombstone,
+};
+use state::{CARRIED_LETTER, FILE_HEAD, LEN, NEXT_LETTER, RECORD_HEAD, SLOT, TOMBSTONE_LETTER};
 use table::Table;
 
 // The held rows that are saved, and the cells in which the ciphertexts of the carried ones lie.
@@ -25,9 +28,9 @@ struct HeldRows<'a> {
     cells: &'a [u8],
 }
 
-// How far a file is: the next row of each table, and where the next record goes.
+// How far the writing of a file is: the next row of each table, and where the next record goes.
 #[derive(Drop)]
-struct Turn {
+struct Progress {
     next: Cursor,
     at: usize,
 }
@@ -44,52 +47,103 @@ fn slot_place<const W: usize>(table: Table<W>, slot: u64) -> Option<usize>
 
 // ---- a row, written to a blob area
 
-fn held_carried(row: Carried) -> state::Carried
-    ensures { result ≡ held_carried row }
-{
-    state::Carried {
-        depositor: row.depositor,
-        header: answers::carried_header(row),
+// A held row that is saved: its bytes are those of `Held::row`, and its record's mark has its kind's letter.
+trait Saved: Copy {
+    ghost slotted: { List ℕ → Self → Slotted };
+
+    ghost most: { ℕ };
+
+    fn slot(self) -> u64
+        ensures { (cells : List ℕ) → (slotted cells self).slot ≡ result };
+
+    fn letter(self) -> u8
+        ensures { (cells : List ℕ) → held_mark (slotted cells self).held ≡ 72 ∷ result ∷ [] };
+
+    // The row's bytes go to the front of the area, and how many they are is answered.
+    fn blob(self, cells: &[u8], blob: &mut [u8]) -> usize
+        requires { 2110 ≤ length blob.old }
+        ensures { Blobbed most (slotted cells.now self) blob.old result blob.new };
+
+    // Writes the row's record at a place, and answers where it ends.
+    final fn save(self, cells: &[u8], file: &mut [u8], at: usize) -> usize
+        requires { at + (12 + most) ≤ length file.old }
+        ensures { Recorded (12 + most) (slotted cells.now self) at file.old result file.new }
+    {
+        // (An array and a length: a row is written where any row has room, which the last record of a file need not have, and there is no heap.)
+        let mut blob = [0; state::BLOB];
+        let n = self.blob(cells, &mut blob);
+        put_record(file, at, self.letter(), self.slot(), &blob[0..n])
     }
+
+    ghost fits: { nat_le most 2110 ≡ true };
 }
 
-fn held_tombstone(row: Tombstone) -> state::Tombstone
-    ensures { result ≡ held_tombstone row }
-{
-    // (An array behind a field goes into a literal through a variable.)
-    let tag = row.tag;
-    let s = row.s;
-    state::Tombstone {
-        tag,
-        s,
-        expiry_min: row.expiry_min,
+impl Saved for Carried {
+    ghost slotted = { carried_held };
+
+    ghost most = { 2110 };
+
+    #[tactic(auto, unfolding(model::specs::Saved::carried_held))]
+    fn slot(self) -> u64 {
+        self.slot
     }
+
+    #[tactic(auto, unfolding(model::specs::Saved::carried_held))]
+    fn letter(self) -> u8 {
+        CARRIED_LETTER
+    }
+
+    fn blob(self, cells: &[u8], blob: &mut [u8]) -> usize {
+        let ct = fetch::cell_part(cells, self.cell, self.len);
+        let row = state::Carried {
+            depositor: self.depositor,
+            header: answers::carried_header(self),
+        };
+        state::carried_row(row, ct, blob).unwrap()
+    }
+
+    ghost fits = { refl };
 }
 
-// A carried row: its bytes go to the front of the area, and how many they are is answered.
-fn carried_blob(row: Carried, cells: &[u8], blob: &mut [u8]) -> usize
-    requires { 2110 ≤ length blob.old }
-    ensures { Blobbed 2110 (carried_held cells.now row) blob.old result blob.new }
-{
-    let ct = fetch::cell_part(cells, row.cell, row.len);
-    state::carried_row(held_carried(row), ct, blob).unwrap()
-}
+// A tombstone has no ciphertext.
+impl Saved for Tombstone {
+    ghost slotted = { λ cells t. tombstone_held t };
 
-// The same, of a tombstone, which has no ciphertext.
-fn tombstone_blob(row: Tombstone, blob: &mut [u8]) -> usize
-    requires { 2110 ≤ length blob.old }
-    ensures { Blobbed 37 (tombstone_held row) blob.old result blob.new }
-{
-    state::tombstone_row(held_tombstone(row), blob).unwrap()
+    ghost most = { 37 };
+
+    #[tactic(auto, unfolding(model::specs::Saved::tombstone_held))]
+    fn slot(self) -> u64 {
+        self.slot
+    }
+
+    #[tactic(auto, unfolding(model::specs::Saved::tombstone_held))]
+    fn letter(self) -> u8 {
+        TOMBSTONE_LETTER
+    }
+
+    fn blob(self, cells: &[u8], blob: &mut [u8]) -> usize {
+        // (An array field goes into a literal through a local: put there straight, the borrow check does not cover it.)
+        let tag = self.tag;
+        let s = self.s;
+        let row = state::Tombstone {
+            tag,
+            s,
+            expiry_min: self.expiry_min,
+        };
+        state::tombstone_row(row, blob).unwrap()
+    }
+
+    ghost fits = { refl };
 }
 
 // ---- the row blob call
 
 // `Held::row` of the row in a slot: the first of the carried rows and then of the tombstones that has it.
+// (The call is lent what the exported function of crate goosetable is lent: each area by itself.)
 pub fn row_blob(
     device: Device,
     slot: u64,
-    carried: &[u8; 14592],
+    carried: &[u8; CARRIED_AREA],
     tombstones: &[u8],
     carried_cells: &[u8],
     blob: &mut [u8],
@@ -113,12 +167,12 @@ pub fn row_blob(
     match slot_place::<CARRIED_WIDTH>(carried_rows, slot) {
         Some(i) => {
             let row = Carried::read(carried, i * CARRIED_WIDTH);
-            Ok(Some(carried_blob(row, carried_cells, blob)))
+            Ok(Some(row.blob(carried_cells, blob)))
         }
         None => match slot_place::<TOMBSTONE_WIDTH>(tombstone_rows, slot) {
             Some(i) => {
                 let row = Tombstone::read(tombstones, i * TOMBSTONE_WIDTH);
-                Ok(Some(tombstone_blob(row, blob)))
+                Ok(Some(row.blob(carried_cells, blob)))
             }
             None => Ok(None),
         },
@@ -127,13 +181,19 @@ pub fn row_blob(
 
 // ---- a record of the saved file
 
+// The bytes of a carried row's record, at most.
+const CARRIED_RECORD: usize = RECORD_HEAD + state::BLOB;
+
+// The bytes of a tombstone's record.
+const TOMBSTONE_RECORD: usize = RECORD_HEAD + state::TOMBSTONE_ROW;
+
 // A mark, which is `H` and a letter, and a number. (The letter is the byte that the file has; an enum would only be turned into it.)
-fn marked(letter: u8, number: u64) -> [u8; 10]
+fn marked(letter: u8, number: u64) -> [u8; FILE_HEAD]
     ensures { result ≡ (72 ∷ letter ∷ []) ++ be 8 number }
 {
-    let mut b = [b'H'; 10];
+    let mut b = [b'H'; FILE_HEAD];
     b[1] = letter;
-    octets::put_u64(&mut b, 2, number);
+    octets::put_u64(&mut b, SLOT, number);
     b
 }
 
@@ -144,66 +204,45 @@ fn put_record(file: &mut [u8], at: usize, letter: u8, slot: u64, row: &[u8]) -> 
 {
     let head = marked(letter, slot);
     octets::copy_in(file, at, &head);
-    octets::put_u16(file, at + 10, row.len() as u16);
-    octets::copy_in(file, at + 12, row);
-    at + 12 + row.len()
-}
-
-// Writes the record of a carried row, `HC`.
-fn save_carried(row: Carried, cells: &[u8], file: &mut [u8], at: usize) -> usize
-    requires { at + 2122 ≤ length file.old }
-    ensures { Recorded 2122 (carried_held cells.now row) at file.old result file.new }
-{
-    let mut blob = [0u8; 2110];
-    let n = carried_blob(row, cells, &mut blob);
-    put_record(file, at, b'C', row.slot, &blob[0..n])
-}
-
-// Writes the record of a tombstone, `HT`.
-fn save_tombstone(row: Tombstone, file: &mut [u8], at: usize) -> usize
-    requires { at + 49 ≤ length file.old }
-    ensures { Recorded 49 (tombstone_held row) at file.old result file.new }
-{
-    let mut blob = [0u8; 2110];
-    let n = tombstone_blob(row, &mut blob);
-    put_record(file, at, b'T', row.slot, &blob[0..n])
+    octets::put_u16(file, at + LEN, row.len() as u16);
+    octets::copy_in(file, at + RECORD_HEAD, row);
+    at + RECORD_HEAD + row.len()
 }
 
 // ---- the records, by slot
 
 impl<'a> HeldRows<'a> {
     // Writes the record of the next row.
-    fn save_next(self, t: &mut Turn, file: &mut [u8])
-        requires { Reached self.rows t.old.next × RoomFor self.rows t.old (length file.old) }
-        ensures { More self.entry t.old file.old t.new file.new }
+    fn save_next(self, progress: &mut Progress, file: &mut [u8])
+        requires { Reached self.rows progress.old.next × RoomFor self.rows progress.old (length file.old) }
+        ensures { More self.entry progress.old file.old progress.new file.new }
     {
-        if self.rows.tombstone_first(t.next) {
-            let at = t.next.tombstones * TOMBSTONE_WIDTH;
+        if self.rows.tombstone_first(progress.next) {
+            let at = progress.next.tombstones * TOMBSTONE_WIDTH;
             let row = Tombstone::read(self.rows.tombstones.area, at);
-            t.at = save_tombstone(row, file, t.at);
-            t.next.tombstones += 1;
+            progress.at = row.save(self.cells, file, progress.at);
+            progress.next.tombstones += 1;
             return;
         }
-        let at = t.next.carried * CARRIED_WIDTH;
+        let at = progress.next.carried * CARRIED_WIDTH;
         let row = Carried::read(self.rows.carried.area, at);
-        t.at = save_carried(row, self.cells, file, t.at);
-        t.next.carried += 1;
+        progress.at = row.save(self.cells, file, progress.at);
+        progress.next.carried += 1;
     }
 
-    // Writes the records of all rows behind the first 10 bytes, and answers where they end.
+    // Writes the records of all rows behind the mark and the next slot, and answers where they end.
     fn save_rows(self, file: &mut [u8]) -> usize
         requires { Rooms self.rows (length file.old) }
         ensures { Records (left self.entry 0 0) file.old result file.new }
     {
-        let next = Cursor {
-            carried: 0,
-            tombstones: 0,
+        let mut progress = Progress {
+            next: Cursor::default(),
+            at: FILE_HEAD,
         };
-        let mut t = Turn { next, at: 10 };
         for _row in 0..self.rows.len() {
-            self.save_next(&mut t, file);
+            self.save_next(&mut progress, file);
         }
-        t.at
+        progress.at
     }
 
     // Writes the file: `HN` and the next slot, then the records.
@@ -211,7 +250,7 @@ impl<'a> HeldRows<'a> {
         requires { Rooms self.rows (length file.old) }
         ensures { Filled (saved_file next (left self.entry 0 0)) file.old result file.new }
     {
-        let head = marked(b'N', next);
+        let head = marked(NEXT_LETTER, next);
         octets::copy_in(file, 0, &head);
         self.save_rows(file)
     }
@@ -219,11 +258,12 @@ impl<'a> HeldRows<'a> {
 
 // ---- the save call
 
-// The cells of an area of so many bytes: up to 256 count.
+// The cells of an area of so many bytes: up to MAX_CELLS count. (custody and load_tests have this within another expression, each; here its bound is ensured too.)
+#[tactic(auto, unfolding(model::specs::Cells::cell_count))]
 fn cell_count(size: usize) -> usize
     ensures { (result ≡ cell_count size) × (result ≤ 256) }
 {
-    (size / state::CELL).min(256)
+    (size / state::CELL).min(MAX_CELLS)
 }
 
 // Is the area for a file too short, with so many cells and tombstone rows? The product of the rows may be past what a usize holds.
@@ -231,17 +271,18 @@ fn short_file(file: usize, cells: usize, room: usize) -> bool
     requires { cells ≤ 256 }
     ensures { result ≡ nat_lt file (10 + 2122 * cells + 49 * room) }
 {
-    let base = 10 + 2122 * cells;
+    let base = FILE_HEAD + CARRIED_RECORD * cells;
     if file < base {
         return true;
     }
-    (file - base) / 49 < room
+    (file - base) / TOMBSTONE_RECORD < room
 }
 
 // Writes the saved file: the next slot, and the held rows by slot. Carried rows count as far as there are cells.
+// (Areas as in `row_blob`.)
 pub fn save(
     device: Device,
-    carried: &[u8; 14592],
+    carried: &[u8; CARRIED_AREA],
     tombstones: &[u8],
     carried_cells: &[u8],
     file: &mut [u8],

@@ -2,23 +2,30 @@
 #![tactic(auto)]
 
 use courier_core::ContactId;
-use rows::{CARRIED_WIDTH, Carried, Device, Row, TOMBSTONE_WIDTH, Tombstone};
+use rows::{
+    CARRIED_AREA, CARRIED_WIDTH, Carried, Device, MAX_CARRIED, Row, TOMBSTONE_WIDTH, Tombstone,
+};
+use screen::PAGE;
 use std::io;
 
-// What a post shows: its device and its two tables of held rows, with room for 40 tombstones.
+const MAX_TOMBSTONES: usize = 40;
+
+const TOMBSTONE_AREA: usize = MAX_TOMBSTONES * TOMBSTONE_WIDTH;
+
+// What a post shows: its device and its two tables of held rows.
+// (Its own struct: the other programs' posts have areas of other sizes, and more of them, and one for all would have a parameter for each size.)
 #[derive(Clone, Copy)]
 struct Post {
     device: Device,
-    carried: [u8; 14592],
-    tombstones: [u8; 1760],
+    carried: [u8; CARRIED_AREA],
+    tombstones: [u8; TOMBSTONE_AREA],
 }
-
-const MOST_SLOT: u64 = 0xFFFF_FFFF_FFFF_FFFF;
-
-const MOST_EXPIRY: u32 = 0xFFFF_FFFF;
 
 // What stands in an area before a page is written.
 const BEFORE: u8 = b'.';
+
+// The bytes of the array of which the area is the front: more than any area here has.
+const AREA: usize = 2_000;
 
 // ---- posts
 
@@ -26,21 +33,21 @@ impl Post {
     fn fresh() -> Post {
         Post {
             device: Device::fresh(),
-            carried: [0; 14592],
-            tombstones: [0; 1760],
+            carried: [0; CARRIED_AREA],
+            tombstones: [0; TOMBSTONE_AREA],
         }
     }
 
     // One carried row more; the last one's place is taken where there is no room.
     fn carry(&mut self, row: Carried) {
-        let n = self.device.carried.min(255);
+        let n = self.device.carried.min(MAX_CARRIED - 1);
         row.put(&mut self.carried, n * CARRIED_WIDTH);
         self.device.carried = n + 1;
     }
 
-    // The same, of a tombstone.
+    // The same, of a tombstone. (Two functions: each table has an area, a count and a limit of its own.)
     fn entomb(&mut self, slot: u64, tag: u8, expiry: u32) {
-        let m = self.device.tombstones.min(39);
+        let m = self.device.tombstones.min(MAX_TOMBSTONES - 1);
         let row = Tombstone {
             slot,
             tag: [tag; 16],
@@ -52,10 +59,9 @@ impl Post {
     }
 
     // The post at another clock.
-    fn at_clock(self, seconds: u64) -> Post {
-        let mut post = self;
-        post.device.now_s = seconds;
-        post
+    fn at_clock(mut self, seconds: u64) -> Post {
+        self.device.now_s = seconds;
+        self
     }
 }
 
@@ -96,8 +102,8 @@ fn left_alone(area: &[u8]) -> usize {
 
 // The page with an area of so many bytes: what is answered, the page's bytes, and how many behind them are as they were.
 fn show(rt: &impl Print, what: &str, post: &Post, page: u64, size: usize) -> io::Result<()> {
-    let mut whole = [BEFORE; 2000];
-    let area = &mut whole[..size.min(2000)];
+    let mut whole = [BEFORE; AREA];
+    let area = &mut whole[..size.min(AREA)];
     print!(rt; "{what}: page {page}, area {size}: ")?;
     match screen::page(post.device, page, &post.carried, &post.tombstones, area) {
         Err(why) => println!(rt; "refused {}, left alone {}", why.number(), left_alone(area)),
@@ -109,29 +115,29 @@ fn show(rt: &impl Print, what: &str, post: &Post, page: u64, size: usize) -> io:
 }
 
 fn counts(rt: &impl Print) -> io::Result<()> {
-    show(rt, "no row", &Post::fresh(), 0, 1620)?;
-    show(rt, "no row", &Post::fresh(), 1, 1620)?;
-    show(rt, "1 row", &mixed(1), 0, 1620)?;
-    show(rt, "1 row", &mixed(1), 1, 1620)?;
-    show(rt, "19 rows", &mixed(19), 0, 1620)?;
-    show(rt, "19 rows", &mixed(19), 1, 1620)?;
-    show(rt, "20 rows", &mixed(20), 0, 1620)?;
-    show(rt, "20 rows", &mixed(20), 1, 1620)?;
-    show(rt, "38 rows", &mixed(38), 1, 1620)?;
-    show(rt, "38 rows", &mixed(38), 2, 1620)?;
-    show(rt, "38 rows", &mixed(38), MOST_SLOT, 1620)
+    show(rt, "no row", &Post::fresh(), 0, PAGE)?;
+    show(rt, "no row", &Post::fresh(), 1, PAGE)?;
+    show(rt, "1 row", &mixed(1), 0, PAGE)?;
+    show(rt, "1 row", &mixed(1), 1, PAGE)?;
+    show(rt, "19 rows", &mixed(19), 0, PAGE)?;
+    show(rt, "19 rows", &mixed(19), 1, PAGE)?;
+    show(rt, "20 rows", &mixed(20), 0, PAGE)?;
+    show(rt, "20 rows", &mixed(20), 1, PAGE)?;
+    show(rt, "38 rows", &mixed(38), 1, PAGE)?;
+    show(rt, "38 rows", &mixed(38), 2, PAGE)?;
+    show(rt, "38 rows", &mixed(38), u64::MAX, PAGE)
 }
 
 // The greatest numbers, and none.
 fn numbers(rt: &impl Print) -> io::Result<()> {
     let mut post = Post::fresh();
     post.carry(carried_row(0, 0, 0, 1, 0));
-    post.carry(carried_row(MOST_SLOT - 1, MOST_SLOT, 0xFF, MOST_EXPIRY, 255));
-    post.entomb(MOST_SLOT, 0xAB, MOST_EXPIRY);
-    show(rt, "least and greatest numbers", &post, 0, 1620)?;
+    post.carry(carried_row(u64::MAX - 1, u64::MAX, 0xFF, u32::MAX, 255));
+    post.entomb(u64::MAX, 0xAB, u32::MAX);
+    show(rt, "least and greatest numbers", &post, 0, PAGE)?;
     let mut held = Post::fresh();
-    held.carry(carried_row(7, 12, 0x0A, MOST_EXPIRY, 1));
-    show(rt, "the last minute", &held.at_clock(MOST_SLOT), 0, 1620)
+    held.carry(carried_row(7, 12, 0x0A, u32::MAX, 1));
+    show(rt, "the last minute", &held.at_clock(u64::MAX), 0, PAGE)
 }
 
 // A carried row and a tombstone that expire at minute 10: a second before it, at it, and a minute later.
@@ -139,16 +145,16 @@ fn clocks(rt: &impl Print) -> io::Result<()> {
     let mut post = Post::fresh();
     post.carry(carried_row(3, 5, 0x11, 10, 6));
     post.entomb(4, 0x22, 10);
-    show(rt, "clock 599", &post.at_clock(599), 0, 1620)?;
-    show(rt, "clock 600", &post.at_clock(600), 0, 1620)?;
-    show(rt, "clock 660", &post.at_clock(660), 0, 1620)
+    show(rt, "clock 599", &post.at_clock(599), 0, PAGE)?;
+    show(rt, "clock 600", &post.at_clock(600), 0, PAGE)?;
+    show(rt, "clock 660", &post.at_clock(660), 0, PAGE)
 }
 
 fn areas(rt: &impl Print) -> io::Result<()> {
-    show(rt, "short area", &mixed(1), 0, 1619)?;
+    show(rt, "short area", &mixed(1), 0, PAGE - 1)?;
     show(rt, "no area", &mixed(1), 0, 0)?;
-    show(rt, "longer area", &mixed(1), 0, 1621)?;
-    show(rt, "full page", &mixed(19), 0, 1621)
+    show(rt, "longer area", &mixed(1), 0, PAGE + 1)?;
+    show(rt, "full page", &mixed(19), 0, PAGE + 1)
 }
 
 // Slots that no call leaves: one of both kinds, and one that falls.
@@ -157,7 +163,7 @@ fn garbage(rt: &impl Print) -> io::Result<()> {
     post.carry(carried_row(9, 5, 0x11, 100, 6));
     post.carry(carried_row(2, 5, 0x33, 100, 6));
     post.entomb(9, 0x22, 100);
-    show(rt, "slots that do not rise", &post, 0, 1620)
+    show(rt, "slots that do not rise", &post, 0, PAGE)
 }
 
 fn main(rt: HostRuntime) -> io::Result<()> {

@@ -6,7 +6,13 @@ ghost use Rattle.sha384.specs.Padding.{zero_bits, padding};
 ghost use Rattle.sha384.specs.Sha384.{H0, hashed, digest, sha384};
 
 use octets::{copy_in, put_u64};
-use sha_block::block;
+use sha_block::{BLOCK, block};
+
+// The bytes at the end of a padded message that say its length in bits.
+const LENGTH: usize = 16;
+
+// The bytes of a digest.
+pub const DIGEST: usize = 48;
 
 // 5.3.4: the initial hash value.
 #[tactic(auto, unfolding(crate::specs::Sha384::H0))]
@@ -25,14 +31,15 @@ pub fn start() -> [u64; 8]
     ]
 }
 
-// The hash value after the whole blocks of m, from the hash value g.
+// The hash value after the whole blocks of m, from the hash value g. (By an index: block i is the part of m at 128 * i, as the standard numbers them, so that
+// the loop's invariant is the definition; by `as_chunks` it would go over laws of chunks. An array is assigned through a local, as in `sha_block`.)
 #[tactic(auto, unfolding(crate::specs::Sha384::hashed, crate::specs::Sha384::next, sha_block::specs::Loop::turns))]
 pub fn blocks(g: [u64; 8], m: &[u8]) -> [u64; 8]
     ensures { result ≡ hashed g m.now }
 {
     let mut h = g;
-    for i in 0..m.len() / 128 {
-        let next = block(h, m, 128 * i);
+    for i in 0..m.len() / BLOCK {
+        let next = block(h, m, BLOCK * i);
         h = next;
     }
     h
@@ -42,19 +49,23 @@ pub fn blocks(g: [u64; 8], m: &[u8]) -> [u64; 8]
 fn end_of(n: usize) -> usize
     ensures { result ≡ n % 128 + 17 + zero_bits (8 * n) / 8 }
 {
-    if n % 128 < 112 { 128 } else { 256 }
+    if n % BLOCK < BLOCK - LENGTH {
+        BLOCK
+    } else {
+        2 * BLOCK
+    }
 }
 
 // 5.1.2: the end of a message of n bytes with its padding, e bytes in all. m is the message from one of its blocks on.
-fn padded_end(m: &[u8], n: usize, e: usize) -> [u8; 256]
+fn padded_end(m: &[u8], n: usize, e: usize) -> [u8; 2 * BLOCK]
     requires { (length m.now % 128 ≡ n % 128) × (e ≡ n % 128 + 17 + zero_bits (8 * n) / 8) }
     ensures { take e result ≡ drop (128 * (length m.now / 128)) m.now ++ padding n }
 {
-    let from = 128 * (m.len() / 128);
-    let mut x = [0; 256];
+    let from = BLOCK * (m.len() / BLOCK);
+    let mut x = [0; 2 * BLOCK];
     copy_in(&mut x, 0, &m[from..]);
-    x[n % 128] = 128;
-    put_u64(&mut x, e - 16, (n >> 61) as u64);
+    x[n % BLOCK] = 0x80;
+    put_u64(&mut x, e - LENGTH, (n >> 61) as u64);
     put_u64(&mut x, e - 8, (n << 3) as u64);
     x
 }
@@ -74,10 +85,10 @@ pub fn hash_rest(g: [u64; 8], p: usize, m: &[u8]) -> [u64; 8]
 
 // 6.5: the digest.
 #[tactic(auto, using(crate::proofs::Ends::digested, crate::proofs::Ends::bytes_none))]
-pub fn digest_of(h: [u64; 8]) -> [u8; 48]
+pub fn digest_of(h: [u64; 8]) -> [u8; DIGEST]
     ensures { result ≡ digest h }
 {
-    let mut d = [0; 48];
+    let mut d = [0; DIGEST];
     for i in 0..6 {
         put_u64(&mut d, 8 * i, h[i]);
     }
@@ -86,7 +97,7 @@ pub fn digest_of(h: [u64; 8]) -> [u8; 48]
 
 // SHA-384.
 #[tactic(auto, using(crate::proofs::Whole::whole))]
-pub fn hash(m: &[u8]) -> [u8; 48]
+pub fn hash(m: &[u8]) -> [u8; DIGEST]
     ensures { result ≡ sha384 m.now }
 {
     digest_of(hash_rest(start(), 0, m))
@@ -94,9 +105,9 @@ pub fn hash(m: &[u8]) -> [u8; 48]
 
 // SHA-384 of a block of 128 bytes with m after it, which HMAC asks for.
 #[tactic(auto, using(crate::proofs::Whole::after))]
-pub fn hash_after(first: &[u8; 128], m: &[u8]) -> [u8; 48]
+pub fn hash_after(first: &[u8; BLOCK], m: &[u8]) -> [u8; DIGEST]
     ensures { result ≡ sha384 (first.now ++ m.now) }
 {
     let g = block(start(), first, 0);
-    digest_of(hash_rest(g, 128, m))
+    digest_of(hash_rest(g, BLOCK, m))
 }

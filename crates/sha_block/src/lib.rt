@@ -10,6 +10,9 @@ ghost use Rattle.sha_block.specs.Block.{mixed, longer, schedule, T1, T2, turned,
 use octets::get_u64;
 use sha_word::{big_sigma0, big_sigma1, ch, maj, small_sigma0, small_sigma1};
 
+// The bytes of a block.
+pub const BLOCK: usize = 128;
+
 // 4.2.3: the constants.
 static TABLE: [u64; 80] = [
     0x428a_2f98_d728_ae22,
@@ -105,7 +108,8 @@ fn mix(x: u64, y: u64, z: u64, v: u64) -> u64
         .wrapping_add(v)
 }
 
-// Step 1 for t = 0 to 15: the words of the block at `at`, with room for the others.
+// Step 1 for t = 0 to 15: the words of the block at `at`, with room for the others. (All eighty are kept, as the standard has them: sixteen in a
+// ring would take an index modulo 16 at each use.)
 fn load(m: &[u8], at: usize) -> [u64; 80]
     requires { at + 128 ≤ length m.now }
     ensures { schedule (part m.now at 128) ≡ turns (longer (part m.now at 128)) 64 16 (take 16 result) }
@@ -167,7 +171,7 @@ fn one(w: &[u64; 80], s: [u64; 8], t: usize) -> [u64; 8]
     turn(s, TABLE[t], w[t])
 }
 
-// Step 3: four rounds, from t on. Four to a turn of the loop save the moves from variable to variable.
+// Step 3: four rounds, from t on. (Four in each pass of the loop: with one, each pass moves the eight words from variable to variable.)
 #[tactic(auto, using(crate::proofs::Steps::four_rounds))]
 fn four(w: &[u64; 80], s: [u64; 8], t: usize) -> [u64; 8]
     requires { t + 4 ≤ 80 }
@@ -179,7 +183,8 @@ fn four(w: &[u64; 80], s: [u64; 8], t: usize) -> [u64; 8]
     one(w, c, t + 3)
 }
 
-// Step 3: the eighty rounds.
+// Step 3: the eighty rounds. (An array that a call answers is assigned through a local: assigned straight, the borrow check does not cover
+// it.)
 #[tactic(auto, using(crate::proofs::Loop::turns_none))]
 fn rounds(w: &[u64; 80], h: [u64; 8]) -> [u64; 8]
     ensures { result ≡ turns (round w.now) 80 0 h }
@@ -192,7 +197,7 @@ fn rounds(w: &[u64; 80], h: [u64; 8]) -> [u64; 8]
     s
 }
 
-// Step 4.
+// Step 4: eight sums, written out as in the standard. (A loop over them would take an invariant.)
 #[tactic(auto, unfolding(crate::specs::Block::summed))]
 fn add_to(s: [u64; 8], h: [u64; 8]) -> [u64; 8]
     ensures { result ≡ summed s h }

@@ -4,7 +4,7 @@
 ghost use Rattle.std.specs.Prelude.{◌≡◌, ◌<◌};
 ghost use Rattle.sha_word.specs.Word.{ROTR, Ch, Maj, Σ0, Σ1, σ0, σ1};
 
-// 3.2, 4: the bits of x moved right by n, those that fall off coming back on the left.
+// 3.2, 4: the bits of x moved right by n, and its n lowest bits put at the left.
 #[tactic(auto, unfolding(crate::specs::Word::ROTR))]
 pub fn rotr(x: u64, n: u64) -> u64
     requires { (0 < n) × (n < 64) }
@@ -29,8 +29,8 @@ pub fn maj(x: u64, y: u64, z: u64) -> u64
     (x & y) ^ (x & z) ^ (y & z)
 }
 
-// (4.10) to (4.13) are four functions by their numbers, as in the standard. One over the numbers would not be enough: the last term turns
-// in two of them and shifts in the others.
+// (4.10) to (4.13) are four functions of one line, each with the name and the numbers that it has in the standard. The last term turns in
+// two of them and shifts in the others: two functions over three numbers would take the four names away, and be no shorter.
 
 // (4.10)
 pub fn big_sigma0(x: u64) -> u64

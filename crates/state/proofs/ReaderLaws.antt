@@ -31,9 +31,6 @@ module _ {A : Type 0} (n : ℕ) (s : List ℕ) (at : ℕ) (got : List ℕ → A)
       go true p q = cc
       go false p q = leb-false (at + n) (length s) p
 
-pub array_inside : (n : ℕ) (s : List ℕ) (at : ℕ) {bs : List ℕ} → Some bs ≡ array_at n s at → at + n ≤ length s
-array_inside n s at {bs} e = (take_some n s at (λ b. b) bs (sym e)).0
-
 -- a byte, by what its array gave
 pub byte_some : (s : List ℕ) (at : ℕ) {bs : List ℕ} → Some bs ≡ array_at 1 s at → Some (get_or bs 0 0) ≡ byte_at s at
 byte_some s at {bs} e =

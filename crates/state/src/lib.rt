@@ -30,6 +30,7 @@ impl CourierConfig {
 
     pub const DEFAULT_LIFETIME: u16 = 1_440;
 
+    // (Two comparisons each: tried with `contains` of a range, whose value the proof then has to open, twice for each.)
     pub fn new(enabled: bool, copies: u8, lifetime: u16) -> Result<CourierConfig, Refusal>
         ensures { IsConfigured enabled copies lifetime result }
     {
@@ -46,10 +47,12 @@ impl CourierConfig {
             lifetime_min: lifetime,
         })
     }
+}
 
-    pub fn default() -> CourierConfig
-        ensures { result ≡ config_default }
-    {
+impl Default for CourierConfig {
+    ghost is_default = { λ c. c ≡ config_default };
+
+    fn default() -> CourierConfig {
         CourierConfig {
             enabled: true,
             copies: CourierConfig::DEFAULT_COPIES,
@@ -73,34 +76,78 @@ pub struct Tombstone {
     pub expiry_min: u32,
 }
 
-// ---- a row, written
+// ---- the form of a row
 
 // The bytes of a ciphertext's cell, of a carried row before its ciphertext, and of the area for any row.
 pub const CELL: usize = 2_064;
 
-pub const CARRIED_HEAD: usize = 46;
+pub const CARRIED_HEAD: usize = HEADER_AT + courier::ENVELOPE_HEADER;
 
-pub const BLOB: usize = 2_110;
+pub const BLOB: usize = CARRIED_HEAD + CELL;
+
+// The bytes of a tombstone's row.
+pub const TOMBSTONE_ROW: usize = 37;
+
+// A row's first byte.
+const CARRIED_KIND: u8 = 0;
+
+const TOMBSTONE_KIND: u8 = 1;
+
+// Where the fields stand behind it: of a carried row, and of a tombstone.
+pub const DEPOSITOR_AT: usize = 1;
+
+pub const HEADER_AT: usize = 9;
+
+const TAG_AT: usize = 1;
+
+const SECRET_AT: usize = 17;
+
+const EXPIRY_AT: usize = 33;
+
+// ---- the form of the saved file, which `saved` writes and `load_tests` reads
+
+// A file starts with its mark and the next slot; behind them stand its records.
+pub const FILE_HEAD: usize = MARK_LEN + 8;
+
+// A record starts with its mark, its slot and the length of its blob; behind them stands the blob.
+pub const RECORD_HEAD: usize = LEN + 2;
+
+// Where the number behind a mark stands: the next slot in a file, the slot in a record.
+pub const SLOT: usize = MARK_LEN;
+
+// Where a record has the length of its blob.
+pub const LEN: usize = SLOT + 8;
+
+const MARK_LEN: usize = 2;
+
+// What a mark stands before, by its second letter: the next slot, a carried row's record, a tombstone's. The first letter is `H`.
+pub const NEXT_LETTER: u8 = b'N';
+
+pub const CARRIED_LETTER: u8 = b'C';
+
+pub const TOMBSTONE_LETTER: u8 = b'T';
+
+// ---- a row, written
 
 // The bytes of a carried row before its ciphertext.
 #[tactic(auto, using(crate::proofs::RowLaws::head_made))]
-fn carried_head(row: Carried) -> [u8; 46]
+fn carried_head(row: Carried) -> [u8; CARRIED_HEAD]
     ensures { result ≡ carried_head row }
 {
-    let mut b = [0u8; 46];
-    octets::put_u64(&mut b, 1, row.depositor.0);
-    octets::put_array(&mut b, 9, courier::header_bytes(row.header));
+    let mut b = [CARRIED_KIND; CARRIED_HEAD];
+    octets::put_u64(&mut b, DEPOSITOR_AT, row.depositor.0);
+    octets::put_array(&mut b, HEADER_AT, courier::header_bytes(row.header));
     b
 }
 
 #[tactic(auto, using(crate::proofs::RowLaws::tombstone_made))]
-fn tombstone_bytes(t: Tombstone) -> [u8; 37]
+fn tombstone_bytes(t: Tombstone) -> [u8; TOMBSTONE_ROW]
     ensures { result ≡ held_row (tombstone t) }
 {
-    let mut b = [1u8; 37];
-    octets::put_array(&mut b, 1, t.tag);
-    octets::put_array(&mut b, 17, t.s);
-    octets::put_u32(&mut b, 33, t.expiry_min);
+    let mut b = [TOMBSTONE_KIND; TOMBSTONE_ROW];
+    octets::put_array(&mut b, TAG_AT, t.tag);
+    octets::put_array(&mut b, SECRET_AT, t.s);
+    octets::put_u32(&mut b, EXPIRY_AT, t.expiry_min);
     b
 }
 
@@ -130,53 +177,6 @@ pub fn tombstone_row(t: Tombstone, blob: &mut [u8]) -> Result<usize, Refusal>
     Ok(b.len())
 }
 
-// ---- what stands at a position of a blob, if it is all there
-
-#[tactic(auto, unfolding(crate::specs::Reader::take_at))]
-pub fn array_at<const N: usize>(s: &[u8], at: usize) -> Option<[u8; N]>
-    ensures { result ≡ array_at N s.now at }
-{
-    if courier::within(s.len(), at, N) {
-        Some(octets::get_array(s, at))
-    } else {
-        None
-    }
-}
-
-#[tactic(auto, unfolding(crate::specs::Reader::take_at))]
-pub fn byte_at(s: &[u8], at: usize) -> Option<u8>
-    ensures { result ≡ byte_at s.now at }
-{
-    if at < s.len() {
-        Some(octets::get_u8(s, at))
-    } else {
-        None
-    }
-}
-
-// A function for each type of number, here and in the reader, as in state.rs: `from_be_bytes` is a method of each, and no trait of
-// std has it. A sum over the bytes would be longer.
-#[tactic(auto, using(crate::proofs::ReaderLaws::number_none))]
-pub fn u32_at(s: &[u8], at: usize) -> Option<u32>
-    ensures { result ≡ u32_at s.now at }
-{
-    Some(u32::from_be_bytes(array_at(s, at)?))
-}
-
-#[tactic(auto, using(crate::proofs::ReaderLaws::number_none))]
-pub fn u64_at(s: &[u8], at: usize) -> Option<u64>
-    ensures { result ≡ u64_at s.now at }
-{
-    Some(u64::from_be_bytes(array_at(s, at)?))
-}
-
-// Is nothing left?
-pub fn end_at(s: &[u8], at: usize) -> bool
-    ensures { result ≡ nat_le (length s.now) at }
-{
-    s.len() <= at
-}
-
 // ---- the reader
 
 // state.rs's `Reader`: it refers to a blob and steps along it. A step goes past what it gives; where the bytes run out it gives
@@ -202,16 +202,21 @@ impl<'a> Reader<'a> {
         Some(self.array::<1>()?[0])
     }
 
-    #[tactic(auto, using(crate::proofs::ReaderLaws::array_inside))]
+    #[tactic(auto, unfolding(crate::specs::Reader::take_at))]
     fn array<const N: usize>(&mut self) -> Option<[u8; N]>
         ensures gives { result ≡ array_at N self.old.blob.now self.old.at }
         ensures steps { Steps self.old result N self.new }
     {
-        let bytes = array_at(self.blob, self.at)?;
+        if !courier::within(self.blob.len(), self.at, N) {
+            return None;
+        }
+        let bytes = octets::get_array(self.blob, self.at);
         self.at += N;
         Some(bytes)
     }
 
+    // A function for each type of number, as in state.rs: `from_be_bytes` is a method of each, and no trait of std has it. A sum over the
+    // bytes would be longer.
     #[tactic(auto, using(crate::proofs::ReaderLaws::number_none))]
     fn u32(&mut self) -> Option<u32>
         ensures gives { result ≡ u32_at self.old.blob.now self.old.at }
@@ -232,7 +237,7 @@ impl<'a> Reader<'a> {
     fn end(&self) -> bool
         ensures { result ≡ nat_le (length self.now.blob.now) self.now.at }
     {
-        end_at(self.blob, self.at)
+        self.blob.len() <= self.at
     }
 }
 
@@ -282,8 +287,8 @@ pub fn decode(blob: &[u8]) -> Option<Held>
 {
     let mut r = Reader::new(blob);
     match r.byte()? {
-        0 => decode_carried(r),
-        1 => decode_tombstone(r),
+        CARRIED_KIND => decode_carried(r),
+        TOMBSTONE_KIND => decode_tombstone(r),
         _ => None,
     }
 }

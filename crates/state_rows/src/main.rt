@@ -1,11 +1,11 @@
 // Boundary values of courier and state, one short line for each.
 #![tactic(auto)]
 
-use chain::Dir;
+use chain::{Dir, TAG_LEN};
 use courier::{Custody, Header};
 use courier_core::{ContactId, Refusal};
-use state::{Carried, CourierConfig, Held, Tombstone};
-use std::io;
+use state::{BLOB, CELL, Carried, CourierConfig, Held, TOMBSTONE_ROW, Tombstone};
+use std::{fmt, io};
 
 fn yes(b: bool) -> &'static str {
     if b { "yes" } else { "no" }
@@ -13,11 +13,17 @@ fn yes(b: bool) -> &'static str {
 
 // ---- courier: tags and commitments
 
-fn line_of_hex(rt: &impl Print, a: [u8; 16]) -> io::Result<()> {
-    for byte in &a {
-        print!(rt; "{byte:02x}")?;
+// A tag, a commitment or a secret, in hexadecimal. (vectors has the same for bytes of any number: no crate below both is about printing.)
+#[derive(Clone, Copy)]
+struct Hex([u8; 16]);
+
+impl fmt::Display for Hex {
+    fn fmt<W: fmt::Write>(&self, f: &mut fmt::Formatter<W>) -> fmt::Result {
+        for byte in &self.0 {
+            write!(f, "{byte:02x}")?;
+        }
+        Ok(())
     }
-    println!(rt;)
 }
 
 fn key() -> [u8; 32] {
@@ -28,8 +34,8 @@ fn key() -> [u8; 32] {
 }
 
 fn show_tag(rt: &impl Print, dir: Dir, generation: u8, idx: u32) -> io::Result<()> {
-    print!(rt; "tag {generation} {idx} ")?;
-    line_of_hex(rt, courier::route_tag(key(), dir, generation, idx))
+    let tag = courier::route_tag(key(), dir, generation, idx);
+    println!(rt; "tag {generation} {idx} {}", Hex(tag))
 }
 
 // An index has one to five bytes.
@@ -40,7 +46,7 @@ fn tags(rt: &impl Print) -> io::Result<()> {
     show_tag(rt, Dir::I, 1, 128)?;
     show_tag(rt, Dir::R, 1, 16384)?;
     show_tag(rt, Dir::I, 1, 2097152)?;
-    show_tag(rt, Dir::R, 255, 4294967295)
+    show_tag(rt, Dir::R, 255, u32::MAX)
 }
 
 // A commitment of which one byte is another does not match.
@@ -49,10 +55,8 @@ fn secrets(rt: &impl Print) -> io::Result<()> {
     let c = courier::commitment(s);
     let mut near = c;
     near[15] ^= 1;
-    print!(rt; "delivered ")?;
-    line_of_hex(rt, s)?;
-    print!(rt; "commitment ")?;
-    line_of_hex(rt, c)?;
+    println!(rt; "delivered {}", Hex(s))?;
+    println!(rt; "commitment {}", Hex(c))?;
     for x in [c, s, near] {
         println!(rt; "matches {}", yes(courier::tombstone_matches(x, s)))?;
     }
@@ -66,10 +70,10 @@ fn show_valid(rt: &impl Print, len: usize, copies: u8, expiry: u32, minute: u32)
     println!(rt; "valid {len} {copies} {expiry} {minute} {}", yes(valid))
 }
 
-// Each bucket's ciphertext length, and one either side.
+// The ciphertext length of 0, which is no bucket, and of each bucket, and one either side.
 fn buckets(rt: &impl Print) -> io::Result<()> {
     for inner in [0, 32, 64, 128, 256, 512, 1024, 2048, 4048] {
-        for len in inner + 15..inner + 18 {
+        for len in inner + TAG_LEN - 1..inner + TAG_LEN + 2 {
             show_valid(rt, len, 1, 11, 10)?;
         }
     }
@@ -84,14 +88,14 @@ fn copies_and_expiry(rt: &impl Print) -> io::Result<()> {
     show_valid(rt, 48, 1, 10, 10)?;
     show_valid(rt, 48, 1, 0, 0)?;
     show_valid(rt, 48, 1, 1, 0)?;
-    show_valid(rt, 48, 1, 4294967294, 4294967295)?;
-    show_valid(rt, 48, 1, 4294967295, 4294967295)?;
-    show_valid(rt, 48, 1, 4294967295, 4294967294)
+    show_valid(rt, 48, 1, u32::MAX - 1, u32::MAX)?;
+    show_valid(rt, 48, 1, u32::MAX, u32::MAX)?;
+    show_valid(rt, 48, 1, u32::MAX, u32::MAX - 1)
 }
 
 // Of all 256 bytes those that are codes, each with its byte again.
 fn codes(rt: &impl Print) -> io::Result<()> {
-    for byte in 0..=255u8 {
+    for byte in 0..=u8::MAX {
         if let Some(custody) = Custody::from_code(byte) {
             println!(rt; "code {byte} {}", custody.code())?;
         }
@@ -156,7 +160,10 @@ fn delivered() -> Tombstone {
     }
 }
 
-// What was answered, and how many bytes are no longer 0xEE.
+// What stands in an area before a row is written.
+const BEFORE: u8 = 0xEE;
+
+// What was answered, and how many bytes are no longer as before.
 fn show_area(
     rt: &impl Print,
     name: &str,
@@ -170,7 +177,7 @@ fn show_area(
     }
     println!(rt;
         " changed {}",
-        area.iter().filter(|byte| **byte != 0xEE).count()
+        area.iter().filter(|byte| **byte != BEFORE).count()
     )
 }
 
@@ -185,11 +192,11 @@ fn tombstone_area(rt: &impl Print, area: &mut [u8]) -> io::Result<()> {
 }
 
 fn areas(rt: &impl Print) -> io::Result<()> {
-    let mut short = [0xEEu8; 2109];
+    let mut short = [BEFORE; BLOB - 1];
     carried_area(rt, &mut short)?;
     tombstone_area(rt, &mut short)?;
-    carried_area(rt, &mut [0xEE; 2110])?;
-    tombstone_area(rt, &mut [0xEE; 2111])
+    carried_area(rt, &mut [BEFORE; BLOB])?;
+    tombstone_area(rt, &mut [BEFORE; BLOB + 1])
 }
 
 fn show_carried(rt: &impl Print, row: Carried) -> io::Result<()> {
@@ -219,25 +226,26 @@ fn show_read(rt: &impl Print, blob: &[u8]) -> io::Result<()> {
     }
 }
 
-// A carried row with n bytes of ciphertext, one more than a cell at most, written and read back.
+// A carried row with n bytes of ciphertext, one more than a cell at most, written and read back. (The lesser of the two, twice: the check asks that a
+// slice ends inside its array, and `n` and `len` may be any number.)
 fn carried_back(rt: &impl Print, copies: u8, expiry: u32, n: usize) -> io::Result<()> {
-    let ct = [7u8; 2065];
-    let mut area = [0xEEu8; 2110];
-    let ct = &ct[..n.min(2065)];
+    let ct = [7u8; CELL + 1];
+    let mut area = [BEFORE; BLOB];
+    let ct = &ct[..n.min(CELL + 1)];
     let len = state::carried_row(envelope(copies, expiry), ct, &mut area).unwrap_or(0);
     print!(rt; "row {n} {len}")?;
-    show_read(rt, &area[..len.min(2110)])
+    show_read(rt, &area[..len.min(BLOB)])
 }
 
 fn rows(rt: &impl Print) -> io::Result<()> {
     carried_back(rt, 9, 100, 48)?;
-    carried_back(rt, 255, 4294967295, 80)?;
+    carried_back(rt, 255, u32::MAX, 80)?;
     carried_back(rt, 1, 1, 144)?;
     carried_back(rt, 9, 100, 272)?;
     carried_back(rt, 9, 100, 528)?;
     carried_back(rt, 9, 100, 1040)?;
-    carried_back(rt, 9, 100, 2064)?;
-    carried_back(rt, 9, 100, 2065)?;
+    carried_back(rt, 9, 100, CELL)?;
+    carried_back(rt, 9, 100, CELL + 1)?;
     carried_back(rt, 0, 100, 48)?;
     carried_back(rt, 9, 0, 48)?;
     carried_back(rt, 0, 0, 48)?;
@@ -246,17 +254,21 @@ fn rows(rt: &impl Print) -> io::Result<()> {
     carried_back(rt, 9, 100, 49)
 }
 
-fn tombstone_blob() -> [u8; 2110] {
-    let mut blob = [0xEEu8; 2110];
+// A tombstone's row, and the rest of the area as before.
+fn tombstone_blob() -> [u8; BLOB] {
+    let mut blob = [BEFORE; BLOB];
     let _ = state::tombstone_row(delivered(), &mut blob);
     blob
 }
 
-// Of a tombstone's fronts of 0 to 48 bytes those that are rows.
+// The longest front of a tombstone's area that is read.
+const FRONT: usize = 48;
+
+// Of the fronts up to that length those that are rows.
 fn tombstone_fronts(rt: &impl Print) -> io::Result<()> {
     let blob = tombstone_blob();
     print!(rt; "fronts")?;
-    for n in 0..49 {
+    for n in 0..=FRONT {
         if state::decode(&blob[..n]).is_some() {
             print!(rt; " {n}")?;
         }
@@ -264,12 +276,12 @@ fn tombstone_fronts(rt: &impl Print) -> io::Result<()> {
     println!(rt;)
 }
 
-// A tombstone's 37 bytes with any byte in the place of its kind: two of the four that are shown are no kind.
+// A tombstone's bytes with any byte in the place of its kind: two of the four that are shown are no kind.
 fn show_kind(rt: &impl Print, byte: u8) -> io::Result<()> {
     let mut blob = tombstone_blob();
     blob[0] = byte;
     print!(rt; "kind {byte}")?;
-    show_read(rt, &blob[0..37])
+    show_read(rt, &blob[0..TOMBSTONE_ROW])
 }
 
 fn kinds(rt: &impl Print) -> io::Result<()> {

@@ -118,6 +118,10 @@ module _ (w n : ℕ) (a : List ℕ) (p : List ℕ → Bool) where
   row_next i h row e b t {d} f =
       position_next p (rows w n a) i (part a (i * w) w) d (rows_next w i n a h) (sym (ap p e) ∙ sym t ∙ f)
 
+  pub row_counted : (i : ℕ) → i < n → (row : List ℕ) → row ≡ part a (i * w) w → (b : Bool) → b ≡ p row → {d : Bool} → b ≡ d
+      → count_by p (drop i (rows w n a)) ≡ cond d (suc (count_by p (drop (i + 1) (rows w n a)))) (count_by p (drop (i + 1) (rows w n a)))
+  row_counted i h row e b t {d} f = count_next p (rows w n a) i (part a (i * w) w) d (rows_next w i n a h) (sym (ap p e) ∙ sym t ∙ f)
+
   pub rows_end : (i : ℕ) → n ≤ i → position_from i p (drop i (rows w n a)) ≡ None
   rows_end i h = position_end p (rows w n a) i (omega (arith, length_rows w n a))
 

@@ -1,6 +1,6 @@
 -- Laws of the rows of an area and of an area with rows written at its front, over any width.
 -- Assumes nothing.
-use mathlib.Core.Path.{◌≡◌, refl, sym, ap, ap₂, ◌∙◌, subst}
+use mathlib.Core.Path.{◌≡◌, refl, sym, ap, ap₂, ◌∙◌}
 use mathlib.Core.List.{List, [], ◌∷◌, ◌++◌, append_assoc, append-nil}
 use Prim.Native.Nat.{ℕ, zero, suc, ◌+◌, ◌-◌, ◌*◌, ◌/◌, ◌≤◌, ◌<◌, min}
 use native.Mathlib.Nat.{add-zero, zero-add, zero-mul, suc-add, suc-mul, add-mul, one-mul, mul_comm, mul-sub, mul-le-mul_right, div-mul-le_self, mul-add-div_right, mul-div_cancel, le-div_iff_mul-le, min-eq_left, min-le_left, min-le_right}
@@ -8,7 +8,7 @@ use native.Mathlib.Omega.{arith}
 use lib.ListN.{length, take, drop, get_or, length-append, length-drop, drop_of_length-le}
 use lib.Seq.{take-add, drop-drop, take_at, drop_at, take-append-le, drop-append-le, get_or-drop, length-take-le, drop-append-add}
 use Rattle.octets.specs.Bytes.{Bytes, splice, part}
-use Rattle.octets.proofs.Parts.{part_part}
+use Rattle.octets.proofs.Parts.{length_part}
 use Rattle.octets.proofs.Numbers.{bytes_take, bytes_drop}
 use Rattle.table.specs.Lists.{All, none, more}
 use Rattle.table.specs.Rows.{held, rows, all_rows, join, written, Fits, RowsNow}
@@ -21,6 +21,14 @@ mul_le w h = mul-le-mul_right w h
 -- row i lies within n rows
 pub row_in : (i n w : ℕ) → i < n → i * w + w ≤ n * w
 row_in i n w h = omega (arith, suc-mul i w, mul_le {i = suc i} {n = n} w h)
+
+-- row i as the code takes it out of an area, and its length
+module _ (a : List ℕ) (w i n : ℕ) where
+  pub row_at : part a (i * w) (i * w + w - i * w) ≡ part a (i * w) w
+  row_at = let e : i * w + w - i * w ≡ w = omega arith in ap (part a (i * w)) e
+
+  pub length_row : i < n → n * w ≤ length a → length (part a (i * w) (i * w + w - i * w)) ≡ w
+  length_row h f = ap length row_at ∙ length_part a (i * w) w (omega (arith, row_in i n w h))
 
 -- and row i of those that fit within their area
 pub row_of_lem : (i w len : ℕ) → i < len / w → i * w + w ≤ len
@@ -103,10 +111,6 @@ module _ (w : ℕ) where
   get_d_rows i n a d h =
       ap (λ (k : ℕ). get_or (rows w n a) k d) (sym (add-zero i)) ∙ sym (get_or-drop i (rows w n a) 0 d)
       ∙ ap (λ (l : List (List ℕ)). get_or l 0 d) (rows_next i n a h)
-
-  -- a field of row i
-  pub row_field : (i n : ℕ) (a d : List ℕ) (o m : ℕ) → i < n → o + m ≤ w → part (get_or (rows w n a) i d) o m ≡ part a (i * w + o) m
-  row_field i n a d o m h f = ap (λ (r : List ℕ). part r o m) (get_d_rows i n a d h) ∙ part_part a (i * w) w o m f
 
   -- the bytes of the rows are the area's
   pub join_rows : (n : ℕ) (a : List ℕ) → join (rows w n a) ≡ take (n * w) a
@@ -260,26 +264,3 @@ module _ {w : ℕ} (a x : List ℕ) (rs : List (List ℕ)) (m : ℕ) where
         inside = omega (arith, ap length ex, length_written a rs lj);
         bytes = b;
       }
-
--- no row so far
-pub rows_start : (w : ℕ) (a : List ℕ) → Bytes a → RowsNow w a [] 0 a
-rows_start w a b = rows_now a a [] 0 b none (omega (arith, zero-mul w)) refl (sym (written_none a))
-
--- the bytes of the rows that there are now
-length_now : {w : ℕ} {a : List ℕ} {rs : List (List ℕ)} {m : ℕ} {x : List ℕ} → RowsNow w a rs m x → length (join rs) ≡ m * w
-length_now {w} {rs = rs} {m} {x} R =
-    length_join rs (subst (Wide w) R.rows (wide_rows w m x R.inside)) ∙ ap (λ (k : ℕ). k * w) (sym R.count)
-
--- one change after another, which leaves no fewer rows, is one change of what stood there first
-pub rows_then : {w : ℕ} {a x y : List ℕ} {rs : List (List ℕ)} {n m : ℕ} (f : List (List ℕ) → List (List ℕ)) → n ≤ m
-    → RowsNow w a rs n x → RowsNow w x (f (rows w n x)) m y → RowsNow w a (f rs) m y
-rows_then {w} {a} {x} {y} {rs} {n} {m} f h R S =
-    let T : RowsNow w x (f rs) m y = subst (λ (l : List (List ℕ)). RowsNow w x (f l) m y) R.rows S in
-    let l : length (join rs) ≤ length (join (f rs)) = omega (arith, length_now R, length_now T, mul_le w h) in
-    record {
-      count = T.count;
-      area = T.area ∙ ap (λ (z : List ℕ). written z (f rs)) R.area ∙ written_over a rs (f rs) l;
-      rows = T.rows;
-      inside = T.inside;
-      bytes = R.bytes;
-    }

@@ -1,16 +1,19 @@
 // Tables of rows of any width in a lent area of bytes: one set of functions, and of proofs, for every width.
 // A table's rows stand at the front of its area, in the order in which they are read; n says how many there are.
+// (The functions take area, width and n, and the methods of Table stand over them: an area that changes is no Table, which is lent to be read. As a
+// const parameter the width would be written at each call all the same, where a Table has it from its type.)
 #![tactic(auto)]
 
 ghost use Rattle.std.specs.Prelude.{◌≡◌, ℕ, Bool, List, [], ◌∷◌, ◌++◌, ◌+◌, ◌-◌, ◌*◌, ◌≤◌, ◌<◌, length};
 ghost use Rattle.octets.specs.Bytes.{splice, part};
-ghost use Rattle.table.specs.Lists.{insert_at, remove_at, replace_at, position, any};
+ghost use Rattle.table.specs.Lists.{insert_at, remove_at, replace_at, filter, count_by, position, any};
 ghost use Rattle.table.specs.Rows.{rows, held, has_key, Fits, RowsNow};
 ghost use Rattle.table.specs.Tests.{TakesRows, TestsRows};
 
 pub mod typed;
 
-// How many rows an area of len bytes has by a count that may be anything.
+// How many rows an area of len bytes has by a count that may be anything. (How many it has room for is `len / width`, written so where a call asks whether one
+// more fits.)
 #[tactic(auto, using(crate::proofs::RowLaws::fits))]
 pub fn fit(len: usize, width: usize, count: usize) -> usize
     requires { 0 < width }
@@ -19,7 +22,8 @@ pub fn fit(len: usize, width: usize, count: usize) -> usize
     count.min(len / width)
 }
 
-// The first of the n rows of which the test holds.
+// The first of the n rows of which the test holds. (Here and in `count` by index: std's chunks_exact asks for a width above 0, which these
+// contracts do not ask, and by a rule of the project none may be made to ask more.)
 pub fn position<F: Fn(&[u8]) -> bool>(area: &[u8], width: usize, n: usize, test: F) -> Option<usize>
     requires fits { n * width ≤ length area.now }
     requires callable { TakesRows F.Fn test width }
@@ -43,6 +47,22 @@ pub fn any<F: Fn(&[u8]) -> bool>(area: &[u8], width: usize, n: usize, test: F) -
     position(area, width, n, test).is_some()
 }
 
+// Of how many of the n rows does the test hold?
+pub fn count<F: Fn(&[u8]) -> bool>(area: &[u8], width: usize, n: usize, test: F) -> usize
+    requires fits { n * width ≤ length area.now }
+    requires callable { TakesRows F.Fn test width }
+    ensures { (p : List ℕ → Bool) → TestsRows F.Fn test width p → result ≡ count_by p (rows width n area.now) }
+{
+    let mut found = 0;
+    for index in 0..n {
+        let at = index * width;
+        if test(&area[at..at + width]) {
+            found += 1;
+        }
+    }
+    found
+}
+
 // The first row that has the key at the offset.
 pub fn find(area: &[u8], width: usize, n: usize, offset: usize, key: &[u8]) -> Option<usize>
     requires { (n * width ≤ length area.now) × (offset + length key.now ≤ width) }
@@ -56,7 +76,8 @@ pub fn find(area: &[u8], width: usize, n: usize, offset: usize, key: &[u8]) -> O
     )
 }
 
-// The same, by a walk through every row, from the last to the first, with no early exit.
+// The same, by a walk through every row, from the last to the first. It does not stop at a row that has the key, as `find` does, so its time does
+// not tell which row that is: custody looks for a tag or a prefix in the window by it.
 pub fn scan(area: &[u8], width: usize, n: usize, offset: usize, key: &[u8]) -> Option<usize>
     requires { (n * width ≤ length area.now) × (offset + length key.now ≤ width) }
     ensures { result ≡ position (has_key offset key.now) (rows width n area.now) }
@@ -72,6 +93,8 @@ pub fn scan(area: &[u8], width: usize, n: usize, offset: usize, key: &[u8]) -> O
 }
 
 // A table that is read: rows of W bytes at the front of an area, by a count that may be anything.
+// (It is made by a literal of its two fields. With constructors, methods of Device in contacts, each of some twenty-five callers' proofs had to
+// rewrite by the constructor's equations; tried.)
 #[derive(Clone, Copy)]
 pub struct Table<'a, const W: usize> {
     pub area: &'a [u8],
@@ -79,6 +102,8 @@ pub struct Table<'a, const W: usize> {
     pub ghost wide: { 0 < W },
 }
 
+// (What its rows are is written out in each contract: a definition of it names the struct, and the file of a struct with a ghost field can't name that
+// definition; tried of another such struct.)
 impl<'a, const W: usize> Table<'a, W> {
     // How many rows it has: those that fit.
     pub fn len(self) -> usize
@@ -168,8 +193,8 @@ pub fn replace(area: &mut [u8], width: usize, n: usize, i: usize, row: &[u8])
     octets::copy_in(area, i * width, row);
 }
 
-// Moves row i down to place k, if it is not there. A loop that calls it for each row that a test keeps, k counting them, takes the others out.
-pub fn keep_row(area: &mut [u8], width: usize, k: usize, i: usize)
+// Moves row i down to place k, if it is not there.
+fn keep_row(area: &mut [u8], width: usize, k: usize, i: usize)
     requires { (k ≤ i) × (i * width + width ≤ length area.old) }
     ensures { area.new ≡ splice area.old (k * width) (part area.old (i * width) width) }
 {
@@ -177,4 +202,22 @@ pub fn keep_row(area: &mut [u8], width: usize, k: usize, i: usize)
         return;
     }
     octets::move_down(area, k * width, i * width, width);
+}
+
+// Takes out the rows of which the test fails; answers how many are left.
+// (std's `retain` is a Vec's; here the rows stand in an area that is lent, and there is no heap.)
+pub fn retain<F: Fn(&[u8]) -> bool>(area: &mut [u8], width: usize, n: usize, test: F) -> usize
+    requires fits { (0 < width) × (n * width ≤ length area.old) }
+    requires callable { TakesRows F.Fn test width }
+    ensures { (p : List ℕ → Bool) → TestsRows F.Fn test width p → RowsNow width area.old (filter p (rows width n area.old)) result area.new }
+{
+    let mut kept = 0;
+    for from in 0..n {
+        let at = from * width;
+        if test(&area[at..at + width]) {
+            keep_row(area, width, kept, from);
+            kept += 1;
+        }
+    }
+    kept
 }

@@ -6,13 +6,15 @@ ghost use Rattle.table.specs.Lists.{insert_at, remove_at, replace_at};
 ghost use Rattle.table.specs.Rows.{held};
 ghost use Rattle.table.specs.Codec.{Codec, CodecLaws, table_of, TableNow};
 
-// A row of N bytes. The functions that change a table answer how many rows it has then.
+// A row of N bytes. The functions that change a table take its area, which is lent, and its count, which is a field of another area (the device's or
+// the exchange's), and answer the count that it has then.
 pub trait Row<const N: usize>: Copy {
     ghost codec: { Codec Self };
 
     ghost Proper: { Self → Type 0 };
 
-    // The row whose bytes are those of an area from index at on.
+    // The row whose bytes are those of an area from index at on. (At a byte's index, as `put`: by a row's number, what each caller shows of the row's place would
+    // only be said otherwise.)
     fn read(area: &[u8], at: usize) -> Self
         requires { at + codec.width ≤ length area.now }
         ensures { result ≡ codec.decode (part area.now at codec.width) };

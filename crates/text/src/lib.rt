@@ -1,10 +1,13 @@
 // Text in an area: runs, numbers in decimal, tags in hexadecimal. Each function puts its text at a place and answers the place behind it.
+// (A String would need a heap, and the drill, which prints by these functions, has none. A struct of area and place would be lent to each, which then would say
+// of two fields what it says of a result: area and place stay apart, as in octets.)
 #![tactic(auto)]
 
 ghost use Rattle.std.specs.Prelude.{◌++◌, ◌+◌, ◌≤◌, length};
 ghost use Rattle.columns.specs.Columns.{hexes};
 ghost use Rattle.text.specs.Text.{decimal, spaced, Puts};
 
+// A run of bytes.
 pub fn put_run(out: &mut [u8], at: usize, run: &[u8]) -> usize
     requires { at + length run.now ≤ length out.old }
     ensures { Puts (length run.now) out.old at run.now result out.new }
@@ -13,11 +16,14 @@ pub fn put_run(out: &mut [u8], at: usize, run: &[u8]) -> usize
     at + run.len()
 }
 
+// The most digits of a number of 64 bits.
+const DIGITS: usize = 20;
+
 pub fn put_decimal(out: &mut [u8], at: usize, n: u64) -> usize
     requires { at + 20 ≤ length out.old }
     ensures { Puts 20 out.old at (decimal n) result out.new }
 {
-    let mut text = [0u8; 20];
+    let mut text = [0u8; DIGITS];
     let k = io::decimal(n, &mut text);
     octets::copy_in(out, at, &text[..k]);
     at + k

@@ -1,3 +1,3 @@
-pub mod MeetLaws
+pub mod FindLaws
 pub mod WriteLaws
 pub mod CallLaws

@@ -1,4 +1,4 @@
--- What a tomb meets, what the calls of this crate answer, and what they are lent.
+-- What a tomb finds, what the calls of this crate answer, and what they are lent.
 -- Assumes nothing.
 use Rattle.std.specs.Prelude.{◌≡◌, ℕ, ◌<◌, Bool, Result, Ok, Err, List, [], ◌∷◌, length, nat_lt}
 use Rattle.courier_core.specs.declared.Refusal.{Refusal}
@@ -18,26 +18,26 @@ use Rattle.model.specs.Areas.{Areas, AnswerAreas, Written, view}
 use Rattle.model.specs.Lent.{device_in, contacts_in, own_in, carried_in, tombstones_in}
 use Rattle.tombstones.specs.declared.Storing.{Storing}
 use Rattle.tombstones.specs.Tombstones.{how_to_store}
-use Rattle.tombs.specs.declared.Met.{Met}
-use Rattle.tombs.specs.declared.Met.TheVariants as met
+use Rattle.tombs.specs.declared.Found.{Found}
+use Rattle.tombs.specs.declared.Found.TheVariants as found
 use Rattle.tombs.specs.declared.Said.{Said}
 use Rattle.tombs.specs.declared.Said.TheVariants as said
 
--- ---- what a tomb meets, as the model has it; the place is one of its table
+-- ---- what a tomb finds, as the model has it; the place is one of its table
 
-abbrev pub met_of : Met → model.Met
-met_of (met.CarriedAt i) = model.carried_at i
-met_of (met.OwnAt i) = model.own_at i
-met_of met.Wrong = model.wrong
-met_of met.Unknown = model.unknown
+abbrev pub met_of : Found → model.Met
+met_of (found.CarriedAt i) = model.carried_at i
+met_of (found.OwnAt i) = model.own_at i
+met_of found.WrongSecret = model.wrong
+met_of found.UnknownTag = model.unknown
 
-abbrev pub Inside : Met → (own carried : ℕ) → Type 0
-Inside (met.CarriedAt i) own carried = i < carried
-Inside (met.OwnAt i) own carried = i < own
-Inside met.Wrong own carried = Unit {0}
-Inside met.Unknown own carried = Unit {0}
+abbrev pub Inside : Found → (own carried : ℕ) → Type 0
+Inside (found.CarriedAt i) own carried = i < carried
+Inside (found.OwnAt i) own carried = i < own
+Inside found.WrongSecret own carried = Unit {0}
+Inside found.UnknownTag own carried = Unit {0}
 
-pub record Meets (own : Table own_width) (carried : Table carried_width) (tag secret : List ℕ) (r : Met) : Type 0 where
+pub record Finds (own : Table own_width) (carried : Table carried_width) (tag secret : List ℕ) (r : Found) : Type 0 where
   pub is : met_of r ≡ model.meets (rows_in own_codec own) (rows_in carried_codec carried) tag secret
   pub inside : Inside r (held (length own.area.now) own_width own.count) (held (length carried.area.now) carried_width carried.count)
 
@@ -61,7 +61,7 @@ said_of (calls.wrote count) n = Ok (said.Done n)
 abbrev pub says : Outcome → Result Said Refusal
 says o = said_of o.answer (length o.actions)
 
--- ---- a tomb, once it is known what it meets
+-- ---- a tomb, once it is known what it finds
 
 unfoldable pub met_tests : State → List ℕ → model.Met → List (Bool × Refusal)
 met_tests s tag m = (no_row_to_meet s tag m, refusal.NoTombstoneRow) ∷ (no_slot_to_meet s tag m, refusal.NoSlot) ∷ []

@@ -13,73 +13,71 @@ ghost use Rattle.model.specs.Tombs.{carried_at, own_at, insert_by_slot, turned a
 ghost use Rattle.model.specs.Lent.{Does, actions_lent};
 ghost use Rattle.tombstones.specs.Tombstones.{Room};
 ghost use Rattle.tombs.specs.declared.Said.TheVariants.{Done};
-ghost use Rattle.tombs.specs.Tombs.{Meets, higher, Ends, EndsBy, says, held_lent, own_lent, tomb_lent};
+ghost use Rattle.tombs.specs.Tombs.{Finds, higher, Ends, EndsBy, says, held_lent, own_lent, tomb_lent};
 
 use answers::put_courier;
 use contacts::known;
 use courier_core::{ContactId, Refusal};
 use rows::{
-    ACTION_WIDTH, CARRIED_WIDTH, Carried, Device, OWN_WIDTH, Own, Row, TOMBSTONE_WIDTH, Tombstone,
+    ACTION_WIDTH, CARRIED_AREA, CARRIED_WIDTH, CONTACT_AREA, Carried, Device, OWN_AREA, OWN_WIDTH,
+    Own, Row, TOMBSTONE_WIDTH, Tombstone,
 };
 use table::Table;
-use tombstones::{Storing, Tomb, short_actions, store_choice, store_tombstone};
-
-// Where an own row's tag stands.
-const OWN_TAG: usize = 12;
+use tombstones::{Storing, Tomb, store_choice, store_tombstone};
 
 // What the calls answer that are not refused: malformed, or how many actions are listed.
-// (Not `Option<usize>`: its `None` would not say malformed.)
+// (Not `Option<usize>`: its `None` would not say malformed. Crate inventory says why its `Said` is another.)
 #[derive(Drop)]
 pub enum Said {
     Malformed,
     Done(usize),
 }
 
-// (Where a table is written, its area and its count stand apart: the host lends the area across the C interface, and the device has the count.)
+// (Where a table is written, its area and its count stand apart: the call is lent the area, and the device has the count.)
 
-// ---- what a tomb meets
+// ---- what a tomb finds
 
-// The right secret for a row at its place, a wrong one, or no such tag. (The model has these four cases. A `Result` of an `Option` would take
-// two more enums: one for the table that the place is in, one for a wrong secret.)
+// Where the row with the tag stands, if the secret is right for it; or a wrong secret; or no such tag.
+// (The model has these four cases. A `Result` of an `Option` would take two more enums: one for the table that the place is in, one for a wrong secret.)
 #[derive(Drop)]
-pub enum Met {
+pub enum Found {
     CarriedAt(usize),
     OwnAt(usize),
-    Wrong,
-    Unknown,
+    WrongSecret,
+    UnknownTag,
 }
 
 // The first own row with the tag. Fetch has the same of carried rows: each is one search, and its contract names its own rows.
 pub fn own_of_tag(own: Table<OWN_WIDTH>, tag: [u8; 16]) -> Option<usize>
     ensures { result ≡ position (own_of_tag tag) (rows_in own_codec own.entry) }
 {
-    own.find(OWN_TAG, &tag)
+    own.find(Own::TAG, &tag)
 }
 
-// A carried row goes first: a wrong secret there is malformed, even if an own row would match.
+// What a tomb finds. A carried row goes first: a wrong secret there is malformed, even if an own row would match.
 // An own row has no commitment but that of its secret.
-fn meets(own: Table<OWN_WIDTH>, carried: Table<CARRIED_WIDTH>, tomb: Tomb) -> Met
-    ensures { Meets own.entry carried.entry tomb.tag tomb.s result }
+fn find(own: Table<OWN_WIDTH>, carried: Table<CARRIED_WIDTH>, tomb: Tomb) -> Found
+    ensures { Finds own.entry carried.entry tomb.tag tomb.s result }
 {
     match fetch::carried_of_tag(carried, tomb.tag) {
         Some(i) => {
             let row = Carried::read(carried.area, i * CARRIED_WIDTH);
             if courier::tombstone_matches(row.c, tomb.s) {
-                Met::CarriedAt(i)
+                Found::CarriedAt(i)
             } else {
-                Met::Wrong
+                Found::WrongSecret
             }
         }
         None => match own_of_tag(own, tomb.tag) {
             Some(i) => {
                 let row = Own::read(own.area, i * OWN_WIDTH);
                 if courier::tombstone_matches(courier::commitment(row.s), tomb.s) {
-                    Met::OwnAt(i)
+                    Found::OwnAt(i)
                 } else {
-                    Met::Wrong
+                    Found::WrongSecret
                 }
             }
-            None => Met::Unknown,
+            None => Found::UnknownTag,
         },
     }
 }
@@ -87,6 +85,8 @@ fn meets(own: Table<OWN_WIDTH>, carried: Table<CARRIED_WIDTH>, tomb: Tomb) -> Me
 // ---- a tombstone by its slot
 
 // The first tombstone of a higher slot, or the end.
+// (`load::place` has the same from the end: it asks that the rows that are there rise by slot, as load puts them. Here slots may stand in any order, and the
+// first row of a higher slot is meant.)
 fn place_by_slot(tombstones: Table<TOMBSTONE_WIDTH>, slot: u64) -> usize
     ensures { result ≡ unwrap_or (held (length tombstones.entry.area.now) tombstone_width tombstones.entry.count) (position (higher slot) (rows_in tombstone_codec tombstones.entry)) }
 {
@@ -108,9 +108,9 @@ fn insert_by_slot(tombstones: &mut [u8], count: usize, row: Tombstone) -> usize
     Tombstone::insert(tombstones, count, i, row)
 }
 
-// The tombstone that a carried row turns into: it retains its slot and expiry.
+// The tombstone of a carried row whose envelope ends: it retains its slot and expiry.
 #[tactic(auto, unfolding(model::specs::Tombs::turned))]
-fn turned(row: Carried, tomb: Tomb) -> Tombstone
+fn tombstone_of(row: Carried, tomb: Tomb) -> Tombstone
     ensures { result ≡ turned_of row tomb.tag tomb.s }
 {
     tomb.tombstone(row.slot, row.expiry_min)
@@ -118,8 +118,8 @@ fn turned(row: Carried, tomb: Tomb) -> Tombstone
 
 // ---- tomb
 
-// Turns the carried row at i into a tombstone; that passes no limit of 1,024, but needs one of the R rows.
-fn turn(
+// Ends the carried row at i: its tombstone takes its place in order of slots. It meets no limit of 1,024, but needs a row of the tombstones' area.
+fn end_carried(
     device: &mut Device,
     i: usize,
     tomb: Tomb,
@@ -136,7 +136,7 @@ fn turn(
         return Err(Refusal::NoTombstoneRow);
     }
     let row = Carried::read(carried, i * CARRIED_WIDTH);
-    device.tombstones = insert_by_slot(tombstones, device.tombstones, turned(row, tomb));
+    device.tombstones = insert_by_slot(tombstones, device.tombstones, tombstone_of(row, tomb));
     device.carried = Carried::remove(carried, device.carried, i);
     put_courier(actions, 0, row.slot);
     Ok(Said::Done(1))
@@ -187,16 +187,16 @@ fn end_own(
     Ok(Said::Done(end_row(device, i, how, tomb, own, tombstones, actions)))
 }
 
-// A tomb: the carried row with its tag turns into a tombstone, or else the own row ends; an unknown tag changes nothing.
-// (As the C interface lends them, each area is a parameter.)
+// A tomb: the carried row with its tag becomes a tombstone, or else the own row ends; an unknown tag changes nothing.
+// (It is lent what the exported function of crate goosetable is lent, each area and each value by itself.)
 pub fn receive_tomb(
     device: &mut Device,
     peer: ContactId,
     tag: [u8; 16],
     s: [u8; 16],
-    contacts: &[u8; 2304],
-    own: &mut [u8; 13824],
-    carried: &mut [u8; 14592],
+    contacts: &[u8; CONTACT_AREA],
+    own: &mut [u8; OWN_AREA],
+    carried: &mut [u8; CARRIED_AREA],
     tombstones: &mut [u8],
     actions: &mut [u8],
 ) -> Result<Said, Refusal>
@@ -205,7 +205,7 @@ pub fn receive_tomb(
         (tomb_lent device.new contacts.now own.new carried.new tombstones.new)
         (actions_lent actions.old) (actions_lent actions.new) }
 {
-    if short_actions(actions.len(), tombstones.len()) {
+    if answers::short_actions(actions.len(), tombstones.len()) {
         return Err(Refusal::ShortArea);
     }
     let contacts = Table {
@@ -224,10 +224,10 @@ pub fn receive_tomb(
         area: carried,
         count: device.carried,
     };
-    match meets(own_rows, carried_rows, tomb) {
-        Met::CarriedAt(i) => turn(device, i, tomb, carried, tombstones, actions),
-        Met::OwnAt(i) => end_own(device, i, tomb, own, tombstones, actions),
-        Met::Wrong => Ok(Said::Malformed),
-        Met::Unknown => Ok(Said::Done(0)),
+    match find(own_rows, carried_rows, tomb) {
+        Found::CarriedAt(i) => end_carried(device, i, tomb, carried, tombstones, actions),
+        Found::OwnAt(i) => end_own(device, i, tomb, own, tombstones, actions),
+        Found::WrongSecret => Ok(Said::Malformed),
+        Found::UnknownTag => Ok(Said::Done(0)),
     }
 }

@@ -1,8 +1,8 @@
 -- Laws of the searches through the tombstones.
 -- Assumes nothing.
-use Rattle.std.proofs.Common.{◌≡◌, ℕ, suc, ◌+◌, ◌*◌, ◌<◌, ◌≤◌, Bool, true, false, cond, ltb, List, length, drop, sym, ap, ◌∙◌, ap₂, add-one, arith, drop_of_length-le, le-ltb, lt-ltb}
-use Rattle.octets.specs.Bytes.{part, num}
-use Rattle.octets.proofs.Parts.{part_part}
+use Rattle.std.proofs.Common.{◌≡◌, ℕ, ◌+◌, ◌*◌, ◌^◌, ◌<◌, ◌≤◌, Bool, true, false, cond, eqb, eqb-true, ltb, List, length, drop, refl, sym, ap, ◌∙◌, ap₂, add-one, arith, drop_of_length-le, le-ltb, lt-ltb}
+use Rattle.std.proofs.lemmas.Bool.Decides.{nat_tests}
+use Rattle.octets.specs.Bytes.{part}
 use Rattle.table.specs.Rows.{held}
 use Rattle.table.specs.Codec.{table_of}
 use Rattle.table.proofs.TableLaws.{length_table, table_next}
@@ -12,33 +12,61 @@ use Rattle.model.specs.Tombs.{least_from}
 
 -- ---- the least expiry
 
+-- the code begins at the greatest expiry and the definition above every: at the first row alone they differ, which is the first place anyway
+abbrev pub bound : ℕ → ℕ → ℕ
+bound i low = cond (eqb i 0) (2 ^ 32) low
+
+-- before the first row, the place is 0 and the least so far is the greatest expiry
+pub record Leads (i best low : ℕ) : Type 0 where
+  pub place : i ≡ 0 → best ≡ 0
+  pub start : i ≡ 0 → low ≡ 4294967295
+
+pub leads_on : (i best low : ℕ) → Leads (i + 1) best low
+leads_on i best low = record { place = λ z. absurd (omega (arith, z)); start = λ z. absurd (omega (arith, z)) }
+
 module _ (count : ℕ) (a : List ℕ) where
   abbrev T : List Tombstone
   T = table_of tombstone_codec count a
 
   module _ (i best low : ℕ) where
-    expiry_in : (tombstone_of (part a (i * 44) 44)).expiry_min ≡ num (part a (i * 44 + 40) 4)
-    unfolding tombstone_of
-    expiry_in = ap num (part_part a (i * 44) 44 40 4 (omega arith))
+    abbrev here : ℕ
+    here = (tombstone_of (part a (i * 44) 44)).expiry_min
 
-    least_step : i < held (length a) 44 count → (b : Bool) → ltb (num (part a (i * 44 + 40) 4)) low ≡ b
-        → least_from i best low (drop i T)
-        ≡ cond b (least_from (i + 1) i (num (part a (i * 44 + 40) 4)) (drop (i + 1) T)) (least_from (i + 1) best low (drop (i + 1) T))
+    step : (low : ℕ) → i < held (length a) 44 count → (b : Bool) → ltb here low ≡ b
+        → least_from i best low (drop i T) ≡ cond b (least_from (i + 1) i here (drop (i + 1) T)) (least_from (i + 1) best low (drop (i + 1) T))
     unfolding least_from
-    least_step h b e =
+    step low h b e =
         ap (least_from i best low) (table_next tombstone_codec count a i h)
-        ∙ ap (λ (x : ℕ). cond (ltb x low) (least_from (suc i) i x (drop (i + 1) T)) (least_from (suc i) best low (drop (i + 1) T))) expiry_in
-        ∙ ap₂ (λ (d : Bool) (k : ℕ). cond d (least_from k i (num (part a (i * 44 + 40) 4)) (drop (i + 1) T)) (least_from k best low (drop (i + 1) T))) e (sym (add-one i))
+        ∙ ap₂ (λ (d : Bool) (k : ℕ). cond d (least_from k i here (drop (i + 1) T)) (least_from k best low (drop (i + 1) T))) e (sym (add-one i))
 
     -- row i has the expiry e, and the rows from i on decide
-    module _ (m e : ℕ) (so : least_from i best low (drop i T) ≡ m) (h : i < held (length a) 44 count) (ee : e ≡ num (part a (i * 44 + 40) 4)) where
-      pub least_hit : e < low → least_from (i + 1) i e (drop (i + 1) T) ≡ m
-      least_hit l =
-          ap (λ (x : ℕ). least_from (i + 1) i x (drop (i + 1) T)) ee
-          ∙ sym (least_step h true (ap (λ (x : ℕ). ltb x low) (sym ee) ∙ lt-ltb e low l)) ∙ so
+    module _ (m e : ℕ) (so : least_from i best (bound i low) (drop i T) ≡ m) (l : Leads i best low) (h : i < held (length a) 44 count) (ee : e ≡ here) where
+      abbrev rest : List Tombstone
+      rest = drop (i + 1) T
 
-      pub least_next : low ≤ e → least_from (i + 1) best low (drop (i + 1) T) ≡ m
-      least_next l = sym (least_step h false (ap (λ (x : ℕ). ltb x low) (sym ee) ∙ le-ltb e low l)) ∙ so
+      later : (n : ℕ) → bound (i + 1) n ≡ n
+      later n = let f : eqb (i + 1) 0 ≡ false = grind (arith, nat_tests) in rw f
+
+      lower : (x : ℕ) → e < x → least_from i best x (drop i T) ≡ least_from (i + 1) i e rest
+      lower x p = step x h true (ap (λ (y : ℕ). ltb y x) (sym ee) ∙ lt-ltb e x p) ∙ ap (λ (y : ℕ). least_from (i + 1) i y rest) (sym ee)
+
+      pub least_hit : e < low → least_from (i + 1) i (bound (i + 1) e) rest ≡ m
+      least_hit p = ap (λ (y : ℕ). least_from (i + 1) i y rest) (later e) ∙ go (eqb i 0) refl
+        where
+          go : (b : Bool) → eqb i 0 ≡ b → least_from (i + 1) i e rest ≡ m
+          go true z = sym (lower (2 ^ 32) (omega (arith, l.start (eqb-true i 0 z), p))) ∙ (rw z at so)
+          go false z = sym (lower low p) ∙ (rw z at so)
+
+      pub least_next : e < 2 ^ 32 → low ≤ e → least_from (i + 1) best (bound (i + 1) low) rest ≡ m
+      least_next q p = ap (λ (y : ℕ). least_from (i + 1) best y rest) (later low) ∙ go (eqb i 0) refl
+        where
+          go : (b : Bool) → eqb i 0 ≡ b → least_from (i + 1) best low rest ≡ m
+          go true z =
+              let first : i ≡ 0 = eqb-true i 0 z in
+              let x : best ≡ i = omega (arith, l.place first, first) in
+              let y : low ≡ e = omega (arith, l.start first, p, q) in
+              ap₂ (λ (j k : ℕ). least_from (i + 1) j k rest) x y ∙ sym (lower (2 ^ 32) q) ∙ (rw z at so)
+          go false z = sym (step low h false (ap (λ (x : ℕ). ltb x low) (sym ee) ∙ le-ltb e low p)) ∙ (rw z at so)
 
     pub least_end : held (length a) 44 count ≤ i → least_from i best low (drop i T) ≡ best
     unfolding least_from

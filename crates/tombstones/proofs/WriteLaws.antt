@@ -1,8 +1,7 @@
 -- Laws of the writes: a tombstone added, and one taken out before.
 -- Assumes nothing.
-use Rattle.std.proofs.Common.{◌≡◌, ℕ, ◌+◌, ◌*◌, ◌<◌, List, [], ◌∷◌, ◌++◌, length, get_or, sym, ap, ◌∙◌, add-zero, arith, length-append}
-use Rattle.octets.specs.Bytes.{Bytes, part, num}
-use Rattle.octets.proofs.Parts.{part_part}
+use Rattle.std.proofs.Common.{◌≡◌, ℕ, ◌+◌, ◌*◌, ◌<◌, List, [], ◌∷◌, ◌++◌, length, get_or, sym, ap, ◌∙◌, arith, length-append}
+use Rattle.octets.specs.Bytes.{Bytes, part}
 use Rattle.table.specs.Lists.{remove_at}
 use Rattle.table.specs.Rows.{held}
 use Rattle.table.specs.Codec.{table_of, TableNow}
@@ -35,8 +34,5 @@ grown_moved d r a y x i k t p b T G = record {
 }
 
 pub slot_read : (count i : ℕ) (a : List ℕ) → i < held (length a) 44 count
-    → num (part a (i * 44) 8) ≡ (get_or (table_of tombstone_codec count a) i no_tombstone).slot
-unfolding tombstone_of
-slot_read count i a h =
-    sym (ap (λ (t : Tombstone). t.slot) (get_d_table tombstone_codec count a i no_tombstone h)
-    ∙ ap num (part_part a (i * 44) 44 0 8 (omega arith) ∙ ap (λ (k : ℕ). part a k 8) (add-zero (i * 44))))
+    → (tombstone_of (part a (i * 44) 44)).slot ≡ (get_or (table_of tombstone_codec count a) i no_tombstone).slot
+slot_read count i a h = sym (ap (λ (t : Tombstone). t.slot) (get_d_table tombstone_codec count a i no_tombstone h))

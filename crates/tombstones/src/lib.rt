@@ -20,17 +20,6 @@ use table::Table;
 // At so many tombstones, one goes before another is stored.
 const MAX_TOMBSTONES: usize = 1024;
 
-// How many actions a call can list, beside one for each tombstone row.
-const LISTED_ACTIONS: usize = 512;
-
-// Above every expiry.
-const NO_EXPIRY: u64 = 1 << 32;
-
-// Where a tombstone's tag and expiry stand in its row.
-const TAG_AT: usize = 8;
-
-const EXPIRY_AT: usize = 40;
-
 // A tag, and the secret that opens the commitment of its envelope.
 #[derive(Clone, Copy)]
 pub struct Tomb {
@@ -66,25 +55,19 @@ pub enum Storing {
 pub fn tombstoned(tombstones: Table<TOMBSTONE_WIDTH>, tag: [u8; 16]) -> bool
     ensures { result ≡ some_tombstone (rows_in tombstone_codec tombstones.entry) tag }
 {
-    tombstones.has(TAG_AT, &tag)
+    tombstones.has(Tombstone::TAG, &tag)
 }
 
-// The expiry of the tombstone whose bytes start at a place.
-fn expiry_at(tombstones: &[u8], at: usize) -> u64
-    requires { at + tombstone_width ≤ length tombstones.now }
-    ensures { (result ≡ num (part tombstones.now (at + 40) 4)) × (result < 4294967296) }
-{
-    u64::from(octets::get_u32(tombstones, at + EXPIRY_AT))
-}
-
-// The tombstone of least expiry, the first among equals: the table has them by slot.
+// The tombstone of least expiry, the first among equals, which has the lowest slot: the table has them by slot. Where there is none it is 0.
+// The search begins at place 0 and the greatest expiry: where every row has that, none is below it, and the first is the answer.
+// (By `min_by_key` the proof did not close: its contract leaves it to a law over all calls of the closure that the first among equals is answered.)
 pub fn least_expiry(tombstones: Table<TOMBSTONE_WIDTH>) -> usize
     ensures { Least (rows_in tombstone_codec tombstones.entry) result }
 {
     let mut best = 0;
-    let mut low = NO_EXPIRY;
+    let mut low = u32::MAX;
     for i in 0..tombstones.len() {
-        let e = expiry_at(tombstones.area, i * TOMBSTONE_WIDTH);
+        let e = Tombstone::read(tombstones.area, i * TOMBSTONE_WIDTH).expiry_min;
         if e < low {
             best = i;
             low = e;
@@ -93,14 +76,8 @@ pub fn least_expiry(tombstones: Table<TOMBSTONE_WIDTH>) -> usize
     best
 }
 
-// Is an action area too short for so many bytes of tombstones?
-pub fn short_actions(actions: usize, tombstones: usize) -> bool
-    ensures { result ≡ nat_lt actions (action_width * (512 + tombstones / tombstone_width)) }
-{
-    actions < ACTION_WIDTH * (LISTED_ACTIONS + tombstones / TOMBSTONE_WIDTH)
-}
-
-// Numbers 5 and 6 of a tombstone that is to be stored, or how it is. It reads only.
+// (Here and below, the tombstones' area and the device, which has their number, stand apart: a call is lent each by itself.)
+// How a tombstone is to be stored, or why it cannot be: `NoTombstoneRow`, `NoSlot`. It reads only.
 pub fn store_choice(device: Device, tag: [u8; 16], tombstones: &[u8]) -> Result<Storing, Refusal>
     ensures { ChoiceOf device tombstones.now tag result × RoomFor result device tombstones.now }
 {
@@ -112,16 +89,17 @@ pub fn store_choice(device: Device, tag: [u8; 16], tombstones: &[u8]) -> Result<
         return Ok(Storing::Nothing);
     }
     let n = table.len();
-    if n < MAX_TOMBSTONES && tombstones.len() / TOMBSTONE_WIDTH <= n {
+    let how = if MAX_TOMBSTONES <= n {
+        Storing::Evict(least_expiry(table))
+    } else if tombstones.len() / TOMBSTONE_WIDTH <= n {
         return Err(Refusal::NoTombstoneRow);
-    }
+    } else {
+        Storing::Append
+    };
     if device.next_slot == u64::MAX {
         return Err(Refusal::NoSlot);
     }
-    if n < MAX_TOMBSTONES {
-        return Ok(Storing::Append);
-    }
-    Ok(Storing::Evict(least_expiry(table)))
+    Ok(how)
 }
 
 // Adds a tombstone behind the others, and takes the next slot.
@@ -140,14 +118,6 @@ fn evict(device: &mut Device, i: usize, row: Tombstone, tombstones: &mut [u8])
 {
     device.tombstones = Tombstone::remove(tombstones, device.tombstones, i);
     append(device, row, tombstones);
-}
-
-// The slot of the tombstone at i.
-fn slot_at(tombstones: Table<TOMBSTONE_WIDTH>, i: usize) -> u64
-    requires { (i < held (length tombstones.area.now) tombstone_width tombstones.count) × (held (length tombstones.area.now) tombstone_width tombstones.count * tombstone_width ≤ length tombstones.area.now) }
-    ensures { result ≡ (slice_index_or (rows_in tombstone_codec tombstones.entry) i no_tombstone).slot }
-{
-    octets::get_u64(tombstones.area, i * TOMBSTONE_WIDTH)
 }
 
 // Stores a tombstone as it was chosen, at the next slot; its actions are listed from a place on, and how many is answered.
@@ -173,13 +143,9 @@ pub fn store_tombstone(
             1
         }
         Storing::Evict(i) => {
-            let table = Table {
-                area: tombstones,
-                count: device.tombstones,
-            };
-            let gone = slot_at(table, i);
+            let gone = Tombstone::read(tombstones, i * TOMBSTONE_WIDTH);
             evict(device, i, row, tombstones);
-            answers::delete_courier(actions, at, gone);
+            answers::delete_courier(actions, at, gone.slot);
             answers::put_courier(actions, at + ACTION_WIDTH, slot);
             2
         }
@@ -188,6 +154,7 @@ pub fn store_tombstone(
 
 // A tombstone to be stored: nothing if its tag has one, and at 1,024 or more the one of least expiry goes first.
 // It answers how many actions are listed.
+// (It is lent what the exported function of crate goosetable is lent, each area and each value by itself.)
 pub fn stored_tombstone(
     device: &mut Device,
     tag: [u8; 16],
@@ -200,7 +167,7 @@ pub fn stored_tombstone(
         (tombstones_lent device.old tombstones.old) (tombstones_lent device.new tombstones.new)
         (actions_lent actions.old) (actions_lent actions.new) }
 {
-    if short_actions(actions.len(), tombstones.len()) {
+    if answers::short_actions(actions.len(), tombstones.len()) {
         return Err(Refusal::ShortArea);
     }
     let how = store_choice(*device, tag, tombstones)?;

@@ -1,26 +1,42 @@
-// Runs the published vectors of SHA-384, HMAC-SHA-384 and HKDF-SHA-384, lengths around every padding boundary, and kdf.rs and
+// Runs the published vectors of SHA-384 and HMAC-SHA-384, HKDF-SHA-384 on the inputs of RFC 5869, lengths around every padding boundary, and kdf.rs and
 // data.rs on fixed inputs, and writes what it got. `stdout` has the values of an independent implementation.
 #![tactic(auto)]
 
 use hasher::Hasher;
-use kdf::Refused;
-use std::io;
+use hmac::LONGEST;
+use kdf::{LONGEST_LABEL, Refused};
+use sha384::DIGEST;
+use std::{fmt, io};
 
 // What an area holds before it is lent.
 const BEFORE: u8 = 0xa5;
 
-// The bytes in hexadecimal, and the end of the line.
-fn print_bytes(rt: &impl Print, bytes: &[u8]) -> io::Result<()> {
-    for b in bytes {
-        print!(rt; "{b:02x}")?;
+// Bytes in hexadecimal. (state_rows has the same for 16 bytes: no crate below both is about printing.)
+#[derive(Drop)]
+struct Hex<'a>(&'a [u8]);
+
+impl<'a> fmt::Display for Hex<'a> {
+    fn fmt<W: fmt::Write>(&self, f: &mut fmt::Formatter<W>) -> fmt::Result {
+        for b in self.0 {
+            write!(f, "{b:02x}")?;
+        }
+        Ok(())
     }
-    println!(rt)
 }
 
-// A name and bytes.
-fn print_line(rt: &impl Print, name: &str, bytes: &[u8]) -> io::Result<()> {
-    print!(rt; "{name} ")?;
-    print_bytes(rt, bytes)
+// A name or a number, and bytes.
+fn print_line(rt: &impl Print, name: impl fmt::Display + Drop, bytes: &[u8]) -> io::Result<()> {
+    println!(rt; "{name} {}", Hex(bytes))
+}
+
+// The first n bytes, or all where there are fewer. (Two functions, as std has `get` and `get_mut`.)
+fn first(bytes: &[u8], n: usize) -> &[u8] {
+    &bytes[..n.min(bytes.len())]
+}
+
+fn first_mut(bytes: &mut [u8], n: usize) -> &mut [u8] {
+    let n = n.min(bytes.len());
+    &mut bytes[..n]
 }
 
 // N bytes that rise by a step, from a first one on, modulo 256.
@@ -50,23 +66,23 @@ fn hashes(rt: &impl Print) -> io::Result<()> {
     )
 }
 
-// A million bytes, in sixteen parts.
-fn million() -> [u8; 48] {
-    let part = [b'a'; 62500];
+// A million bytes, in parts.
+const PARTS: usize = 16;
+
+fn million() -> [u8; DIGEST] {
+    let part = [b'a'; 1_000_000 / PARTS];
     let mut h = Hasher::new();
-    for _turn in 0..16usize {
-        let next = h.update(&part);
-        h = next;
+    for _turn in 0..PARTS {
+        h = h.update(&part);
     }
     h.finish()
 }
 
 fn hash_lengths(rt: &impl Print) -> io::Result<()> {
     println!(rt; "SHA-384, lengths")?;
-    let p = rising::<300>(3, 7);
+    let p = rising::<256>(3, 7);
     for n in [0, 1, 111, 112, 127, 128, 239, 240, 256] {
-        print!(rt; "{n} ")?;
-        print_bytes(rt, &sha384::hash(&p[..n.min(300)]))?;
+        print_line(rt, n, &sha384::hash(first(&p, n)))?;
     }
     Ok(())
 }
@@ -100,10 +116,9 @@ fn hmacs(rt: &impl Print) -> io::Result<()> {
 
 fn hmac_lengths(rt: &impl Print) -> io::Result<()> {
     println!(rt; "HMAC-SHA-384, key lengths")?;
-    let p = rising::<300>(3, 7);
+    let p = rising::<129>(3, 7);
     for n in [0, 127, 128, 129] {
-        print!(rt; "{n} ")?;
-        print_bytes(rt, &hmac::hmac(&p[..n.min(300)], b"Hi There"))?;
+        print_line(rt, n, &hmac::hmac(first(&p, n), b"Hi There"))?;
     }
     Ok(())
 }
@@ -112,7 +127,7 @@ fn hmac_lengths(rt: &impl Print) -> io::Result<()> {
 
 fn hkdf_line(
     rt: &impl Print,
-    name: &str,
+    name: impl fmt::Display + Drop,
     ikm: &[u8],
     salt: &[u8],
     info: &[u8],
@@ -137,7 +152,12 @@ fn hkdf_longer(rt: &impl Print) -> io::Result<()> {
 }
 
 // With no salt and no info.
-fn hkdf_bare(rt: &impl Print, name: &str, ikm: &[u8], out: &mut [u8]) -> io::Result<()> {
+fn hkdf_bare(
+    rt: &impl Print,
+    name: impl fmt::Display + Drop,
+    ikm: &[u8],
+    out: &mut [u8],
+) -> io::Result<()> {
     hkdf_line(rt, name, ikm, b"", b"", out)
 }
 
@@ -152,23 +172,22 @@ fn hkdfs(rt: &impl Print) -> io::Result<()> {
 
 // The longest output, by its hash, and one byte more.
 fn hkdf_longest(rt: &impl Print) -> io::Result<()> {
-    let mut out = [0; 12240];
+    let mut out = [0; LONGEST];
     let _ = hmac::hkdf(&[0x0b; 22], b"", b"", &mut out);
-    hash_line(rt, "12240, its hash", &out)?;
-    let mut more = [0; 12241];
+    println!(rt; "{LONGEST}, its hash {}", Hex(&sha384::hash(&out)))?;
+    let mut more = [0; LONGEST + 1];
     match hmac::hkdf(&[0x0b; 22], b"", b"", &mut more) {
-        Ok(()) => println!(rt; "12241 done"),
-        Err(_) => println!(rt; "12241 too long"),
+        Ok(()) => println!(rt; "{} done", more.len()),
+        Err(_) => println!(rt; "{} too long", more.len()),
     }
 }
 
 fn hkdf_lengths(rt: &impl Print) -> io::Result<()> {
     println!(rt; "HKDF-SHA-384, lengths")?;
-    let ikm = [0x0b; 22];
-    hkdf_bare(rt, "0", &ikm, &mut [0; 0])?;
-    hkdf_bare(rt, "1", &ikm, &mut [0; 1])?;
-    hkdf_bare(rt, "48", &ikm, &mut [0; 48])?;
-    hkdf_bare(rt, "49", &ikm, &mut [0; 49])?;
+    let mut out = [0; DIGEST + 1];
+    for n in [0, 1, DIGEST, DIGEST + 1] {
+        hkdf_bare(rt, n, &[0x0b; 22], first_mut(&mut out, n))?;
+    }
     hkdf_longest(rt)
 }
 
@@ -182,10 +201,7 @@ fn value_line<const N: usize>(
 ) -> io::Result<()> {
     match value {
         Some(bytes) => print_line(rt, name, &bytes),
-        None => {
-            print!(rt; "{name} too long ")?;
-            print_bytes(rt, &[0; N])
-        }
+        None => println!(rt; "{name} too long {}", Hex(&[0; N])),
     }
 }
 
@@ -205,8 +221,7 @@ fn digest_line(rt: &impl Print, label: &[u8]) -> io::Result<()> {
 
 fn commits(rt: &impl Print) -> io::Result<()> {
     print_line(rt, "commit to zeros", &kdf::commit([0; 16]))?;
-    let nonce = [0, 1, 2, 3, 4, 5, 6, 7, 8, 9, 10, 11, 12, 13, 14, 15];
-    print_line(rt, "commit", &kdf::commit(nonce))
+    print_line(rt, "commit", &kdf::commit(rising::<16>(0, 1)))
 }
 
 fn labels(rt: &impl Print) -> io::Result<()> {
@@ -217,69 +232,82 @@ fn labels(rt: &impl Print) -> io::Result<()> {
     commits(rt)
 }
 
-// A name, and the answer for a lent area.
-fn print_answer(rt: &impl Print, name: &str, answer: Result<(), Refused>) -> io::Result<()> {
-    let said = match answer {
-        Ok(()) => "done",
-        Err(Refused::LabelTooLong) => "label too long",
-        Err(Refused::OutTooLong) => "too long",
-    };
-    print!(rt; "{name} {said} ")
+// What a call for a lent area answered.
+#[derive(Drop)]
+struct Answer(Result<(), Refused>);
+
+impl fmt::Display for Answer {
+    fn fmt<W: fmt::Write>(&self, f: &mut fmt::Formatter<W>) -> fmt::Result {
+        f.write_str(match self.0 {
+            Ok(()) => "done",
+            Err(Refused::LabelTooLong) => "label too long",
+            Err(Refused::OutTooLong) => "too long",
+        })
+    }
 }
 
-// By the length of the area. It holds another byte before the call, which stays where the call is refused.
-fn tag_sized(rt: &impl Print, name: &str, label: &[u8], out: &mut [u8]) -> io::Result<()> {
-    let answer = kdf::tag(&rising::<32>(3, 7), label, b"I\x01\x07", out);
-    print_answer(rt, name, answer)?;
-    print_bytes(rt, out)
+// A name or the area's length, and what the area holds after the call: the byte `BEFORE` everywhere where the call is refused.
+fn tag_sized(
+    rt: &impl Print,
+    name: impl fmt::Display + Drop,
+    label: &[u8],
+    out: &mut [u8],
+) -> io::Result<()> {
+    let answer = Answer(kdf::tag(&rising::<32>(3, 7), label, b"I\x01\x07", out));
+    println!(rt; "{name} {answer} {}", Hex(out))
 }
 
 fn tags(rt: &impl Print) -> io::Result<()> {
     println!(rt; "kdf.rs, tag")?;
-    tag_sized(rt, "0", b"route", &mut [BEFORE; 0])?;
-    tag_sized(rt, "1", b"route", &mut [BEFORE; 1])?;
-    tag_sized(rt, "16", b"route", &mut [BEFORE; 16])?;
-    tag_sized(rt, "32", b"route", &mut [BEFORE; 32])?;
-    tag_sized(rt, "48", b"route", &mut [BEFORE; 48])?;
-    tag_sized(rt, "49", b"route", &mut [BEFORE; 49])
+    for n in [0, 1, 16, 32, DIGEST, DIGEST + 1] {
+        let mut out = [BEFORE; DIGEST + 1];
+        tag_sized(rt, n, b"route", first_mut(&mut out, n))?;
+    }
+    Ok(())
 }
 
-fn kdf_of(rt: &impl Print, name: &str, label: &[u8], out: &mut [u8]) -> io::Result<()> {
+fn kdf_of(label: &[u8], out: &mut [u8]) -> Answer {
     let ikm = rising::<32>(3, 7);
     let salt = rising::<5>(5, 11);
     let info = rising::<40>(9, 13);
-    let answer = kdf::kdf(&ikm, &salt, label, &info, out);
-    print_answer(rt, name, answer)
+    Answer(kdf::kdf(&ikm, &salt, label, &info, out))
 }
 
-fn kdf_sized(rt: &impl Print, name: &str, label: &[u8], out: &mut [u8]) -> io::Result<()> {
-    kdf_of(rt, name, label, out)?;
-    print_bytes(rt, out)
+fn kdf_sized(
+    rt: &impl Print,
+    name: impl fmt::Display + Drop,
+    label: &[u8],
+    out: &mut [u8],
+) -> io::Result<()> {
+    let answer = kdf_of(label, out);
+    println!(rt; "{name} {answer} {}", Hex(out))
 }
 
-// The longest area and one byte more, by their hashes.
-fn kdf_longest(rt: &impl Print) -> io::Result<()> {
-    let mut out = [BEFORE; 12240];
-    kdf_of(rt, "12240, its hash", b"mk", &mut out)?;
-    print_bytes(rt, &sha384::hash(&out))?;
-    let mut more = [BEFORE; 12241];
-    kdf_of(rt, "12241, its hash", b"mk", &mut more)?;
-    print_bytes(rt, &sha384::hash(&more))
+// By the length of the area and the hash of what it holds.
+fn kdf_hashed(rt: &impl Print, out: &mut [u8]) -> io::Result<()> {
+    let answer = kdf_of(b"mk", out);
+    println!(rt;
+        "{}, its hash {answer} {}",
+        out.len(),
+        Hex(&sha384::hash(out))
+    )
 }
 
+// The bytes of an area that takes three hashes.
+const THREE_HASHES: usize = 100;
+
+// The longest area and one of a byte more are told by their hashes.
 fn kdfs(rt: &impl Print) -> io::Result<()> {
     println!(rt; "kdf.rs, kdf")?;
-    kdf_sized(rt, "0", b"mk", &mut [BEFORE; 0])?;
-    kdf_sized(rt, "1", b"mk", &mut [BEFORE; 1])?;
-    kdf_sized(rt, "16", b"mk", &mut [BEFORE; 16])?;
-    kdf_sized(rt, "32", b"mk", &mut [BEFORE; 32])?;
-    kdf_sized(rt, "48", b"mk", &mut [BEFORE; 48])?;
-    kdf_sized(rt, "49", b"mk", &mut [BEFORE; 49])?;
-    kdf_sized(rt, "100", b"mk", &mut [BEFORE; 100])?;
-    kdf_longest(rt)
+    for n in [0, 1, 16, 32, DIGEST, DIGEST + 1, THREE_HASHES] {
+        let mut out = [BEFORE; THREE_HASHES];
+        kdf_sized(rt, n, b"mk", first_mut(&mut out, n))?;
+    }
+    kdf_hashed(rt, &mut [BEFORE; LONGEST])?;
+    kdf_hashed(rt, &mut [BEFORE; LONGEST + 1])
 }
 
-// A label, by value and into areas. An area that is too long as well is told behind the label.
+// A label, by value and into areas. Where label and area are both too long, the answer is that the label is.
 fn with_label(rt: &impl Print, label: &[u8]) -> io::Result<()> {
     let key = rising::<32>(3, 7);
     print!(rt; "{} ", label.len())?;
@@ -287,29 +315,38 @@ fn with_label(rt: &impl Print, label: &[u8]) -> io::Result<()> {
     value_line(rt, "mac", kdf::mac(&key, label, b""))?;
     value_line(rt, "kdf", kdf::kdf_16(&key, b"", label, b""))?;
     digest_line(rt, label)?;
-    tag_sized(rt, "tag", label, &mut [BEFORE; 48])?;
-    tag_sized(rt, "tag of 49", label, &mut [BEFORE; 49])?;
-    kdf_sized(rt, "kdf of 100", label, &mut [BEFORE; 100])
+    tag_sized(rt, "tag", label, &mut [BEFORE; DIGEST])?;
+    tag_sized(rt, "tag of 49", label, &mut [BEFORE; DIGEST + 1])?;
+    kdf_sized(rt, "kdf of 100", label, &mut [BEFORE; THREE_HASHES])
 }
 
 fn longest_labels(rt: &impl Print) -> io::Result<()> {
     println!(rt; "kdf.rs, lengths of labels")?;
-    with_label(rt, &[b'a'; 65526])?;
-    with_label(rt, &[b'a'; 65527])
+    with_label(rt, &[b'a'; LONGEST_LABEL])?;
+    with_label(rt, &[b'a'; LONGEST_LABEL + 1])
 }
 
 // ---- data.rs
 
 fn leb_line(rt: &impl Print, v: u32) -> io::Result<()> {
     let e = data::leb128(v);
-    print!(rt; "{v} ")?;
-    print_bytes(rt, &e.bytes[..e.len.min(5)])
+    print_line(rt, v, first(&e.bytes, e.len))
 }
 
 fn lebs(rt: &impl Print) -> io::Result<()> {
     println!(rt; "data.rs, leb128")?;
     for v in [
-        0, 1, 127, 128, 16383, 16384, 2097151, 2097152, 268435455, 268435456, 4294967295,
+        0,
+        1,
+        127,
+        128,
+        16_383,
+        16_384,
+        2_097_151,
+        2_097_152,
+        268_435_455,
+        268_435_456,
+        u32::MAX,
     ] {
         leb_line(rt, v)?;
     }

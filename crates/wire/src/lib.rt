@@ -43,41 +43,41 @@ pub const BODY_MAX: usize = 8_192;
 impl From<u16> for Mark {
     ghost from_gives = { λ letters mark. mark ≡ mark_of letters };
 
-    // The mark that two letters spell.
+    // The mark that two letters spell, read as a number. (Not an array of two letters: a record's mark is one number to its reader and to the definition.)
     #[tactic(auto, unfolding(crate::specs::Log::mark_of))]
     fn from(letters: u16) -> Mark {
         match letters {
-            0x434B => Mark::Clock,
-            0x5054 => Mark::Contact,
-            0x5353 => Mark::Session,
-            0x454E => Mark::Envelope,
-            0x4956 => Mark::Inventory,
-            0x4645 => Mark::Fetch,
-            0x4355 => Mark::Custody,
-            0x5442 => Mark::Tomb,
-            0x4D54 => Mark::Maintenance,
-            0x4346 => Mark::Setting,
+            0x434B => Mark::Clock, // CK
+            0x5054 => Mark::Contact, // PT
+            0x5353 => Mark::Session, // SS
+            0x454E => Mark::Envelope, // EN
+            0x4956 => Mark::Inventory, // IV
+            0x4645 => Mark::Fetch, // FE
+            0x4355 => Mark::Custody, // CU
+            0x5442 => Mark::Tomb, // TB
+            0x4D54 => Mark::Maintenance, // MT
+            0x4346 => Mark::Setting, // CF
             _ => Mark::Unknown,
         }
     }
 }
 
-// Has a body of n bytes the shape that its mark asks for?
+// Has a body of n bytes the shape that its mark asks for? (The lengths are those of document 01's list of records; the fields beside say what they are sums of.)
 #[tactic(auto, unfolding(crate::specs::Log::shaped))]
 fn is_shaped(mark: Mark, n: usize) -> bool
     ensures { result ≡ shaped mark n }
 {
     match mark {
-        Mark::Clock => n == 8,
-        Mark::Contact => n == 9,
-        Mark::Session => n == 8,
-        Mark::Envelope => n >= 45,
-        Mark::Inventory => n >= 8 && n % 8 == 0,
-        Mark::Fetch => n == 24,
-        Mark::Custody => n == 25,
-        Mark::Tomb => n == 40,
+        Mark::Clock => n == 8, // seconds
+        Mark::Contact => n == 9, // contact, verification
+        Mark::Session => n == 8, // peer
+        Mark::Envelope => n >= 45, // peer, header, ciphertext
+        Mark::Inventory => n >= 8 && n % 8 == 0, // peer, prefixes
+        Mark::Fetch => n == 24, // peer, tag
+        Mark::Custody => n == 25, // peer, tag, code
+        Mark::Tomb => n == 40, // peer, tag, secret
         Mark::Maintenance => n == 0,
-        Mark::Setting => n == 4,
+        Mark::Setting => n == 4, // enabled, copies, lifetime
         Mark::Unknown => false,
     }
 }
@@ -89,7 +89,7 @@ fn is_fit(mark: Mark, n: usize) -> bool
     n <= BODY_MAX && is_shaped(mark, n)
 }
 
-// The head at the front of some bytes, or None where they end before the record does. It is refused before its body is there.
+// The head at the front of some bytes, or None where they end before the record does. A wrong head is refused even if its body is not there.
 #[tactic(auto, unfolding(crate::specs::Log::head_of))]
 pub fn read_head(s: &[u8]) -> Result<Option<Head>, Refusal>
     ensures { result ≡ head_of s.now }
@@ -110,7 +110,7 @@ pub fn read_head(s: &[u8]) -> Result<Option<Head>, Refusal>
 
 // ---- the body
 
-// What a body says, less its runs of bytes: a tag stands at 8, a secret at 24, an envelope at 8, prefixes from 8 on.
+// What a body says, less its runs of bytes, which stay in the body: a tag, a secret, an envelope, prefixes.
 #[derive(Drop)]
 pub enum Body {
     Clock {
@@ -147,6 +147,28 @@ pub enum Body {
     },
 }
 
+// The bytes of a peer or a contact, with which the other bodies than those of clock, setting and maintenance begin, and of a tag.
+const PEER: usize = 8;
+
+const TAG: usize = 16;
+
+// Where the parts of a body stand that follow its peer or contact.
+impl Body {
+    pub const VERIFICATION: usize = PEER;
+
+    pub const TAG: usize = PEER;
+
+    pub const CODE: usize = PEER + TAG;
+
+    pub const SECRET: usize = PEER + TAG;
+
+    pub const ENVELOPE: usize = PEER;
+
+    pub const CIPHERTEXT: usize = PEER + courier::ENVELOPE_HEADER;
+
+    pub const PREFIXES: usize = PEER;
+}
+
 fn peer_in(body: &[u8]) -> ContactId
     requires { 8 ≤ length body.now }
     ensures { result ≡ peer_in body.now }
@@ -167,8 +189,9 @@ fn setting_in(body: &[u8]) -> Option<Body>
     })
 }
 
+// A flag by its byte; none where it is neither 0 nor 1.
 #[tactic(auto, unfolding(crate::specs::Log::enabled_of))]
-fn enabled_of(byte: u8) -> Option<bool>
+pub fn enabled_of(byte: u8) -> Option<bool>
     ensures { result ≡ enabled_of byte }
 {
     match byte {
@@ -190,7 +213,7 @@ fn values_of(mark: Mark, body: &[u8]) -> Option<Body>
         }),
         Mark::Contact => Some(Body::Contact {
             id: peer_in(body),
-            verification: Verification::from_byte(octets::get_u8(body, 8))?,
+            verification: Verification::from_byte(octets::get_u8(body, Body::VERIFICATION))?,
         }),
         Mark::Session => Some(Body::Session {
             peer: peer_in(body),
@@ -206,7 +229,7 @@ fn values_of(mark: Mark, body: &[u8]) -> Option<Body>
         }),
         Mark::Custody => Some(Body::Custody {
             peer: peer_in(body),
-            code: Custody::from_code(octets::get_u8(body, 24))?,
+            code: Custody::from_code(octets::get_u8(body, Body::CODE))?,
         }),
         Mark::Tomb => Some(Body::Tomb {
             peer: peer_in(body),

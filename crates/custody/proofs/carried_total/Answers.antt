@@ -1,12 +1,20 @@
-use Rattle.std.proofs.Common.{refl, arith}
-use Rattle.custody.proofs.Laws.{total_next, total_end}
+-- `custody::carried_total`: the sum over the places of the rows. There are 256 rows at most, so that it fits. Assumes nothing.
+use Rattle.std.proofs.Common.{◌∙◌, arith, rules}
+use Rattle.std.specs.List.{range_with_len}
+use Rattle.std.proofs.lemmas.Iterator.{YieldsList-from_range, YieldsList-from_map}
+use Rattle.std.proofs.lemmas.Iterator.Consumers.{sum_by_from_yields_List, fits_by_from_yields_list}
+use Rattle.custody.proofs.Laws.{bytes_at, total_all, total_fits}
 use Rattle.custody.proofs.carried_total.Goals as goal
 
-pub loop-i-preserved : goal.loop-i-preserved
-loop-i-preserved c = record {
-  few = omega arith;
-  left = total_next _ _ _ _ c.len-i-end.ensures.is c.loop-i.i c.loop-i.sum _ _ (omega arith) c.ciphertext_length.ensures.0 refl c.loop-i.invariant.left;
-}
+pub sum-requires-clause-fits : goal.sum-requires-clause-fits
+sum-requires-clause-fits c =
+    fits_by_from_yields_list (bytes_at c.args.carried.area.now c.args.size) (range_with_len 0 c.len.result) c.map.result _
+    (YieldsList-from_map _ (bytes_at c.args.carried.area.now c.args.size) (YieldsList-from_range 0 _ c.len.result c.map.ensures.source (omega arith))
+    c.map.ensures.closure (λ x r q k. search rules)) (total_fits _ _ _ _ c.len.ensures.is c.requires)
 
 pub returns : goal.returns
-returns c = total_end _ _ _ _ c.len-i-end.ensures.is c.loop-i.i c.loop-i.sum (omega arith) c.loop-i.invariant.left
+returns c =
+    sum_by_from_yields_List (bytes_at c.args.carried.area.now c.args.size) (range_with_len 0 c.len.result) c.map.result _ c.sum.ensures.ran
+    (YieldsList-from_map _ (bytes_at c.args.carried.area.now c.args.size) (YieldsList-from_range 0 _ c.len.result c.map.ensures.source (omega arith))
+    c.map.ensures.closure (λ x r q k. search rules))
+    ∙ total_all _ _ _ _ c.len.ensures.is

@@ -1,20 +1,7 @@
-use Rattle.std.proofs.Common.{true, false, sym, ◌∙◌, arith}
-use Rattle.custody.proofs.Laws.{deposit_next, deposit_end}
+-- `custody::deposited`: a row's depositor is the number at 8 of its bytes, so that the count of the rows of bytes is the count of the typed rows. Assumes nothing.
+use Rattle.std.proofs.Common.{rules}
+use Rattle.custody.proofs.Laws.{deposits, deposit_all}
 use Rattle.custody.proofs.deposited.Goals as goal
-use Rattle.custody.proofs.deposited.Goals.{then-eq, else-eq}
-
-pub loop-i-preserved : goal.loop-i-preserved
-loop-i-preserved c =
-    elim c.if-eq.branch [
-      | then-eq w ↦ record {
-        few = omega arith;
-        left = deposit_next _ _ _ _ c.len-i-end.ensures.is c.loop-i.i _ c.loop-i.sum _ true (omega arith) c.get_u64.ensures (sym c.eq.ensures ∙ w.if-eq.true) w.sum-is c.loop-i.invariant.left;
-      }
-      | else-eq w ↦ record {
-        few = omega arith;
-        left = deposit_next _ _ _ _ c.len-i-end.ensures.is c.loop-i.i _ c.loop-i.sum _ false (omega arith) c.get_u64.ensures (sym c.eq.ensures ∙ w.if-eq.false) w.sum-is c.loop-i.invariant.left;
-      }
-    ]
 
 pub returns : goal.returns
-returns c = deposit_end _ _ _ _ c.len-i-end.ensures.is c.loop-i.i c.loop-i.sum (omega arith) c.loop-i.invariant.left
+returns c = deposit_all _ _ _ _ _ c.len.ensures.is (c.count.ensures (deposits c.args.peer) (λ row b h e. search rules))

@@ -1,17 +1,11 @@
-use Rattle.std.proofs.Common.{◌≡◌, ℕ, ◌+◌, ◌-◌, true, false, drop, sym, ap, ◌∙◌, arith}
-use Rattle.model.specs.Window.{window_rows, keys_rise}
-use Rattle.custody.proofs.Windows.{rise_next, rise_end}
+-- `custody::keys_rise`: the keys rise if each row from the second on is above the one before it. Assumes nothing.
+use Rattle.std.proofs.Common.{true, false, refl, rules, tests}
+use Rattle.std.proofs.lemmas.Iterator.{YieldsList-from_range, cases_from_all}
+use Rattle.custody.proofs.Windows.{rise_told, rise_at}
 use Rattle.custody.proofs.keys_rise.Goals as goal
 
-pub returns-then-not-rises : goal.returns-then-not-rises
-returns-then-not-rises c =
-    sym (c.loop-i.invariant ∙ rise_next _ (c.loop-i.i - 1) false (omega arith) (sym c.rises.ensures ∙ c.if-not-rises.true))
-
-pub loop-i-preserved : goal.loop-i-preserved
-loop-i-preserved c =
-    let e : c.loop-i.i - 1 + 1 ≡ c.loop-i.i + 1 - 1 = omega arith in
-    c.loop-i.invariant ∙ rise_next _ (c.loop-i.i - 1) true (omega arith) (sym c.rises.ensures ∙ c.if-not-rises.false)
-    ∙ ap (λ (k : ℕ). keys_rise (drop k (window_rows c.args.window.now))) e
-
 pub returns : goal.returns
-returns c = sym (c.loop-i.invariant ∙ rise_end _ (c.loop-i.i - 1) (omega arith))
+returns c =
+    rise_told _ _ _ refl
+    (cases_from_all _ _ _ (rise_at c.args.window.now true) (rise_at c.args.window.now false) c.all.ensures.ran (YieldsList-from_range 1 _ _ refl refl)
+    (λ x q k. search (rules, tests)) (λ x q k. search (rules, tests)))

@@ -1,13 +1,11 @@
--- `custody::mark_cells`: the rows from i on are yet to be marked; a store past the marks would change nothing. Assumes nothing.
-use Rattle.std.proofs.Common.{ℕ, List, length, drop}
+-- `custody::mark_cells`: the cells of the rows left are yet to be marked; a store past the marks would change nothing. Assumes nothing.
+use Rattle.std.proofs.Common.{length}
 use Rattle.table.specs.Rows.{held}
-use Rattle.table.specs.declared.Table.{Table}
 use Rattle.custody.specs.Named.{cells_named}
-use Rattle.custody.proofs.Cells.{Marking}
+use Rattle.custody.proofs.Cells.{Chunked}
 use Rattle.custody.proofs.mark_cells.Given as goal
 
-abbrev pub named : {w : ℕ} → Table w → ℕ → List ℕ
-named {w} t offset = cells_named w offset (held (length t.area.now) w t.count) t.area.now
-
-abbrev pub invariant-loop-i : goal.invariant-loop-i
-invariant-loop-i g l = Marking (named l.rows l.offset) (drop l.i (named l.rows l.offset)) l.marks
+abbrev pub invariant-loop-row : goal.invariant-loop-row
+invariant-loop-row g l =
+    Chunked g.row.W l.offset (cells_named g.row.W l.offset (held (length l.rows.area.now) g.row.W l.rows.count) l.rows.area.now)
+    l.row-iterator.n l.row-iterator.iter.size l.row-iterator.iter.rest.now l.marks

@@ -1,5 +1,5 @@
 -- Bytes are read behind what is kept, and there is room for them where more input is wanted. Assumes nothing.
-use Rattle.std.proofs.Common.{true, false, ◌∙◌, sym, rules}
+use Rattle.std.proofs.Common.{Some, None, ◌∙◌, sym, rules}
 use denote.Enum.Bare.{differs_false}
 use Rattle.drill_log.specs.contracts.Why.{the_type}
 use Rattle.drill_log.specs.declared.Why.TheVariants as cause
@@ -14,10 +14,10 @@ read_behind-requires c =
 
 pub returns-in-Ok : goal.returns-in-Ok
 returns-in-Ok c =
-    filled false c.requires c.keep-kept.ensures c.keep-kept.array_long c.in-Ok.ensures (search rules)
+    filled (Some _) c.requires c.keep-kept.ensures c.keep-kept.array_long c.in-Ok.ensures (search rules)
     (differs_false the_type tt c.args.turn.why cause.More (sym c.ne.ensures ∙ c.if-ne.false)) c.grow.ensures
 
 pub returns-in-Err : goal.returns-in-Err
 returns-in-Err c =
-    filled true c.requires c.keep-kept.ensures c.keep-kept.array_long c.in-Err.ensures (search rules)
+    filled None c.requires c.keep-kept.ensures c.keep-kept.array_long c.in-Err.ensures (search rules)
     (differs_false the_type tt c.args.turn.why cause.More (sym c.ne.ensures ∙ c.if-ne.false)) c.grow-in-Err.ensures

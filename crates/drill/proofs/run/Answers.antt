@@ -5,8 +5,8 @@ use Rattle.drill.proofs.run.Goals as goal
 
 pub loop-init : goal.loop-init
 loop-init c =
-    sending_start _ _ _ _ _ _ _ _ c.no_tables-tables.ensures.zeros.0 c.no_tables-tables.ensures.zeros.1 c.start-turn.ensures
-    (search rules) (search rules) (search rules) (search rules) c.no_tables-tables.ensures.sizes.0 c.no_tables-tables.ensures.sizes.1
+    sending_start _ _ _ _ _ _ _ _ c.zeros-tables.ensures.zeros.0 c.zeros-tables.ensures.zeros.1 c.start-turn.ensures
+    (search rules) (search rules) (search rules) (search rules) c.zeros-tables.ensures.sizes.0 c.zeros-tables.ensures.sizes.1
 
 pub finish-requires : goal.finish-requires
 finish-requires c = stops_at_end c.loop.invariant.turning.between c.fill-filled.ensures.fed

@@ -12,4 +12,4 @@ pub returns : goal.returns
 returns c =
     let l : length c.args.tables.now.replies ≡ 61440 = search rules in
     asked fetch_told (log.fetch c.args.peer c.args.tag) (λ i. calls.fetch (l i) c.args.peer c.args.tag)
-    (λ s. fetch_told_lem s _ _ _ _ _) (on_replies _ (tables_in c.args.device c.args.exchange c.args.tables.now) _ c.fetch.ensures) c.fetched.ensures
+    (λ s. fetch_told_lem s _ _ _ _ _) (on_replies _ (tables_in c.args.device c.args.exchange c.args.tables.now) _ c.fetch.ensures) c.fetch_said.ensures

@@ -2,8 +2,8 @@
 use Rattle.std.proofs.Common.{◌≡◌, length, rules}
 use Rattle.model.specs.Calls as calls
 use Rattle.wire.specs.Log as log
-use Rattle.drill_calls.specs.Asking.{tomb_told, tables_in}
-use Rattle.drill_calls.proofs.AskLaws.{asked}
+use Rattle.drill_calls.specs.Asking.{told_with, tomb_said, tables_in}
+use Rattle.drill_calls.proofs.AskLaws.{asked, mapped}
 use Rattle.drill_calls.proofs.DrillLaws.{on_actions}
 use Rattle.drill_calls.proofs.StepLaws.{tomb_told_lem}
 use Rattle.drill_calls.proofs.receive_tomb.Goals as goal
@@ -11,6 +11,6 @@ use Rattle.drill_calls.proofs.receive_tomb.Goals as goal
 pub returns : goal.returns
 returns c =
     let k : length c.args.tables.now.actions ≡ 19968 = search rules in
-    asked tomb_told (log.tomb c.args.peer c.args.tag c.args.s)
+    asked (told_with tomb_said) (log.tomb c.args.peer c.args.tag c.args.s)
     (λ i. calls.tomb (k i) c.args.peer c.args.tag c.args.s)
-    (λ s. tomb_told_lem s _ _ _ _) (on_actions _ (tables_in c.args.device.now c.args.exchange c.args.tables.now) _ c.receive_tomb.ensures) c.met.ensures
+    (λ s. tomb_told_lem s _ _ _ _) (on_actions _ (tables_in c.args.device.now c.args.exchange c.args.tables.now) _ c.receive_tomb-answer.ensures) (mapped tomb_said c.receive_tomb-answer.result (λ a s h. search rules) c.map.ensures.cases)

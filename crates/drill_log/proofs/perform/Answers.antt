@@ -13,6 +13,6 @@ record_lines-put-requires c = lines_room _ _ _ _ _ _ (search rules) (search rule
 pub returns : goal.returns
 returns c = record {
   within = lines_within _ _ _ _ (search rules) (search rules) (c.record_lines-put.ensures anything);
-  done = performs _ (body_proper _ (bytes_of c.args.body.now (λ i. search rules)) _) (search rules) (search rules)
-      c.ask-t.ensures c.record_lines-put.ensures (omega (arith, c.requires)) c.stops.ensures;
+  done = performs _ (body_proper _ (bytes_of c.args.body.now (λ i. search rules)) _) _ (search rules) (search rules)
+      c.ask-said.ensures c.record_lines-put.ensures (omega (arith, c.requires)) c.stops.ensures;
 }

@@ -9,4 +9,4 @@ unfolding cell_length
 slice_bounds-result-end c = omega arith
 
 pub returns : goal.returns
-returns c = part_lent _ _ _ c.min-at.ensures c.cell_length-n.ensures.0
+returns c = part_lent _ _ _ (rw c.from.ensures at c.min-at.ensures) c.cell_length-n.ensures.0

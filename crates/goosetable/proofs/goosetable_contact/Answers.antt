@@ -1,18 +1,14 @@
 -- The byte is read, and then by the law of small areas, from the call by value.
 use Rattle.std.proofs.Common.{sym, refl, ◌∙◌}
 use Rattle.host_answers.specs.HostAnswers.{done_answer}
-use Rattle.goosetable.specs.Hosts.{reads, unread}
+use Rattle.goosetable.specs.Hosts.{reads}
 use Rattle.goosetable.proofs.StayLaws.{only_answers}
-use Rattle.goosetable.proofs.TellLaws.{contact_tells}
+use Rattle.goosetable.proofs.TellLaws.{done_tells}
 use Rattle.goosetable.proofs.CountLaws.{contact_counted}
 use Rattle.goosetable.proofs.HostLaws.{hosts_device}
 use Rattle.goosetable.proofs.goosetable_contact.Goals as goal
 
-pub returns-in_default : goal.returns-in_default
-returns-in_default c =
-    unread (sym c.from_byte.ensures ∙ c.in_default.is) (record { answer = c.answer_of.ensures; areas = refl })
-
 pub returns : goal.returns
 returns c =
     reads _ (sym c.from_byte.ensures ∙ c.in-Some.is)
-    (hosts_device done_answer contact_tells (only_answers _) (λ s. refl) (contact_counted _ _) c.done_answer.ensures (λ s a. refl, λ s a. refl) c.device_of-d.ensures c.put_device.ensures c.contact-said.ensures)
+    (hosts_device done_answer done_tells (only_answers _) (λ s. refl) (contact_counted _ _) c.done_answer.ensures (λ s a. refl, λ s a. refl) c.device_of-d.ensures c.put_device.ensures c.contact-said.ensures)

@@ -1,16 +1,12 @@
 -- The byte is read, and then by the law of small areas, from the call by value.
 use Rattle.std.proofs.Common.{sym, refl, ◌∙◌}
 use Rattle.host_answers.specs.HostAnswers.{own_answers}
-use Rattle.goosetable.specs.Hosts.{reads, unread}
+use Rattle.goosetable.specs.Hosts.{reads}
 use Rattle.goosetable.proofs.StayLaws.{only_answers}
 use Rattle.goosetable.proofs.TellLaws.{own_tells}
 use Rattle.goosetable.proofs.CountLaws.{own_counted}
 use Rattle.goosetable.proofs.HostLaws.{hosts_device}
 use Rattle.goosetable.proofs.goosetable_own_envelope.Goals as goal
-
-pub returns-in_default : goal.returns-in_default
-returns-in_default c =
-    unread (sym c.from_label.ensures ∙ c.in_default.is) (record { answer = c.answer_of.ensures; areas = refl })
 
 pub returns : goal.returns
 returns c =

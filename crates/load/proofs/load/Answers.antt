@@ -7,8 +7,8 @@ use Rattle.load.proofs.load.Goals as goal
 pub get_u64-next-requires : goal.get_u64-next-requires
 get_u64-next-requires c = fine_ten _ _ _ _ c.in_ok-test_file.ensures
 
-pub load_records-have-requires : goal.load_records-have-requires
-load_records-have-requires c = fine_areas _ _ _ _ _ (search rules) c.in_ok-test_file.ensures
+pub load_records-counts-requires : goal.load_records-counts-requires
+load_records-counts-requires c = fine_areas _ _ _ _ _ (search rules) c.in_ok-test_file.ensures
 
 pub returns-in_err-test_file : goal.returns-in_err-test_file
 returns-in_err-test_file c a =
@@ -16,4 +16,4 @@ returns-in_err-test_file c a =
     rw (p.1, p.2) (load_refused _ _ _ _ _ _ a _ c.in_err-test_file.ensures)
 
 pub returns : goal.returns
-returns c a = load_performed _ _ _ _ _ _ a c.in_ok-test_file.ensures c.load_records-have.ensures c.get_u64-next.ensures
+returns c a = load_performed _ _ _ _ _ _ a c.in_ok-test_file.ensures c.load_records-counts.ensures c.get_u64-next.ensures

@@ -7,5 +7,5 @@ abbrev pub invariant-loop-record : goal.invariant-loop-record
 invariant-loop-record l = record {
   can : goal.iterator-loop-record.can_next l.record-iterator;
   finite : goal.iterator-loop-record.is_finite l.record-iterator;
-  loading : Loading l.file l.initial.carried l.initial.tombstones l.initial.cells (left l.record-iterator) l.have l.carried l.tombstones l.cells;
+  loading : Loading l.file l.initial.carried l.initial.tombstones l.initial.cells (left l.record-iterator) l.counts l.carried l.tombstones l.cells;
 }

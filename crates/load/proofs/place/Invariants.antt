@@ -3,4 +3,4 @@ use Rattle.load.proofs.PlaceLaws.{Above}
 use Rattle.load.proofs.place.Given as goal
 
 abbrev pub invariant-loop-i : goal.invariant-loop-i
-invariant-loop-i l = Above l.width l.n l.area l.slot l.i
+invariant-loop-i g l = Above g.row.W l.table.count l.table.area.now l.slot l.i

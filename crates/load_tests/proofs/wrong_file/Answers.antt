@@ -4,8 +4,8 @@ use Rattle.load_tests.specs.Records.{is_carried}
 use Rattle.std.proofs.Common.{sym, refl, ◌∙◌, arith}
 use Rattle.load_tests.proofs.wrong_file.Goals as goal
 
-pub returns-then-file-lt10 : goal.returns-then-file-lt10
-returns-then-file-lt10 c = file_short _ _ _ refl c.if-file-lt10.true
+pub returns-then-file-lt-FILE_HEAD : goal.returns-then-file-lt-FILE_HEAD
+returns-then-file-lt-FILE_HEAD c = file_short _ _ _ refl c.if-file-lt-FILE_HEAD.true
 
 pub returns-then-not-same : goal.returns-then-not-same
 returns-then-not-same c = file_mark _ _ _ (omega arith) refl c.same.ensures c.if-not-same.true
@@ -13,12 +13,12 @@ returns-then-not-same c = file_mark _ _ _ (omega arith) refl c.same.ensures c.if
 pub returns-then-cut_short : goal.returns-then-cut_short
 returns-then-cut_short c = file_cut _ _ _ (omega arith) c.same.ensures c.if-not-same.false refl (sym c.if-cut_short.true ∙ c.cut_short.ensures)
 
-pub returns-then-count-gt256 : goal.returns-then-count-gt256
-returns-then-count-gt256 c = file_over _ _ _ (omega arith) c.same.ensures c.if-not-same.false (sym c.if-cut_short.false ∙ c.cut_short.ensures) c.count.ensures refl c.if-count-gt256.true
+pub returns-then-count-gt-MAX_CARRIED : goal.returns-then-count-gt-MAX_CARRIED
+returns-then-count-gt-MAX_CARRIED c = file_over _ _ _ (omega arith) c.same.ensures c.if-not-same.false (sym c.if-cut_short.false ∙ c.cut_short.ensures) c.count.ensures refl c.if-count-gt-MAX_CARRIED.true
 
 pub wrong_records-requires : goal.wrong_records-requires
 unfolding is_carried
-wrong_records-requires c = omega (arith, c.count.ensures, c.if-count-gt256.false)
+wrong_records-requires c = omega (arith, c.count.ensures, c.if-count-gt-MAX_CARRIED.false)
 
 pub returns : goal.returns
-returns c = file_records _ _ _ (omega arith) c.same.ensures c.if-not-same.false (sym c.if-cut_short.false ∙ c.cut_short.ensures) c.count.ensures c.if-count-gt256.false (by_next _ _ c.get_u64-next.ensures c.wrong_records.ensures)
+returns c = file_records _ _ _ (omega arith) c.same.ensures c.if-not-same.false (sym c.if-cut_short.false ∙ c.cut_short.ensures) c.count.ensures c.if-count-gt-MAX_CARRIED.false (by_next _ _ c.get_u64-next.ensures c.wrong_records.ensures)

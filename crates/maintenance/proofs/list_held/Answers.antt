@@ -1,10 +1,12 @@
-use Rattle.std.proofs.Common.{refl, sym, ◌∙◌, arith}
+use Rattle.std.proofs.Common.{◌≡◌, refl, sym, ◌∙◌, arith, rules}
 use Rattle.maintenance.proofs.MergeLaws.{merging_start}
 use Rattle.maintenance.proofs.StepLaws.{within, listed_all}
 use Rattle.maintenance.proofs.list_held.Goals as goal
 
 pub loop-row-init : goal.loop-row-init
-loop-row-init c = record { merging = merging_start _ _ _ _ _; size = refl; done = refl }
+loop-row-init c =
+    let e : c.default-next.result ≡ record { carried = 0; tombstones = 0 } = search rules in
+    record { merging = rw e (merging_start _ _ _ _ _); size = refl; done = rw e refl }
 
 pub list_one-requires : goal.list_one-requires
 list_one-requires c =

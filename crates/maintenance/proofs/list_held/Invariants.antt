@@ -7,7 +7,7 @@ use Rattle.maintenance.proofs.list_held.Given as goal
 
 abbrev pub invariant-loop-row : goal.invariant-loop-row
 invariant-loop-row l = record {
-  merging : Merging l.minute (rows_in carried_codec l.held.carried) (rows_in tombstone_codec l.held.tombstones) l.initial.actions l.k l.actions l.t.next.carried l.t.next.tombstones l.t.listed;
+  merging : Merging l.minute (rows_in carried_codec l.held.carried) (rows_in tombstone_codec l.held.tombstones) l.initial.actions l.k l.actions l.progress.next.carried l.progress.next.tombstones l.progress.listed;
   size : length l.actions ≡ length l.initial.actions;
-  done : l.t.next.carried + l.t.next.tombstones ≡ l._row;
+  done : l.progress.next.carried + l.progress.next.tombstones ≡ l._row;
 }

@@ -13,8 +13,8 @@ returns-then-lives-2 c =
 
 pub returns : goal.returns
 returns c = elim c.if-tombstone_first.branch [
-  | then-tombstone_first w ↦ rw (w.t-is, w.actions-is) (list_tombstone _ _ _ _ c.requires c.lives.ensures c.if-lives.false c.lives-2.ensures c.if-lives-2.false
+  | then-tombstone_first w ↦ rw (w.progress-is, w.actions-is) (list_tombstone _ _ _ _ c.requires c.lives.ensures c.if-lives.false c.lives-2.ensures c.if-lives-2.false
       c.tombstone_first.ensures _ _ _ refl w.delete_courier.ensures w.if-tombstone_first.true w.get_u64-slot.ensures)
-  | else-tombstone_first w ↦ rw (w.t-is, w.actions-is) (list_carried _ _ _ _ c.requires c.lives.ensures c.if-lives.false c.lives-2.ensures c.if-lives-2.false
+  | else-tombstone_first w ↦ rw (w.progress-is, w.actions-is) (list_carried _ _ _ _ c.requires c.lives.ensures c.if-lives.false c.lives-2.ensures c.if-lives-2.false
       c.tombstone_first.ensures _ _ _ refl w.delete_courier-else-tombstone_first.ensures w.if-tombstone_first.false w.get_u64-slot-else-tombstone_first.ensures)
 ]

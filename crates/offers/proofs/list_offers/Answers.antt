@@ -1,21 +1,15 @@
-use Rattle.std.proofs.Common.{◌≡◌, ◌<◌, length, refl, true, false, sym, ◌∙◌, ◌+◌, arith, rules, set-set}
-use Rattle.offers.proofs.OfferLaws.{not_spare, was_listed, was_tombstoned, is_offered_lem}
+use Rattle.std.proofs.Common.{◌≡◌, ◌<◌, length, true, false, sym, ◌∙◌, ◌+◌, arith, rules, le-ltb, lt-ltb, set-set}
+use Rattle.offers.proofs.OfferLaws.{stays, last_copy, was_listed, was_tombstoned, is_offered_lem}
 use Rattle.offers.proofs.ListingLaws.{listed_next, listed_end, tombstoned_next, tombstoned_end, listing_start, listing_next, listing_end}
 use Rattle.offers.proofs.list_offers.Goals as goal
-use Rattle.offers.proofs.list_offers.Goals.{then-row, else-row+then-loop-j-test+then-same, else-row+else-loop-j-test+then-loop-t-test+then-same-2, else-row+else-loop-j-test+else-loop-t-test}
+use Rattle.offers.proofs.list_offers.Goals.{in_default, in-Some+then-row-le1, in-Some+else-row-le1+then-loop-j-test+then-same, in-Some+else-row-le1+else-loop-j-test+then-loop-t-test+then-same-2, in-Some+else-row-le1+else-loop-j-test+else-loop-t-test}
 
 pub loop-i-init : goal.loop-i-init
 loop-i-init c = listing_start _ _ _ _ _ _ _ _ _ _
 
-pub loop-j-init : goal.loop-j-init
-loop-j-init c = refl
-
 pub loop-j-preserved : goal.loop-j-preserved
 loop-j-preserved c =
     c.loop-j.invariant ∙ listed_next _ _ _ c.args.listed.in_bounds _ false c.loop-j-test.true c.same.ensures c.if-same.false
-
-pub loop-t-init : goal.loop-t-init
-loop-t-init c = refl
 
 pub loop-t-preserved : goal.loop-t-preserved
 loop-t-preserved c =
@@ -25,23 +19,24 @@ pub loop-i-preserved : goal.loop-i-preserved
 loop-i-preserved c =
     let next = listing_next _ _ _ _ _ _ _ _ _ _ c.args.held.now.own.in_bounds c.args.held.now.carried.in_bounds c.requires c.loop-i.invariant in
     let more : c.loop-i.i < c.args.held.now.own.n + c.args.held.now.carried.n = omega arith in
-    let wide : length c.row_at-row.result.tag ≡ 16 = search rules in
-    let is = c.row_at-row.ensures in
-    let spare = sym c.may_offer.ensures in
-    elim c.if-row.branch [
-      | then-row w ↦ next false false more (not_spare _ _ _ _ is (spare ∙ w.if-row.true)) _ _ w.searched-is w.flags-is
-      | else-row+then-loop-j-test+then-same w ↦
+    elim c.match-row.branch [
+      | in_default w ↦ next false false more (stays _ _ _ (sym w.in_default.is ∙ c.row_at.ensures)) _ _ w.searched-is w.flags-is
+      | in-Some+then-row-le1 w ↦
+          next false false more (last_copy _ _ _ (sym w.in-Some.is ∙ c.row_at.ensures) (le-ltb _ _ w.if-row-le1.true)) _ _ w.searched-is w.flags-is
+      | in-Some+else-row-le1+then-loop-j-test+then-same w ↦
           next false false more
-          (was_listed _ _ _ _ is (w.loop-j.invariant ∙ listed_next _ _ _ c.args.listed.in_bounds _ true w.loop-j-test.true w.same.ensures w.if-same.true))
+          (was_listed _ _ _ (sym w.in-Some.is ∙ c.row_at.ensures)
+          (w.loop-j.invariant ∙ listed_next _ _ _ c.args.listed.in_bounds _ true w.loop-j-test.true w.same.ensures w.if-same.true))
           _ _ w.searched-is w.flags-is
-      | else-row+else-loop-j-test+then-loop-t-test+then-same-2 w ↦
+      | in-Some+else-row-le1+else-loop-j-test+then-loop-t-test+then-same-2 w ↦
+          let wide : length w.in-Some.row.tag ≡ 16 = search rules in
           next true false more
-          (was_tombstoned _ _ _ _ is (spare ∙ w.if-row.false) (w.loop-j.invariant ∙ listed_end _ _ _ c.args.listed.in_bounds w.loop-j.j w.loop-j-test.false)
+          (was_tombstoned _ _ _ (sym w.in-Some.is ∙ c.row_at.ensures) (lt-ltb _ _ w.if-row-le1.false) (w.loop-j.invariant ∙ listed_end _ _ _ c.args.listed.in_bounds w.loop-j.j w.loop-j-test.false)
           (w.loop-t.invariant ∙ tombstoned_next _ _ _ c.args.tombstones.in_bounds _ true wide w.loop-t-test.true w.same-in-loop-t.ensures w.if-same-2.true))
           _ _ w.searched-is w.flags-is
-      | else-row+else-loop-j-test+else-loop-t-test w ↦
+      | in-Some+else-row-le1+else-loop-j-test+else-loop-t-test w ↦
           next true true more
-          (is_offered_lem _ _ _ _ is (spare ∙ w.if-row.false) (w.loop-j.invariant ∙ listed_end _ _ _ c.args.listed.in_bounds w.loop-j.j w.loop-j-test.false)
+          (is_offered_lem _ _ _ (sym w.in-Some.is ∙ c.row_at.ensures) (lt-ltb _ _ w.if-row-le1.false) (w.loop-j.invariant ∙ listed_end _ _ _ c.args.listed.in_bounds w.loop-j.j w.loop-j-test.false)
           (w.loop-t.invariant ∙ tombstoned_end _ _ _ c.args.tombstones.in_bounds w.loop-t.t w.loop-t-test.false))
           _ _ w.searched-is (w.flags-is ∙ set-set c.loop-i.flags c.loop-i.i false true)
     ]

@@ -3,7 +3,8 @@ use Rattle.std.proofs.Common.{◌≡◌, ℕ, Option, sym, ap, ◌∙◌, arith,
 use Rattle.std.specs.Option.{ok_or}
 use Rattle.std.proofs.lemmas.Result.{err_from_is_err_and}
 use Rattle.courier_core.specs.declared.Refusal.TheVariants as refusal
-use Rattle.own_envelope.proofs.OwnLaws.{room_made, row_left, free_inside}
+use Rattle.model.proofs.CellLaws.{free_inside}
+use Rattle.own_envelope.proofs.OwnLaws.{room_made, row_left}
 use Rattle.own_envelope.proofs.CallLaws.{says_stranger, says_taken, says_length, says_none, says_full, says_row}
 use Rattle.own_envelope.proofs.own_envelope.Goals as goal
 
@@ -29,7 +30,7 @@ returns-then-none_made c a =
 pub new_own-row-requires : goal.new_own-row-requires
 new_own-row-requires c = (
   omega (arith, (room_made _ _ (sym c.none_made.ensures ∙ c.if-none_made.false)).0),
-  omega (arith, (free_inside _ _ _ (sym c.in_ok-cell.ensures.ok_part ∙ c.free_own_cell.ensures)).0),
+  omega (arith, (free_inside _ _ _ (sym c.free_own_cell.ensures ∙ c.in_ok-cell.ensures.ok_part)).0),
 )
 
 pub copy_in-requires : goal.copy_in-requires
@@ -38,7 +39,7 @@ copy_in-requires c =
       arith,
       (room_made _ _ (sym c.none_made.ensures ∙ c.if-none_made.false)).0,
       (free_inside _ _ _
-          (sym c.in_ok-cell.ensures.ok_part ∙ c.free_own_cell.ensures)).1,
+          (sym c.free_own_cell.ensures ∙ c.in_ok-cell.ensures.ok_part)).1,
     )
 
 pub insert_own-device-requires : goal.insert_own-device-requires

@@ -27,12 +27,12 @@ read-row-requires-in-Some-slot_place c =
 
 pub returns-in-Some : goal.returns-in-Some
 returns-in-Some c a =
-    says_carried _ _ _ _ _ _ a c.if-blob-lt-BLOB.false _ _ _ (sym c.in-Some.is ∙ carried_place _ _ _ c.slot_place.ensures) c.read-row.ensures c.carried_blob.ensures
+    says_carried _ _ _ _ _ _ a c.if-blob-lt-BLOB.false _ _ _ (sym c.in-Some.is ∙ carried_place _ _ _ c.slot_place.ensures) c.read-row.ensures c.blob.ensures
 
 pub returns-in-Some-slot_place : goal.returns-in-Some-slot_place
 returns-in-Some-slot_place c a =
     says_tombstone _ _ _ _ _ _ a c.if-blob-lt-BLOB.false (sym c.in-None.is ∙ carried_place _ _ _ c.slot_place.ensures) _ _ _
-    (sym c.in-Some-slot_place.is ∙ tombstone_place _ _ _ c.slot_place-in-None.ensures) c.read-row-in-Some-slot_place.ensures c.tombstone_blob.ensures
+    (sym c.in-Some-slot_place.is ∙ tombstone_place _ _ _ c.slot_place-in-None.ensures) c.read-row-in-Some-slot_place.ensures c.blob-in-Some-slot_place.ensures
 
 pub returns-in-None-slot_place : goal.returns-in-None-slot_place
 returns-in-None-slot_place c a =

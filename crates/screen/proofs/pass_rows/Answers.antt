@@ -7,8 +7,8 @@ loop-row-preserved c =
     elim c.if-tombstone_first.branch [
       | then-tombstone_first w ↦
           let b = c.tombstone_first.ensures.tombstone w.if-tombstone_first.true in
-          rw w.t-is (passed_tombstone _ _ _ c.loop-row.invariant b.0 b.1)
+          rw w.next-is (passed_tombstone _ _ _ c.loop-row.invariant b.0 b.1)
       | else-tombstone_first w ↦
           let b = c.tombstone_first.ensures.carried w.if-tombstone_first.false in
-          rw w.t-is (passed_carried _ _ _ c.loop-row.invariant b.0 b.1)
+          rw w.next-is (passed_carried _ _ _ c.loop-row.invariant b.0 b.1)
     ]

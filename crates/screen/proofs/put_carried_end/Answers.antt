@@ -8,5 +8,5 @@ use Rattle.screen.proofs.put_carried_end.Goals as goal
 pub returns : goal.returns
 unfolding carried_end
 returns c =
-    (behind _ (behind _ (behind _ (behind _ (record { area = c.put_blanks.ensures; size = refl }) c.put_column.ensures (length_column 3 _) (omega arith))
+    (behind _ (behind _ (behind _ (behind _ (record { area = c.put_blanks.ensures; size = refl }) (rw c.from.ensures at c.put_column.ensures) (length_column 3 _) (omega arith))
     c.put_blanks-2.ensures refl (omega arith)) c.put_column-2.ensures (length_column 20 _) (omega arith)) c.copy_in.ensures refl (omega arith)).area

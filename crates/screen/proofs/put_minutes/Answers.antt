@@ -6,7 +6,7 @@ use Rattle.screen.proofs.put_minutes.Goals as goal
 
 pub returns-then-minute-expiry : goal.returns-then-minute-expiry
 returns-then-minute-expiry c =
-    c.put_column.ensures ∙ ap (splice c.args.area.now c.args.at) (sym (minutes_left_lem c.args.minute c.args.expiry c.if-minute-expiry.true))
+    (rw c.from.ensures at c.put_column.ensures) ∙ ap (splice c.args.area.now c.args.at) (sym (minutes_left_lem c.args.minute c.args.expiry c.if-minute-expiry.true))
 
 pub returns : goal.returns
 returns c =

@@ -1,17 +1,8 @@
-use Rattle.std.proofs.Common.{◌≡◌, ℕ, ◌+◌, ◌-◌, ◌*◌, ◌<◌, ◌≤◌, List, length, sym, ap, ◌∙◌, arith}
+use Rattle.std.proofs.Common.{sym, ◌∙◌, arith}
 use Rattle.octets.specs.Bytes.{part}
-use Rattle.octets.proofs.Parts.{length_part}
-use Rattle.table.proofs.RowLaws.{row_in}
+use Rattle.table.proofs.RowLaws.{row_at, length_row}
 use Rattle.table.proofs.FindLaws.{row_next, rows_end}
 use Rattle.table.proofs.position.Goals as goal
-
--- row i as the code takes it, and its length
-module _ (a : List ℕ) (w i n : ℕ) where
-  row_at : part a (i * w) (i * w + w - i * w) ≡ part a (i * w) w
-  row_at = let e : i * w + w - i * w ≡ w = omega arith in ap (part a (i * w)) e
-
-  length_row : i < n → n * w ≤ length a → length (part a (i * w) (i * w + w - i * w)) ≡ w
-  length_row h f = ap length row_at ∙ length_part a (i * w) w (omega (arith, row_in i n w h))
 
 pub returns-then-test : goal.returns-then-test
 unfolding part

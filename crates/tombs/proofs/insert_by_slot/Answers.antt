@@ -1,5 +1,5 @@
 -- The row is put in at its place by slot.
-use Rattle.tombs.proofs.MeetLaws.{place_le}
+use Rattle.tombs.proofs.FindLaws.{place_le}
 use Rattle.tombs.proofs.WriteLaws.{by_slot_lem}
 use Rattle.tombs.proofs.insert_by_slot.Goals as goal
 

@@ -1,7 +1,7 @@
 -- The first row of bytes that begins with a higher slot is the first tombstone of a higher slot.
 use Rattle.std.proofs.Common.{◌∙◌, rules, ltb}
 use Rattle.octets.specs.Bytes.{part, num}
-use Rattle.tombs.proofs.MeetLaws.{place_found}
+use Rattle.tombs.proofs.FindLaws.{place_found}
 use Rattle.tombs.proofs.place_by_slot.Goals as goal
 
 pub returns : goal.returns

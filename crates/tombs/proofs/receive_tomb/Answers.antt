@@ -1,4 +1,4 @@
--- The tests in order, and then one match on what is met.
+-- The tests in order, and then one match on what is found.
 use Rattle.std.proofs.Common.{sym, ap, ◌∙◌}
 use Rattle.tombs.specs.Tombs.{met_of}
 use Rattle.tombs.proofs.CallLaws.{tomb_short, tomb_stranger, tomb_turned, tomb_ended, tomb_wrong, tomb_unknown}
@@ -13,16 +13,16 @@ returns-then-not-known c a =
 
 pub returns-in-CarriedAt : goal.returns-in-CarriedAt
 returns-in-CarriedAt c a =
-    tomb_turned _ _ _ _ _ _ _ _ _ a c.if-short_actions.ensures c.if-not-known.ensures (ap met_of (sym c.in-CarriedAt.is) ∙ c.meets.ensures.is) c.turn.ensures
+    tomb_turned _ _ _ _ _ _ _ _ _ a c.if-short_actions.ensures c.if-not-known.ensures (ap met_of (sym c.in-CarriedAt.is) ∙ c.find.ensures.is) c.end_carried.ensures
 
 pub returns-in-OwnAt : goal.returns-in-OwnAt
 returns-in-OwnAt c a =
-    tomb_ended _ _ _ _ _ _ _ _ _ a c.if-short_actions.ensures c.if-not-known.ensures (ap met_of (sym c.in-OwnAt.is) ∙ c.meets.ensures.is) c.end_own.ensures
+    tomb_ended _ _ _ _ _ _ _ _ _ a c.if-short_actions.ensures c.if-not-known.ensures (ap met_of (sym c.in-OwnAt.is) ∙ c.find.ensures.is) c.end_own.ensures
 
-pub returns-in-Wrong : goal.returns-in-Wrong
-returns-in-Wrong c a =
-    tomb_wrong _ _ _ _ _ _ _ _ _ a c.if-short_actions.ensures c.if-not-known.ensures c.meets.ensures.is (ap met_of c.in-Wrong.is)
+pub returns-in-WrongSecret : goal.returns-in-WrongSecret
+returns-in-WrongSecret c a =
+    tomb_wrong _ _ _ _ _ _ _ _ _ a c.if-short_actions.ensures c.if-not-known.ensures c.find.ensures.is (ap met_of c.in-WrongSecret.is)
 
-pub returns-in-Unknown : goal.returns-in-Unknown
-returns-in-Unknown c a =
-    tomb_unknown _ _ _ _ _ _ _ _ _ a c.if-short_actions.ensures c.if-not-known.ensures c.meets.ensures.is (ap met_of c.in-Unknown.is)
+pub returns-in-UnknownTag : goal.returns-in-UnknownTag
+returns-in-UnknownTag c a =
+    tomb_unknown _ _ _ _ _ _ _ _ _ a c.if-short_actions.ensures c.if-not-known.ensures c.find.ensures.is (ap met_of c.in-UnknownTag.is)

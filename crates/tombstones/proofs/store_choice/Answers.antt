@@ -5,6 +5,7 @@ use Rattle.rows.specs.Rows.{tombstone_codec}
 use Rattle.table.proofs.TableLaws.{length_table}
 use Rattle.tombstones.proofs.ChoiceLaws.{choose}
 use Rattle.tombstones.proofs.store_choice.Goals as goal
+use Rattle.tombstones.proofs.store_choice.Goals.{then-n-ge-MAX_TOMBSTONES, else-n-ge-MAX_TOMBSTONES+else-tombstones-n}
 
 pub returns-then-tombstoned : goal.returns-then-tombstoned
 returns-then-tombstoned c = (choose _ _ _ _ refl true _ _ _ (sym c.tombstoned.ensures ∙ c.if-tombstoned.true) refl refl refl refl, tt)
@@ -17,18 +18,18 @@ pub returns-then-device-eq18446744073709551615 : goal.returns-then-device-eq1844
 returns-then-device-eq18446744073709551615 c =
     (choose _ _ _ _ c.len-n.ensures.is false false true _ (sym c.tombstoned.ensures ∙ c.if-tombstoned.false) (grind (arith, nat_tests)) (grind (arith, nat_tests)) refl refl, tt)
 
-pub returns-then-n-lt-MAX_TOMBSTONES-2 : goal.returns-then-n-lt-MAX_TOMBSTONES-2
-returns-then-n-lt-MAX_TOMBSTONES-2 c = (
-  choose _ _ _ _ c.len-n.ensures.is false false false false (sym c.tombstoned.ensures ∙ c.if-tombstoned.false) (grind (arith, nat_tests)) (grind (arith, nat_tests)) (grind (arith, nat_tests)) refl,
-  record { rows = omega (arith, c.len-n.ensures.is); slot = omega arith },
-)
-
 pub returns : goal.returns
-returns c = (
-  choose _ _ _ _ c.len-n.ensures.is false false false true (sym c.tombstoned.ensures ∙ c.if-tombstoned.false) (grind (arith, nat_tests)) (grind (arith, nat_tests)) (grind (arith, nat_tests)) c.least_expiry.ensures.is,
-  record {
-    row = omega (arith, c.least_expiry.ensures.inside, c.len-n.ensures.is, length_table tombstone_codec c.args.device.tombstones c.args.tombstones.now);
-    rows = omega (arith, c.len-n.ensures.is, c.len-n.ensures.inside);
-    slot = omega arith;
-  },
-)
+returns c = elim c.if-n-ge-MAX_TOMBSTONES.branch [
+  | then-n-ge-MAX_TOMBSTONES w ↦ rw w.how-is (
+    choose _ _ _ _ c.len-n.ensures.is false false false true (sym c.tombstoned.ensures ∙ c.if-tombstoned.false) (grind (arith, nat_tests)) (grind (arith, nat_tests)) (grind (arith, nat_tests)) w.least_expiry.ensures.is,
+    record {
+      row = omega (arith, w.least_expiry.ensures.inside, c.len-n.ensures.is, length_table tombstone_codec c.args.device.tombstones c.args.tombstones.now);
+      rows = omega (arith, c.len-n.ensures.is, c.len-n.ensures.inside);
+      slot = omega arith;
+    },
+  )
+  | else-n-ge-MAX_TOMBSTONES+else-tombstones-n w ↦ rw w.how-is (
+    choose _ _ _ _ c.len-n.ensures.is false false false false (sym c.tombstoned.ensures ∙ c.if-tombstoned.false) (grind (arith, nat_tests)) (grind (arith, nat_tests)) (grind (arith, nat_tests)) refl,
+    record { rows = omega (arith, c.len-n.ensures.is); slot = omega arith },
+  )
+]

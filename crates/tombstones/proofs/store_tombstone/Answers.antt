@@ -1,5 +1,7 @@
 -- Each way of storing writes what the model says of it.
-use Rattle.std.proofs.Common.{arith}
+use Rattle.std.proofs.Common.{◌<◌, length, ap, ◌∙◌, rules, arith}
+use Rattle.table.specs.Rows.{held}
+use Rattle.tombstones.proofs.WriteLaws.{slot_read}
 use Rattle.tombstones.proofs.StoreLaws.{stores_nothing, stores_one, stores_moved}
 use Rattle.tombstones.proofs.store_tombstone.Goals as goal
 
@@ -12,4 +14,5 @@ returns-in-Append c =
 
 pub returns-in-Evict : goal.returns-in-Evict
 returns-in-Evict c =
-    ((λ s r k. stores_moved _ _ _ _ _ _ _ _ s r k c.tombstone-row.ensures _ _ _ _ _ _ c.requires.1 c.in-Evict.is c.evict.ensures c.slot_at-gone.ensures c.delete_courier.ensures c.put_courier-in-Evict.ensures), omega arith)
+    let inside : c.in-Evict.i < held (length c.args.tombstones.now) 44 c.args.device.now.tombstones = search rules in
+    ((λ s r k. stores_moved _ _ _ _ _ _ _ _ s r k c.tombstone-row.ensures _ _ _ _ _ _ c.requires.1 c.in-Evict.is c.evict.ensures (ap (λ t. t.slot) c.read-gone.ensures ∙ slot_read _ _ _ inside) c.delete_courier.ensures c.put_courier-in-Evict.ensures), omega arith)

@@ -1,16 +1,10 @@
 -- The test of the action area, and then the choice.
-use Rattle.std.proofs.Common.{length, arith}
 use Rattle.std.proofs.lemmas.Result.{err_from_is_err_and}
-use Rattle.tombstones.proofs.ChoiceLaws.{rows_listed}
 use Rattle.tombstones.proofs.CallLaws.{says_short, says_refused, says_stored_lem}
 use Rattle.tombstones.proofs.stored_tombstone.Goals as goal
 
 pub returns-then-short_actions : goal.returns-then-short_actions
 returns-then-short_actions c a = says_short _ _ _ _ _ _ a c.if-short_actions.ensures
-
-pub store_tombstone-requires : goal.store_tombstone-requires
-store_tombstone-requires c =
-    (c.in_ok-how.ensures.1, omega (arith, rows_listed (length c.args.actions.now) (length c.args.tombstones.now) c.if-short_actions.ensures))
 
 pub returns-in_err-how : goal.returns-in_err-how
 returns-in_err-how c a =

@@ -1,5 +1,9 @@
+use mathlib.Core.Path.{refl}
 use Rattle.hasher.proofs.TakenLaws.{push_whole}
 use Rattle.hasher.proofs.Hasher.push_blocks.Goals as goal
 
-pub returns-clause-by_index : goal.returns-clause-by_index
-returns-clause-by_index c = push_whole c.args.self c.args.m.now c.blocks-next.result c.requires.m_bound.0 c.requires.m_bound.1 c.blocks-next.ensures
+pub returns : goal.returns
+returns c = record {
+  by_index = push_whole c.args.self c.args.m.now c.blocks-next.result c.requires.m_bound.0 c.requires.m_bound.1 c.blocks-next.ensures;
+  count = refl;
+}

@@ -1,16 +1,7 @@
 -- What the lookup finds, and whether it is bad or tombstoned.
-use Rattle.std.proofs.Common.{sym, ◌∙◌, arith}
-use Rattle.inventory.proofs.ListedLaws.{window_row_lem, fetch_none, fetch_bad, fetch_tombstoned, fetch_tag}
+use Rattle.std.proofs.Common.{sym, ◌∙◌}
+use Rattle.inventory.proofs.ListedLaws.{fetch_none, fetch_bad, fetch_tombstoned, fetch_tag}
 use Rattle.inventory.proofs.Lookup.tag_to_fetch.Goals as goal
-
-pub overflow_mul-i : goal.overflow_mul-i
-overflow_mul-i c = omega (arith, window_row_lem _ _ _ (sym c.in_ok-i.was ∙ c.lookup_prefix.ensures))
-
-pub overflow_add-i : goal.overflow_add-i
-overflow_add-i c = omega (arith, window_row_lem _ _ _ (sym c.in_ok-i.was ∙ c.lookup_prefix.ensures))
-
-pub get_array-tag-requires : goal.get_array-tag-requires
-get_array-tag-requires c = omega (arith, window_row_lem _ _ _ (sym c.in_ok-i.was ∙ c.lookup_prefix.ensures))
 
 pub returns-in_err-i : goal.returns-in_err-i
 returns-in_err-i c = rw c.from_residual.ensures (fetch_none _ _ _ _ _ (sym c.in_err-i.was ∙ c.lookup_prefix.ensures))

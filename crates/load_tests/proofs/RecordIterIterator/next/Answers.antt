@@ -4,11 +4,11 @@ use Rattle.load_tests.specs.Records.{left}
 use Rattle.load_tests.proofs.RecordLaws.{size_least, sized, records_none, records_next}
 use Rattle.load_tests.proofs.RecordIterIterator.next.Goals as goal
 
-pub returns-then-self-lt12-clause-steps : goal.returns-then-self-lt12-clause-steps
+pub returns-then-self-lt-RECORD_HEAD-clause-steps : goal.returns-then-self-lt-RECORD_HEAD-clause-steps
 unfolding left
-returns-then-self-lt12-clause-steps c =
+returns-then-self-lt-RECORD_HEAD-clause-steps c =
     let b = c.args.self.now.rest.now in
-    let e = records_none (length b) b (omega (arith, size_least b, c.if-self-lt12.true)) in
+    let e = records_none (length b) b (omega (arith, size_least b, c.if-self-lt-RECORD_HEAD.true)) in
     (e, e)
 
 pub returns-then-self-n-clause-steps : goal.returns-then-self-n-clause-steps

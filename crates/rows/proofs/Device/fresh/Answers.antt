@@ -1,14 +1,16 @@
--- The setting is what its default gives; the rest is as written.
+-- Each field is what the derived default gives.
 use Rattle.rows.proofs.Device.fresh.Goals as goal
 
 pub returns : goal.returns
-returns c = λ i. record {
-  courier = c.default.ensures i;
-  now_s = 0;
-  contacts = 0;
-  own = 0;
-  carried = 0;
-  tombstones = 0;
-  bad_tags = 0;
-  next_slot = 0;
-}
+returns c =
+    let e = c.default.ensures in
+    λ i. record {
+      courier = e.0 i;
+      now_s = e.1.0 i;
+      contacts = e.1.1.0 i;
+      own = e.1.1.1.0 i;
+      carried = e.1.1.1.1.0 i;
+      tombstones = e.1.1.1.1.1.0 i;
+      bad_tags = e.1.1.1.1.1.1.0 i;
+      next_slot = e.1.1.1.1.1.1.1 i;
+    }

@@ -1,9 +1,11 @@
-use Rattle.std.proofs.Common.{arith}
-use Rattle.saved.proofs.TurnLaws.{saving_start, saving_more, saving_end}
+use Rattle.std.proofs.Common.{◌≡◌, arith, rules}
+use Rattle.saved.proofs.ProgressLaws.{saving_start, saving_more, saving_end}
 use Rattle.saved.proofs.HeldRows.save_rows.Goals as goal
 
 pub loop-row-init : goal.loop-row-init
-loop-row-init c = (omega arith, saving_start _ _)
+loop-row-init c =
+    let e : c.default.result ≡ record { carried = 0; tombstones = 0 } = search rules in
+    (omega arith, rw e (saving_start _ _))
 
 pub loop-row-preserved : goal.loop-row-preserved
 loop-row-preserved c =

@@ -1,0 +1,21 @@
+-- One of the R rows is there or not; then the row changes its table.
+use Rattle.std.proofs.Common.{length, arith}
+use Rattle.fetch.proofs.SearchLaws.{row_within}
+use Rattle.tombs.proofs.WriteLaws.{turns}
+use Rattle.tombs.proofs.CallLaws.{no_row, has_row}
+use Rattle.tombs.proofs.end_carried.Goals as goal
+
+pub returns-then-tombstones-count : goal.returns-then-tombstones-count
+returns-then-tombstones-count c a = no_row _ _ _ _ _ _ _ c.fit-count.ensures.is a (omega arith)
+
+pub overflow_mul-i : goal.overflow_mul-i
+overflow_mul-i c =
+    omega (arith, row_within (length c.args.carried.now) 57 c.args.device.now.carried c.args.i c.requires.0)
+
+pub read-row-requires : goal.read-row-requires
+read-row-requires c =
+    row_within (length c.args.carried.now) 57 c.args.device.now.carried c.args.i c.requires.0
+
+pub returns : goal.returns
+returns c a =
+    has_row _ _ _ _ _ _ _ c.fit-count.ensures.is a (omega arith) (turns _ _ _ _ _ _ _ a c.requires.0 c.read-row.ensures c.tombstone_of.ensures c.insert_by_slot-device.ensures c.remove-device.ensures c.put_courier.ensures)
