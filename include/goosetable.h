@@ -285,7 +285,7 @@ goosetable_answer goosetable_fresh_exchange(
  * a put of its slot. 4 and 6 come only where the code would be Accepted.
  * Writes: device, carried, carried_cells, replies, actions.
  * Refused by: 1 (replies, actions), 12, 2, 4, 6.
- * Stack: 556 bytes.
+ * Stack: 565 bytes.
  */
 goosetable_answer goosetable_envelope(
     uint8_t device[GOOSETABLE_DEVICE_SIZE],
@@ -316,7 +316,7 @@ goosetable_answer goosetable_envelope(
  * envelope. It takes no copies off.
  * Writes: replies.
  * Refused by: 1 (replies), 2.
- * Stack: 4,488 bytes.
+ * Stack: 4,248 bytes.
  */
 goosetable_answer goosetable_fetch(
     const uint8_t device[GOOSETABLE_DEVICE_SIZE],
@@ -339,7 +339,7 @@ goosetable_answer goosetable_fetch(
  * there.
  * Writes: device, own, own_cells, row.
  * Refused by: 12, 2, 10, 11, 4.
- * Stack: 5,512 bytes.
+ * Stack: 5,800 bytes.
  */
 goosetable_answer goosetable_own_envelope(
     uint8_t device[GOOSETABLE_DEVICE_SIZE],
@@ -388,7 +388,7 @@ goosetable_answer goosetable_inventory_of_ours(
  * list after the terminator.
  * Writes: exchange, prefixes, offers, replies.
  * Refused by: 1 (replies, prefixes, offers), 12, 2, 3.
- * Stack: 5,160 bytes.
+ * Stack: 4,968 bytes.
  */
 goosetable_answer goosetable_inventory(
     const uint8_t device[GOOSETABLE_DEVICE_SIZE],
@@ -462,7 +462,7 @@ goosetable_answer goosetable_stored_tombstone(
  * goosetable_stored_tombstone. A wrong secret is MALFORMED; an unknown tag changes nothing, and is DONE.
  * Writes: device, own, carried, tombstones, actions.
  * Refused by: 1 (actions), 2, 5, 6.
- * Stack: 4,568 bytes.
+ * Stack: 4,376 bytes.
  */
 goosetable_answer goosetable_tomb(
     uint8_t device[GOOSETABLE_DEVICE_SIZE],
@@ -503,7 +503,7 @@ goosetable_answer goosetable_opened(
  * fetches of goosetable_inventory and nothing else.
  * Writes: device, bad_tags.
  * Refused by: 2, 9.
- * Stack: 90 bytes.
+ * Stack: 83 bytes.
  */
 goosetable_answer goosetable_failed(
     uint8_t device[GOOSETABLE_DEVICE_SIZE],
@@ -600,7 +600,7 @@ goosetable_answer goosetable_page(
  * number of rows (1,024 tombstones: about a hundred times as long). Of areas that calls left, goosetable_save writes no file whose slots do not rise.
  * Writes: device, carried, tombstones, carried_cells.
  * Refused by: 8, 4, 5.
- * Stack: 6,612 bytes.
+ * Stack: 6,588 bytes.
  */
 goosetable_answer goosetable_load(
     uint8_t device[GOOSETABLE_DEVICE_SIZE],
@@ -640,7 +640,7 @@ goosetable_answer goosetable_window(
  * of keys, the index counts along it.
  * Writes: tag.
  * Refused by: 12.
- * Stack: 4,968 bytes.
+ * Stack: 5,288 bytes.
  */
 goosetable_answer goosetable_route_tag(
     const uint8_t route_key[GOOSETABLE_KEY_SIZE],
@@ -654,7 +654,7 @@ goosetable_answer goosetable_route_tag(
  * whoever opened the message to goosetable_opened: to know it proves that the message arrived.
  * Writes: s.
  * Refused by: nothing.
- * Stack: 6,504 bytes.
+ * Stack: 6,776 bytes.
  */
 void goosetable_delivered(const uint8_t message_key[GOOSETABLE_KEY_SIZE], uint8_t s[GOOSETABLE_TAG_SIZE]);
 
@@ -662,7 +662,7 @@ void goosetable_delivered(const uint8_t message_key[GOOSETABLE_KEY_SIZE], uint8_
  * The commitment c that a secret opens. Envelopes have it, those in replies too: a host makes it only to test a secret against an envelope itself.
  * Writes: c.
  * Refused by: nothing.
- * Stack: 4,312 bytes.
+ * Stack: 4,168 bytes.
  */
 void goosetable_commitment(const uint8_t s[GOOSETABLE_TAG_SIZE], uint8_t c[GOOSETABLE_TAG_SIZE]);
 
@@ -671,7 +671,7 @@ void goosetable_commitment(const uint8_t s[GOOSETABLE_TAG_SIZE], uint8_t c[GOOSE
  * copies 1, and from GOOSETABLE_CARRIED_HEAD on the ciphertext; of a tombstone: 1 (1 byte), tag 16, secret 16, expiry 4.
  * Writes: nothing.
  * Refused by: nothing.
- * Stack: 164 bytes.
+ * Stack: 156 bytes.
  */
 goosetable_row goosetable_row_read(const uint8_t *blob, size_t blob_len);
 

@@ -3,7 +3,7 @@
 
 ghost use Rattle.std.specs.Prelude.{◌≡◌, ◌+◌, ◌*◌, ◌/◌, ◌≤◌, ◌++◌, length, drop, replicate, nat_lt};
 ghost use Rattle.octets.specs.Bytes.{splice};
-ghost use Rattle.rows.specs.Rows.{action_width, tombstone_width, action_bytes, reply_bytes};
+ghost use Rattle.rows.specs.Rows.{action_width, reply_width, tombstone_width, action_bytes, reply_bytes};
 ghost use Rattle.model.specs.Exchange.{own_envelope_of, carried_envelope_of};
 ghost use Rattle.model.specs.Calls.{short_replies, of_own, of_carried, cell_from, reply_cell, put_courier, delete_courier, put_queued, fetch_reply, envelope_row, custody_reply, tomb_reply};
 
@@ -16,18 +16,23 @@ use rows::{
 
 // ---- the header of a row's envelope, and its cell as a reply says it
 
-// (A function for each kind of row: an own row has the secret, of which the commitment is taken. An array field goes into a literal through a
-// local: put there straight, the borrow check does not cover it.)
+// (A function for each kind of row: an own row has the secret, of which the commitment is taken.)
 #[tactic(auto, unfolding(model::specs::Exchange::own_envelope_of))]
 pub fn own_header(row: Own) -> Header
     ensures { result ≡ (own_envelope_of row).head }
 {
-    let tag = row.tag;
+    let Own {
+        tag,
+        s,
+        expiry_min,
+        copies,
+        ..
+    } = row;
     Header {
         tag,
-        c: courier::commitment(row.s),
-        expiry_min: row.expiry_min,
-        copies: row.copies,
+        c: courier::commitment(s),
+        expiry_min,
+        copies,
     }
 }
 
@@ -35,19 +40,24 @@ pub fn own_header(row: Own) -> Header
 pub fn carried_header(row: Carried) -> Header
     ensures { result ≡ (carried_envelope_of row).head }
 {
-    let tag = row.tag;
-    let c = row.c;
+    let Carried {
+        tag,
+        c,
+        expiry_min,
+        copies,
+        ..
+    } = row;
     Header {
         tag,
         c,
-        expiry_min: row.expiry_min,
-        copies: row.copies,
+        expiry_min,
+        copies,
     }
 }
 
 // In a reply, the cell of a row that names one past those that count: it has no ciphertext. (A number and no Option: it goes into the two bytes that a
 // reply has for it, and C reads it there.)
-pub const NO_CELL: u16 = 65535;
+pub const NO_CELL: u16 = u16::MAX;
 
 // The first number of a carried cell: those before it are of own cells.
 pub const FIRST_CARRIED: u16 = MAX_CELLS as u16;
@@ -100,7 +110,7 @@ pub fn short_actions(actions: usize, tombstones: usize) -> bool
 // ---- actions
 
 pub fn put_courier(actions: &mut [u8], at: usize, slot: u64)
-    requires { at + 13 ≤ length actions.old }
+    requires { at + action_width ≤ length actions.old }
     ensures { actions.new ≡ splice actions.old at (action_bytes (put_courier slot)) }
 {
     let row = Action {
@@ -112,7 +122,7 @@ pub fn put_courier(actions: &mut [u8], at: usize, slot: u64)
 }
 
 pub fn delete_courier(actions: &mut [u8], at: usize, slot: u64)
-    requires { at + 13 ≤ length actions.old }
+    requires { at + action_width ≤ length actions.old }
     ensures { actions.new ≡ splice actions.old at (action_bytes (delete_courier slot)) }
 {
     let row = Action {
@@ -124,7 +134,7 @@ pub fn delete_courier(actions: &mut [u8], at: usize, slot: u64)
 }
 
 pub fn put_queued(actions: &mut [u8], at: usize, id: ContactId, msgno: u32)
-    requires { at + 13 ≤ length actions.old }
+    requires { at + action_width ≤ length actions.old }
     ensures { actions.new ≡ splice actions.old at (action_bytes (put_queued id msgno)) }
 {
     let row = Action {
@@ -149,7 +159,7 @@ fn body_of(tag: [u8; 16], more: &[u8]) -> [u8; REPLY_BODY]
 }
 
 pub fn put_fetch(replies: &mut [u8], at: usize, tag: [u8; 16])
-    requires { at + 40 ≤ length replies.old }
+    requires { at + reply_width ≤ length replies.old }
     ensures { replies.new ≡ splice replies.old at (reply_bytes (fetch_reply tag)) }
 {
     let row = Reply {
@@ -160,9 +170,10 @@ pub fn put_fetch(replies: &mut [u8], at: usize, tag: [u8; 16])
     row.put(replies, at);
 }
 
-// The cell is as a reply says it: `own_cell` or `carried_cell`.
+// The cell is as a reply says it: `own_cell` or `carried_cell`. (Cell and header are two values: fetch's two calls would make a
+// struct of both for this alone. offers has one of its own, `Offered`.)
 pub fn put_envelope(replies: &mut [u8], at: usize, cell: u16, head: Header)
-    requires { at + 40 ≤ length replies.old }
+    requires { at + reply_width ≤ length replies.old }
     ensures { replies.new ≡ splice replies.old at (reply_bytes (envelope_row cell head)) }
 {
     let row = Reply {
@@ -174,7 +185,7 @@ pub fn put_envelope(replies: &mut [u8], at: usize, cell: u16, head: Header)
 }
 
 pub fn put_custody(replies: &mut [u8], at: usize, tag: [u8; 16], code: Custody)
-    requires { at + 40 ≤ length replies.old }
+    requires { at + reply_width ≤ length replies.old }
     ensures { replies.new ≡ splice replies.old at (reply_bytes (custody_reply tag code)) }
 {
     let row = Reply {
@@ -186,7 +197,7 @@ pub fn put_custody(replies: &mut [u8], at: usize, tag: [u8; 16], code: Custody)
 }
 
 pub fn put_tomb(replies: &mut [u8], at: usize, tag: [u8; 16], s: [u8; 16])
-    requires { at + 40 ≤ length replies.old }
+    requires { at + reply_width ≤ length replies.old }
     ensures { replies.new ≡ splice replies.old at (reply_bytes (tomb_reply tag s)) }
 {
     let row = Reply {

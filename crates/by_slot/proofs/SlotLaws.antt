@@ -13,9 +13,9 @@ use Rattle.octets.specs.Bytes.{part, num}
 use Rattle.octets.proofs.Parts.{part_part}
 use Rattle.table.specs.Codec.{Codec, table_of}
 use Rattle.table.specs.Tables.{rows_in}
-use Rattle.table.proofs.ListLaws.{map_drop}
+use Rattle.std.proofs.lemmas.List.{drop-map}
 use Rattle.table.proofs.RowLaws.{held_all}
-use Rattle.table.specs.declared.Table.{Table}
+use Rattle.table.specs.declared.lent.Table.{Table}
 use Rattle.table.proofs.TableLaws.{length_table, table_held, table_next}
 use Rattle.rows.specs.declared.Carried.{Carried}
 use Rattle.rows.specs.declared.Tombstone.{Tombstone}
@@ -65,8 +65,8 @@ module _ {A E : Type 0} (c : Codec A) (f : A → E) (n : ℕ) (a : List ℕ) (wi
 
   row_next : (i : ℕ) → i < n → drop i R ≡ f (c.decode (part a (i * c.width) c.width)) ∷ drop (i + 1) R
   row_next i h =
-      sym (map_drop f i (table_of c n a)) ∙ ap (map f) (table_next c n a i (omega (arith, held_all (length a) c.width n wide fits)))
-      ∙ ap (λ (l : List E). f (c.decode (part a (i * c.width) c.width)) ∷ l) (map_drop f (i + 1) (table_of c n a))
+      drop-map f i (table_of c n a) ∙ ap (map f) (table_next c n a i (omega (arith, held_all (length a) c.width n wide fits)))
+      ∙ ap (λ (l : List E). f (c.decode (part a (i * c.width) c.width)) ∷ l) (sym (drop-map f (i + 1) (table_of c n a)))
 
   no_row : (i : ℕ) → n ≤ i → drop i R ≡ []
   no_row i h = drop_of_length-le R {i = i} (omega (arith, length-map (table_of c n a) f, length_rows_in))

@@ -1,7 +1,7 @@
 -- Carried rows and tombstones as one list by slot: where two cursors stand, which row is next, and what is left.
 -- Assumes nothing.
 use Rattle.std.specs.Prelude.{ℕ, ◌+◌, ◌≤◌, ◌<◌, ◌≡◌, Bool, true, false, List, map, drop, length}
-use Rattle.table.specs.declared.Table.{Table}
+use Rattle.table.specs.declared.lent.Table.{Table}
 use Rattle.table.specs.Rows.{held}
 use Rattle.table.specs.Tables.{rows_in}
 use Rattle.rows.specs.declared.Carried.{Carried}
@@ -23,6 +23,11 @@ pub record Reached (h : Held) (t : Cursor) : Type 0 where
   pub within : t.carried ≤ h.carried.count
   pub below : t.tombstones ≤ h.tombstones.count
   pub more : t.carried + t.tombstones < h.carried.count + h.tombstones.count
+
+-- a walk past the next tombstone, or past the next carried row
+abbrev pub past : Bool → Cursor → Cursor
+past true t = record { carried = t.carried; tombstones = t.tombstones + 1 }
+past false t = record { carried = t.carried + 1; tombstones = t.tombstones }
 
 -- is the next tombstone, of slot b, before the next carried row, of slot a
 pub record TombstoneFirst (h : Held) (t : Cursor) (a b : ℕ) (r : Bool) : Type 0 where

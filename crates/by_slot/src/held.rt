@@ -2,6 +2,7 @@
 #![tactic(auto)]
 
 ghost use Rattle.std.specs.Prelude.{◌*◌, ◌≤◌, length};
+ghost use Rattle.rows.specs.Rows.{carried_width, tombstone_width};
 
 use rows::{CARRIED_WIDTH, TOMBSTONE_WIDTH};
 use table::Table;
@@ -12,6 +13,6 @@ use table::Table;
 pub struct Held<'a> {
     pub carried: Table<'a, CARRIED_WIDTH>,
     pub tombstones: Table<'a, TOMBSTONE_WIDTH>,
-    pub ghost carried_fit: { carried.count * 57 ≤ length carried.area.now },
-    pub ghost tombstones_fit: { tombstones.count * 44 ≤ length tombstones.area.now },
+    pub ghost carried_fit: { carried.count * carried_width ≤ length carried.area.now },
+    pub ghost tombstones_fit: { tombstones.count * tombstone_width ≤ length tombstones.area.now },
 }

@@ -2,9 +2,10 @@
 // that have expired.
 #![tactic(auto)]
 
-ghost use Rattle.std.specs.Prelude.{◌≡◌, ◌+◌, ◌*◌};
+ghost use Rattle.std.specs.Prelude.{◌≡◌, ◌+◌, ◌*◌, ◌^◌, ◌<◌, true, false};
 ghost use Rattle.octets.specs.Bytes.{part, num};
-ghost use Rattle.by_slot.specs.BySlot.{Fitted, Reached, TombstoneFirst};
+ghost use Rattle.rows.specs.Rows.{carried_width, tombstone_width};
+ghost use Rattle.by_slot.specs.BySlot.{Fitted, Reached, TombstoneFirst, past};
 
 mod held;
 
@@ -18,6 +19,23 @@ use table::Table;
 pub struct Cursor {
     pub carried: usize,
     pub tombstones: usize,
+}
+
+impl Cursor {
+    // Past the next tombstone, or past the next carried row.
+    pub fn past(self, tombstone: bool) -> Cursor
+        requires carried { tombstone ≡ false → self.carried + 1 < 2 ^ 64 }
+        requires tombstone { tombstone ≡ true → self.tombstones + 1 < 2 ^ 64 }
+        ensures { result ≡ past tombstone self }
+    {
+        let mut next = self;
+        if tombstone {
+            next.tombstones += 1;
+        } else {
+            next.carried += 1;
+        }
+        next
+    }
 }
 
 impl<'a> Held<'a> {
@@ -52,7 +70,7 @@ impl<'a> Held<'a> {
     // Is the next tombstone before the next carried row? There is one of the two; of equal slots the carried row's comes first.
     pub fn tombstone_first(self, next: Cursor) -> bool
         requires { Reached self next }
-        ensures { TombstoneFirst self.entry next (num (part self.entry.carried.area.now (next.carried * 57) 8)) (num (part self.entry.tombstones.area.now (next.tombstones * 44) 8)) result }
+        ensures { TombstoneFirst self.entry next (num (part self.entry.carried.area.now (next.carried * carried_width) 8)) (num (part self.entry.tombstones.area.now (next.tombstones * tombstone_width) 8)) result }
     {
         let Cursor {
             carried: p,

@@ -10,7 +10,8 @@ use Rattle.octets.proofs.Parts.{length_part, length_splice, part_part, lent_spli
 use Rattle.octets.proofs.Numbers.{length_be}
 use Rattle.table.specs.Lists.{any}
 use Rattle.table.specs.Rows.{all_rows, join, ragged}
-use Rattle.table.proofs.ListLaws.{take_append, flat_map_append, all_each, all_map, map_take}
+use Rattle.std.proofs.lemmas.List.{take-map}
+use Rattle.table.proofs.ListLaws.{take_append, flat_map_append, all_each, all_map}
 use Rattle.table.proofs.RowLaws.{Wide, length_all_rows, length_join, join_rows, join_append, join_snoc}
 use Rattle.chain.specs.Chain.{wrong_dir, next_above, count, next, key_row, chain_keys, window, wrong_table, wrong_rows, listed_keys, chains_keys, ChainsListed, last_index}
 
@@ -80,7 +81,7 @@ taken : (reach room : ℕ) (chain : List ℕ) → room ≤ reach → take room (
 unfolding chain_keys listed_keys
 taken reach room chain h =
     let k : ℕ = min (next chain + reach) last_index + 1 - next chain in
-    sym (map_take (key_row chain) room (count (next chain) k))
+    take-map (key_row chain) room (count (next chain) k)
     ∙ ap (map (key_row chain)) (take_count (next chain) k room ∙ ap (count (next chain)) (reached reach room (next chain) h))
 
 -- ---- the keys of all chains

@@ -1,6 +1,6 @@
 -- chain.rs: the direction of a chain, the inner lengths, and `Receiver::window` with document 01's refusals.
 -- Assumes nothing.
-use Rattle.std.specs.Prelude.{◌≡◌, ℕ, zero, suc, ◌+◌, ◌-◌, ◌*◌, ◌/◌, ◌^◌, ◌≤◌, min, Bool, true, false, cond, ◌||◌, List, [], ◌∷◌, ◌++◌, map, reverse, length, take, ◌==◌, nat_lt, slice_index, Option, Some, None, Result, Ok, Err}
+use Rattle.std.specs.Prelude.{◌≡◌, ℕ, zero, suc, ◌+◌, ◌-◌, ◌*◌, ◌/◌, ◌^◌, ◌≤◌, min, Bool, true, false, cond, ◌||◌, List, [], ◌∷◌, ◌++◌, map, reverse, length, take, ◌==◌, nat_le, nat_lt, slice_index, Option, Some, None, Result, Ok, Err}
 use mathlib.Core.List.{flat_map}
 use Rattle.octets.specs.Bytes.{part, splice, num, be}
 use Rattle.courier_core.specs.Core.{refusal_number, first_of}
@@ -35,6 +35,10 @@ contains (x ∷ xs) n = n == x || contains xs n
 
 abbrev pub is_bucket : ℕ → Bool
 is_bucket n = contains inner_buckets n
+
+-- the length of the inner plaintext that so many bytes seal: 16 less
+abbrev pub inner_of : ℕ → Option ℕ
+inner_of len = cond (nat_le 16 len) (Some (len - 16)) None
 
 -- MAX_SKIPPED, u32::MAX, and the size of the window call's answer
 abbrev pub max_skipped : ℕ

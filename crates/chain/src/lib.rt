@@ -6,7 +6,7 @@ ghost use Rattle.std.specs.Prelude.{◌≡◌, ◌/◌, ◌<◌, ◌≤◌, leng
 ghost use Rattle.octets.specs.Bytes.{splice};
 ghost use Rattle.table.specs.Lists.{any};
 ghost use Rattle.table.specs.Rows.{join, all_rows};
-ghost use Rattle.chain.specs.Chain.{dir_label, dir_of, no_dir, is_bucket, key_row, listed_keys, chains_keys, ChainsListed, next_above, wrong_table, wrong_rows, window_says, window_values, window_answer, window_area};
+ghost use Rattle.chain.specs.Chain.{dir_label, dir_of, no_dir, is_bucket, inner_of, key_row, listed_keys, chains_keys, ChainsListed, next_above, wrong_table, wrong_rows, window_says, window_values, window_answer, window_area};
 
 use courier_core::Refusal;
 
@@ -16,7 +16,8 @@ pub const TAG_LEN: usize = 16;
 // Skipped keys that a receiver holds for a contact.
 pub const MAX_SKIPPED: usize = 500;
 
-// The bytes of a key's row, direction, generation and index; and of a chain's, where its next index has eight bytes from NEXT on.
+// The bytes of a key's row, direction, generation and index; and of a chain's, where its next index has eight bytes. NEXT is where a row's index stands, in
+// either row: behind the direction and the generation, so that it is their length too.
 pub const KEY_WIDTH: usize = 6;
 
 pub const CHAIN_WIDTH: usize = 10;
@@ -57,6 +58,13 @@ impl Dir {
             _ => None,
         }
     }
+}
+
+// How long what a ciphertext of len bytes seals is: none where len is less than the tag.
+pub fn inner_of(len: usize) -> Option<usize>
+    ensures { result ≡ inner_of len }
+{
+    len.checked_sub(TAG_LEN)
 }
 
 // Is n the length of an inner plaintext?

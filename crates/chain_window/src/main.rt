@@ -114,11 +114,13 @@ fn show_answer(rt: &impl Print, said: Result<usize, Refusal>, answer: &[u8]) -> 
     }
 }
 
-// Runs the call with an answer area of the size. (The lesser of the two: the check asks that a slice ends inside its array, and `size` may be any number.)
+// Runs the call with an answer area of the size. (The lesser of the size and the array's: the check asks that a slice ends inside its array, and `size`
+// may be any number.)
 fn run(rt: &impl Print, what: &str, skipped: &[u8], chains: &[u8], size: usize) -> io::Result<()> {
     let mut area = [FILL; SKIPPED * KEY_WIDTH];
+    let n = size.min(area.len());
     print!(rt; "{what}")?;
-    let said = chain::window(skipped, chains, &mut area[..size.min(SKIPPED * KEY_WIDTH)]);
+    let said = chain::window(skipped, chains, &mut area[..n]);
     show_answer(rt, said, &area)
 }
 

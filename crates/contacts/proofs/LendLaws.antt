@@ -1,29 +1,19 @@
 -- What a call leaves behind the exchange that it is lent, from what it does to the areas.
 -- Assumes nothing.
-use Rattle.std.proofs.Common.{◌≡◌, ℕ, Bool, true, false, cond, List, [], ◌∷◌, sym, refl, ap, ◌∙◌, Result}
+use Rattle.std.proofs.Common.{◌≡◌, ℕ, List, sym, refl, ap, ◌∙◌, Result}
 use Rattle.courier_core.specs.declared.ContactId.{ContactId}
 use Rattle.courier_core.specs.declared.Refusal.{Refusal}
 use Rattle.rows.specs.declared.Device.{Device}
 use Rattle.rows.specs.declared.Exchange.{Exchange}
 use Rattle.model.specs.State.{State}
-use Rattle.model.specs.Calls.{Call, Result as Outcome, refused, only, step_of, open_exchange}
+use Rattle.model.specs.Calls.{Call, Result as Outcome, refused, only, open_exchange}
 use Rattle.model.specs.Contacts.{opened_for, open_exchanged}
 use Rattle.model.specs.Step.{tests, perform, step}
 use Rattle.model.specs.Areas.{Areas, SessionAreas, AnswerAreas, view, store, store_session}
 use Rattle.model.specs.Lent.{Does, no_answers}
+use Rattle.model.proofs.RefusalLaws.{of_step}
 use Rattle.contacts.specs.Answers.{said_of}
 use Rattle.contacts.specs.Lends.{fresh_leaves, if_done, Lends, fresh_in}
-
--- ---- of a call's step: what holds of every refusal and of what is performed holds of it
-
-pub either_way : (P : Outcome → Type 0) (b : Bool) {x y : Outcome} → P x → P y → P (cond b x y)
-either_way P true p q = p
-either_way P false p q = q
-
-of_step : (P : Outcome → Type 0) (ts : List (Bool × Refusal)) (o : Outcome) → ((why : Refusal) → P (only (refused why))) → P o → P (step_of ts o)
-unfolding step_of
-of_step P [] o refusing performed = performed
-of_step P (t ∷ ts) o refusing performed = either_way P t.0 (refusing t.1) (of_step P ts o refusing performed)
 
 -- ---- what a result's change makes of the exchange that is lent: l where the call is done, or the one that stood there
 
@@ -41,7 +31,7 @@ module _ (e : SessionAreas) where
 
 -- ---- what a call does says what it leaves
 
-module _ {A : Type 0} (says : Outcome → A) (call : Call) (r : A) (before after : Areas → Areas) (lent back : AnswerAreas) (left : State → Exchange) (stood x : Exchange) where
+module _ {A : Type 0} {says : Outcome → A} {call : Call} {r : A} {before after : Areas → Areas} {lent back : AnswerAreas} {left : State → Exchange} {stood x : Exchange} where
   pub lends : ((a : Areas) → (before a).session.exchange ≡ stood) → ((a : Areas) → (after a).session.exchange ≡ x)
       → ((a : Areas) → Leaves (before a).session (left (view (before a))) (perform (view (before a)) call))
       → Does says call r before after lent back → Lends says call r before after lent back left stood x
@@ -55,16 +45,10 @@ module _ {A : Type 0} (says : Outcome → A) (call : Call) (r : A) (before after
   }
 
 -- the call that opens an exchange
-module _ (d : Device) (contacts : List ℕ) (e x : Exchange) (prefixes offers : List ℕ) (peer : ContactId) (r : Result Unit Refusal) where
-  abbrev Before : Areas → Areas
-  Before = fresh_in d contacts e prefixes offers
-
-  abbrev After : Areas → Areas
-  After = fresh_in d contacts x prefixes offers
-
-  pub fresh_lends : Does said_of (open_exchange peer) r Before After no_answers no_answers
-      → Lends said_of (open_exchange peer) r Before After no_answers no_answers (fresh_leaves peer) e x
-  unfolding perform
-  fresh_lends =
-      lends said_of (open_exchange peer) r Before After no_answers no_answers (fresh_leaves peer) e x (λ a. refl) (λ a. refl)
-      (λ a. fresh_leaves_lem (Before a).session (view (Before a)) peer)
+pub fresh_lends : {d : Device} {contacts : List ℕ} {e x : Exchange} {prefixes offers : List ℕ} {peer : ContactId} {r : Result Unit Refusal}
+    → Does said_of (open_exchange peer) r (fresh_in d contacts e prefixes offers) (fresh_in d contacts x prefixes offers) no_answers no_answers
+    → Lends said_of (open_exchange peer) r (fresh_in d contacts e prefixes offers) (fresh_in d contacts x prefixes offers) no_answers no_answers (fresh_leaves peer) e x
+unfolding perform
+fresh_lends {d = d} {contacts = contacts} {e = e} {x = x} {prefixes = prefixes} {offers = offers} {peer = peer} =
+    let before : Areas → Areas = fresh_in d contacts e prefixes offers in
+    lends (λ a. refl) (λ a. refl) (λ a. fresh_leaves_lem (before a).session (view (before a)) peer)

@@ -1,10 +1,8 @@
 // Contacts and the clock in minutes, and the calls that set them: contact, setting, clock, fresh exchange.
 #![tactic(auto)]
 
-ghost use Rattle.std.specs.Prelude.{◌≡◌, ◌+◌, ◌*◌, ◌<◌, ◌≤◌, true, not, [], ◌∷◌, ◌++◌, length, ◌==◌, ◌||◌, nat_lt, MatchOption};
+ghost use Rattle.std.specs.Prelude.{◌≡◌, ◌+◌, ◌*◌, ◌<◌, ◌≤◌, true, not, length, ◌==◌, ◌||◌, nat_lt, MatchOption};
 ghost use Rattle.octets.specs.Bytes.{part};
-ghost use Rattle.table.specs.Lists.{replace_at};
-ghost use Rattle.table.specs.Rows.{held, Fits};
 ghost use Rattle.table.specs.Tables.{rows_in};
 ghost use Rattle.rows.specs.Rows.{contact_width, contact_of, contact_codec};
 ghost use Rattle.model.specs.Calls.{contact as contact_call, setting as setting_call, clock as clock_call, open_exchange};
@@ -35,6 +33,7 @@ pub fn now_min(seconds: u64) -> u32
     (seconds / MINUTE).min(u32::MAX as u64) as u32
 }
 
+// (Of the clock and the settings, as the model has it: of the whole device, the proofs of its callers would speak of these two all the same.)
 #[tactic(auto, unfolding(model::specs::Contacts::lifetime_end))]
 pub fn lifetime_end(seconds: u64, config: CourierConfig) -> u32
     ensures { result ≡ lifetime_end seconds config }

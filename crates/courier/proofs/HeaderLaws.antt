@@ -26,6 +26,11 @@ pub record Proper (h : Header) : Type 0 where
   pub expiry : h.expiry_min < 2 ^ 32
   pub copies : h.copies < 2 ^ 8
 
+-- a header has 37 bytes
+pub length_header : (h : Header) → length h.tag ≡ 16 → length h.c ≡ 16 → length (header_bytes h) ≡ 37
+unfolding header_bytes
+length_header h t c = simp length-append (omega (arith, length_be 4 h.expiry_min))
+
 module _ (h : Header) (p : Proper h) where
   -- the bytes up to the commitment, up to the expiry, all
   abbrev to_c : List ℕ
@@ -42,10 +47,6 @@ module _ (h : Header) (p : Proper h) where
 
   l_expiry : length to_expiry ≡ 36
   l_expiry = omega (arith, length-append to_c (be 4 h.expiry_min), l_c, length_be 4 h.expiry_min)
-
-  pub length_header : length (header_bytes h) ≡ 37
-  unfolding header_bytes
-  length_header = simp length-append (omega (arith, p.tag, p.c, length_be 4 h.expiry_min))
 
   in_expiry : (o n : ℕ) → o + n ≤ 36 → part (to_expiry ++ one) o n ≡ part to_expiry o n
   in_expiry o n k = part_left to_expiry one o n (omega (arith, l_expiry))
@@ -123,8 +124,8 @@ not_whole s at e w = go (leb (at + 37) (length s)) refl (sym e ∙ w)
 pub decode_encode : (x ct : List ℕ) (h : Header) → Proper h → envelope_decode (x ++ (header_bytes h ++ ct)) (length x) ≡ Some h
 decode_encode x ct h p =
     let l : length (x ++ (header_bytes h ++ ct)) ≡ length x + (37 + length ct) =
-    length-append x (header_bytes h ++ ct) ∙ ap (λ (k : ℕ). length x + k) (length-append (header_bytes h) ct ∙ ap (λ (k : ℕ). k + length ct) (length_header h p)) in
+    length-append x (header_bytes h ++ ct) ∙ ap (λ (k : ℕ). length x + k) (length-append (header_bytes h) ct ∙ ap (λ (k : ℕ). k + length ct) (length_header h p.tag p.c)) in
     let e : part (x ++ (header_bytes h ++ ct)) (length x) 37 ≡ header_bytes h =
     ap (λ (k : ℕ). part (x ++ (header_bytes h ++ ct)) k 37) (sym (add-zero (length x))) ∙ part_right x (header_bytes h ++ ct) (length x) 0 37 refl
-    ∙ part_left (header_bytes h) ct 0 37 (omega (arith, length_header h p)) ∙ part_whole (header_bytes h) 37 (length_header h p) in
+    ∙ part_left (header_bytes h) ct 0 37 (omega (arith, length_header h p.tag p.c)) ∙ part_whole (header_bytes h) 37 (length_header h p.tag p.c) in
     sym (decode_whole (x ++ (header_bytes h ++ ct)) (length x) (omega (arith, l))) ∙ ap Some (ap header_of e ∙ header_of_bytes h p)

@@ -68,6 +68,6 @@ unfolding key_as answered route_tag
 route_sent key dir generation i x n r p e = same_Some _ _ e ∙ ap (mac key route_label) p.input
 
 pub matched : (c s x : List ℕ) (r : Bool) → length c ≡ 16 → length x ≡ 16 → x ≡ commitment_of s
-    → r ≡ same_bytes (part x 0 16) (part c 0 16) → r ≡ tombstone_matches c s
+    → r ≡ same_bytes (part x 0 (length c)) c → r ≡ tombstone_matches c s
 unfolding tombstone_matches
-matched c s x r lc lx ex e = e ∙ ap₂ same_bytes (part_whole x 16 lx ∙ ex) (part_whole c 16 lc)
+matched c s x r lc lx ex e = e ∙ ap (λ (y : List ℕ). same_bytes y c) (ap (part x 0) lc ∙ part_whole x 16 lx ∙ ex)

@@ -1,7 +1,7 @@
 // courier.rs: route tags and commitments, the fixed part of an envelope, what a courier takes, and its answer.
 #![tactic(auto)]
 
-ghost use Rattle.std.specs.Prelude.{◌≡◌, ◌+◌, ◌≤◌, length, take, leb};
+ghost use Rattle.std.specs.Prelude.{◌≡◌, ◌+◌, ◌≤◌, length, leb};
 ghost use Rattle.octets.specs.Bytes.{part};
 ghost use Rattle.courier.specs.Tags.{route_tag, delivered_secret, commitment_of, tombstone_matches};
 ghost use Rattle.courier.specs.Courier.{header_bytes, header_of, envelope_decode, carried_length, envelope_valid, custody_code, from_code};
@@ -71,13 +71,13 @@ pub fn commitment(s: [u8; 16]) -> [u8; 16]
     octets::get_array(&digest, 0)
 }
 
-// Does s open the commitment c? Every byte is read, whatever came before (of the machine code: docs/DECISIONS.md, 26).
+// Does s open the commitment c? Every byte is read, whatever came before (of this source; of the machine code see docs/DECISIONS.md, 26).
 #[tactic(auto, using(crate::proofs::TagLaws::matched))]
 pub fn tombstone_matches(c: [u8; 16], s: [u8; 16]) -> bool
     ensures { result ≡ tombstone_matches c s }
 {
     let mine = commitment(s);
-    octets::same(&mine, 0, &c, 0, 16)
+    octets::same(&mine, 0, &c)
 }
 
 // `Envelope::encode` without the ciphertext.
@@ -130,9 +130,7 @@ pub fn decode(s: &[u8], at: usize) -> Option<Header>
 pub fn carried_length(len: usize) -> bool
     ensures { result ≡ carried_length len }
 {
-    chain::TAG_LEN <= len
-        && len - chain::TAG_LEN <= COURIER_INNER_MAX
-        && chain::is_bucket(len - chain::TAG_LEN)
+    chain::inner_of(len).is_some_and(|n| n <= COURIER_INNER_MAX && chain::is_bucket(n))
 }
 
 // `Envelope::valid`: a courier takes an envelope with a ciphertext of len bytes at a minute.

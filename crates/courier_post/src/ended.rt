@@ -9,7 +9,7 @@ pub fn tombs(rt: &impl Print) -> io::Result<()> {
         "a tomb looks for a carried row first; a wrong secret is malformed; an unknown tag changes nothing"
     )?;
     let t = own_tag(2);
-    let p = Post::fresh()
+    let p = Post::default()
         .contact(6)
         .contact(7)
         .deposit(7, sealed(t, 4, 100));
@@ -26,7 +26,7 @@ pub fn tombs(rt: &impl Print) -> io::Result<()> {
 
 // Own rows of contacts 7 and 6, carried rows in slots 0 and 2, tombstones in 1 and 3: all until minute 1440, slot 3 until 1441.
 fn post_of_expiring() -> Post {
-    let p = Post::fresh().contact(7).contact(6);
+    let p = Post::default().contact(7).contact(6);
     let p = p.own_envelope(6, 2).own_envelope(6, 1).own_envelope(7, 4);
     let p = p
         .deposit(7, header(0x21, 4, 1440))

@@ -6,7 +6,7 @@ use std::io;
 // An own row until minute 60; slot 0 and the tombstone in slot 1 until 100; fifteen more of contact 7, which have 1 copy and live: it has
 // its quota of 16 then.
 fn post_at_200() -> Post {
-    let p = Post::fresh().contact(7).contact(6).contact(5);
+    let p = Post::default().contact(7).contact(6).contact(5);
     let p = p.setting(6, 60).own_envelope(6, 1).setting(6, 1440);
     let mut p = p
         .deposit(7, header(0x21, 4, 100))

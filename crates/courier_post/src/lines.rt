@@ -21,8 +21,8 @@ impl fmt::Display for Tag {
     }
 }
 
-// The first n rows, or all where there are fewer. (replay_calls has the same. The crates below both are the library's, which has no use
-// for it.)
+// The first n rows, or all where there are fewer. (replay_calls has the same as `front`, and vectors as `first`, of bytes. The crates below all
+// three are the library's, which has no use for it.)
 pub fn first<T>(rows: &[T], n: usize) -> &[T] {
     &rows[..n.min(rows.len())]
 }
@@ -55,28 +55,24 @@ pub fn show_rows<P: Print, R: Row<N>, const N: usize, F: Fn(&P, R) -> io::Result
 // ---- replies and actions
 // (Their kinds are bytes, as the host's area has them: crate rows names those that there are.)
 
-// Where the code or the secret stands in a reply's body: behind the tag. (An envelope's body is its header, and its commitment stands there: so the number
-// stands once, in `Header`, and replay takes it from there too.)
-const BEHIND_TAG: usize = Header::C;
-
 // A reply: its kind and tag; then of an envelope its cell, expiry and copies, of a custody the code, of a tomb the secret.
+#[tactic(auto, unfolding(courier::specs::Courier::envelope_decode))]
 pub fn show_reply<P: Print>(rt: &P, row: Reply) -> io::Result<()> {
     let tag = Tag(octets::get_array(&row.body, 0));
     match row.kind {
         Reply::FETCH => println!(rt; "fetch {tag}"),
         Reply::ENVELOPE => {
-            let expiry = octets::get_u32(&row.body, Header::EXPIRY);
-            let copies = row.body[Header::COPIES];
+            let header = courier::decode(&row.body, 0).unwrap();
             println!(rt;
-                "envelope {tag} cell {} expiry {expiry} copies {copies}",
-                row.cell
+                "envelope {tag} cell {} expiry {} copies {}",
+                row.cell, header.expiry_min, header.copies
             )
         }
-        Reply::CUSTODY => println!(rt; "custody {tag} {}", row.body[BEHIND_TAG]),
+        Reply::CUSTODY => println!(rt; "custody {tag} {}", row.body[Reply::BEHIND_TAG]),
         Reply::TOMB => {
             println!(rt;
                 "tomb {tag} {}",
-                Tag(octets::get_array(&row.body, BEHIND_TAG))
+                Tag(octets::get_array(&row.body, Reply::BEHIND_TAG))
             )
         }
         kind => println!(rt; "unknown reply {kind}"),

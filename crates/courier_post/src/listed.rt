@@ -51,7 +51,7 @@ pub fn fetches(rt: &impl Print) -> io::Result<()> {
     println!(rt;
         "fetches follow listed order, repeats included; a bad tag: no fetch and no second look"
     )?;
-    let p = Post::fresh().contact(7).contact(6).contact(5);
+    let p = Post::default().contact(7).contact(6).contact(5);
     let p = p
         .report_failed(5, twin(0x41, 1))
         .report_failed(7, twin(0x43, 1));
@@ -63,7 +63,7 @@ pub fn fetches(rt: &impl Print) -> io::Result<()> {
 // Those of 41 and 42 expire at minute 20 and go by maintenance.
 pub fn tombstoned_rows(rt: &impl Print) -> io::Result<()> {
     println!(rt; "a tombstoned tag: no fetch and no second look, and the tomb stays")?;
-    let p = Post::fresh().contact(7).contact(6).contact(5);
+    let p = Post::default().contact(7).contact(6).contact(5);
     let p = p
         .report_failed(5, tag(0x42))
         .stored_tombstone(tag(0x42), 20);
@@ -82,7 +82,7 @@ pub fn tombstoned_rows(rt: &impl Print) -> io::Result<()> {
 // Slot 0 turns into a tombstone after slot 1 is stored; both have the prefix. The offer of slot 3 comes last.
 pub fn tombs(rt: &impl Print) -> io::Result<()> {
     println!(rt; "tombs come next, lowest slot first match; then offers")?;
-    let p = Post::fresh().contact(7).contact(6).contact(5);
+    let p = Post::default().contact(7).contact(6).contact(5);
     let p = p.deposit(7, sealed(twin(0x31, 1), 4, 100));
     let p = p
         .stored_tombstone(twin(0x31, 2), 100)
@@ -98,7 +98,7 @@ pub fn tombs(rt: &impl Print) -> io::Result<()> {
 
 // Contact 7 was added before 6. Slot 0 went by maintenance, and slot 2 has its cell. Tags fall as slots rise.
 fn post_of_offers(rt: &impl Print) -> io::Result<Post> {
-    let p = Post::fresh().contact(7).contact(6).contact(5);
+    let p = Post::default().contact(7).contact(6).contact(5);
     let p = p
         .own_envelope(6, 2)
         .own_envelope(6, 1)
@@ -127,7 +127,7 @@ pub fn offers(rt: &impl Print) -> io::Result<()> {
 // Own rows 1 to 4 and carried rows in slots 0 to 4; tombstones of own row 1, of slot 0, and one that has only the prefix of slot 2.
 // Own row 4 and slot 3 have 1 copy, slot 4 none.
 fn post_of_tombstoned() -> Post {
-    let p = Post::fresh().contact(6).contact(7).contact(5);
+    let p = Post::default().contact(6).contact(7).contact(5);
     let p = p
         .own_envelope(6, 1)
         .own_envelope(6, 2)

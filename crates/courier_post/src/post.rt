@@ -37,9 +37,9 @@ const CARRIED_CELL_AREA: usize = CARRIED_CELLS * CELL;
 // The bytes of an action area for so many tombstones.
 const ACTION_AREA: usize = ACTION_WIDTH * (LISTED_ACTIONS + TOMBSTONES);
 
-// What goes by value and the lent areas.
+// The device, which a call that changes it is lent and one that only reads takes by value, and the areas that the calls are lent.
 // (Its own struct: the posts of replay_calls, the drill and screen_page have areas of other sizes, and one for all would have a parameter for each size.)
-#[derive(Drop)]
+#[derive(Default, Drop)]
 pub struct Post {
     pub device: Device,
     pub contacts: [u8; CONTACT_AREA],
@@ -110,19 +110,6 @@ pub fn header(b: u8, copies: u8, expiry: u32) -> Header {
 }
 
 impl Post {
-    pub fn fresh() -> Post {
-        Post {
-            device: Device::fresh(),
-            contacts: [0; CONTACT_AREA],
-            own: [0; OWN_AREA],
-            carried: [0; CARRIED_AREA],
-            tombstones: [0; TOMBSTONE_AREA],
-            bad_tags: [0; BAD_TAG_AREA],
-            own_cells: [0; OWN_CELL_AREA],
-            carried_cells: [0; CARRIED_CELL_AREA],
-        }
-    }
-
     // ---- set-up
 
     pub fn at_second(mut self, seconds: u64) -> Post {

@@ -11,7 +11,7 @@ const LAST_BEGINS: u64 = LAST as u64 * MINUTE;
 // An envelope is valid while its expiry is after the minute.
 pub fn minute(rt: &impl Print) -> io::Result<()> {
     println!(rt; "minute = seconds / 60")?;
-    let p = Post::fresh().contact(7).at_second(59);
+    let p = Post::default().contact(7).at_second(59);
     let p = p.send(rt, 7, header(0x21, 2, 1))?.at_second(60);
     let p = p.send(rt, 7, header(0x22, 2, 1))?.at_second(119);
     let p = p.send(rt, 7, header(0x22, 2, 2))?.at_second(120);
@@ -21,7 +21,7 @@ pub fn minute(rt: &impl Print) -> io::Result<()> {
 
 pub fn last_minute(rt: &impl Print) -> io::Result<()> {
     println!(rt; "minute at most 2^32-1")?;
-    let p = Post::fresh().contact(7).at_second(LAST_BEGINS - 1);
+    let p = Post::default().contact(7).at_second(LAST_BEGINS - 1);
     let p = p.send(rt, 7, header(0x21, 2, LAST))?.maintenance(rt)?;
     let p = p.at_second(LAST_BEGINS);
     let p = p.send(rt, 7, header(0x22, 2, LAST))?;
@@ -35,7 +35,7 @@ pub fn last_minute(rt: &impl Print) -> io::Result<()> {
 // The default lifetime is 1,440: it ends at 2^32-2, at 2^32-1, and would end at 2^32.
 pub fn lifetime_end(rt: &impl Print) -> io::Result<()> {
     println!(rt; "lifetime end stopped at 2^32-1")?;
-    let p = Post::fresh().contact(7).contact(6).at_minute(LAST - 1441);
+    let p = Post::default().contact(7).contact(6).at_minute(LAST - 1441);
     let p = p.own_envelope(6, 1).deposit(7, header(0x21, 2, LAST));
     let p = p.report_opened(7, tag(0x31), LAST).at_minute(LAST - 1440);
     let p = p.own_envelope(6, 2).deposit(7, header(0x22, 2, LAST));
@@ -53,7 +53,7 @@ pub fn lifetime_end(rt: &impl Print) -> io::Result<()> {
 
 pub fn accepted(rt: &impl Print) -> io::Result<()> {
     println!(rt; "accepted: copies and expiry become the lesser of their own and the configured")?;
-    let p = Post::fresh().contact(7).at_minute(10);
+    let p = Post::default().contact(7).at_minute(10);
     let p = p.send(rt, 7, header(0x21, 9, 100000))?;
     let p = p.send(rt, 7, header(0x22, 3, 50))?;
     let p = p.send(rt, 7, header(0x23, 9, 50))?;

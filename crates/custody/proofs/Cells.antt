@@ -69,36 +69,34 @@ module _ (w o : ℕ) where
       ∙ ap₂ (λ (x y : List ℕ). num (part x o 2) ∷ map (cell_of o) (rows w k y))
       (ap (take w) r ∙ take_at row after w l) (ap (drop w) r ∙ drop_at row after w l)
 
-  pub chunk_first : (count n size : ℕ) (a rest : List ℕ) → Fits (length a) w count n → rest ≡ a → size ≡ w
-      → Chunked (cells_named w o (held (length a) w count) a) n size rest (replicate 256 false)
-  chunk_first count n size a rest f r s = record {
+module _ {w o : ℕ} where
+  pub chunk_first : {count n size : ℕ} {a rest : List ℕ} → Fits (length a) w count n → rest ≡ a → size ≡ w
+      → Chunked w o (cells_named w o (held (length a) w count) a) n size rest (replicate 256 false)
+  chunk_first f r s = record {
     marking = rw (r, f.is) (mark_none _);
     inside = omega (arith, f.inside, ap length r);
     wide = s;
   }
 
-  module _ (named : List ℕ) (n k size next : ℕ) (row rest after : List ℕ) (marks : List Bool) (so_far : Chunked named n size rest marks)
+  module _ {named : List ℕ} {n k size next : ℕ} (row : List ℕ) {rest after : List ℕ} {marks : List Bool} (so_far : Chunked w o named n size rest marks)
       (e : k + 1 ≡ n) (same : next ≡ size) (r : rest ≡ row ++ after) (l : length row ≡ size) where
-    left : n * w ≡ w + k * w
-    left = omega (arith, suc-mul k w, ap (λ (m : ℕ). m * w) (sym e ∙ add-one k))
+    pub chunk_next : {v : ℕ} → v ≡ num (part row o 2) → Chunked w o named k next after (set marks v true)
+    chunk_next {v} f =
+        let left : n * w ≡ w + k * w = omega (arith, suc-mul k w, ap (λ (m : ℕ). m * w) (sym e ∙ add-one k)) in
+        let whole : length rest ≡ length row + length after = ap length r ∙ length-append row after in
+        record {
+          marking = mark_one named v (cells_named w o k after) marks (rw (chunk_named w o n k row rest after e (l ∙ so_far.wide) r, ← f) at so_far.marking);
+          inside = omega (arith, so_far.inside, left, whole, l, so_far.wide);
+          wide = same ∙ so_far.wide;
+        }
 
-    whole : length rest ≡ length row + length after
-    whole = ap length r ∙ length-append row after
+    pub chunk_past : {v : ℕ} → v ≡ num (part row o 2) → 256 ≤ v → Chunked w o named k next after marks
+    chunk_past {v} f past = rw (set_out marks v true (omega (arith, so_far.marking.size))) at (chunk_next f)
 
-    pub chunk_next : (v : ℕ) → v ≡ num (part row o 2) → Chunked named k next after (set marks v true)
-    chunk_next v f = record {
-      marking = mark_one named v (cells_named w o k after) marks (rw (chunk_named n k row rest after e (l ∙ so_far.wide) r, ← f) at so_far.marking);
-      inside = omega (arith, so_far.inside, left, whole, l, so_far.wide);
-      wide = same ∙ so_far.wide;
-    }
-
-    pub chunk_past : (v : ℕ) → v ≡ num (part row o 2) → 256 ≤ v → Chunked named k next after marks
-    chunk_past v f past = rw (set_out marks v true (omega (arith, so_far.marking.size))) at (chunk_next v f)
-
-  pub chunk_end : (named : List ℕ) (n size : ℕ) (rest : List ℕ) (marks : List Bool) → Chunked named n size rest marks → (0 < n → length rest < size) → Marked named marks
+  pub chunk_end : {named : List ℕ} {n size : ℕ} {rest : List ℕ} {marks : List Bool} → Chunked w o named n size rest marks → (0 < n → length rest < size) → Marked named marks
   unfolding cells_named rows Marked mark_of any
-  chunk_end named zero size rest marks c h = λ cell inside. c.marking.at cell inside
-  chunk_end named (suc n) size rest marks c h = absurd (omega (arith, h (omega arith), c.inside, c.wide, suc-mul n w))
+  chunk_end {n = zero} c h = λ cell inside. c.marking.at cell inside
+  chunk_end {n = suc n} c h = absurd (omega (arith, h (omega arith), c.inside, c.wide, suc-mul n w))
 
 -- the first free cell, by the cells that typed rows name
 pub free_table : {A : Type 0} (c : Codec A) (cell : A → ℕ) (o size count : ℕ) (a : List ℕ) (f : Option ℕ) → ((b : List ℕ) → num (part b o 2) ≡ cell (c.decode b)) → f ≡ free_cell size (cells_named c.width o (held (length a) c.width count) a) → f ≡ free_cell size (map cell (table_of c count a))

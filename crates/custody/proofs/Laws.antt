@@ -1,14 +1,13 @@
 -- Laws of the tests of the envelope call: rows by their keys, and each test over its parts.
 -- Assumes nothing.
-use Rattle.std.proofs.Common.{◌≡◌, ℕ, suc, ◌+◌, ◌*◌, ◌<◌, ◌≤◌, Bool, true, false, cond, refl, not, ◌||◌, eqb, ltb, leb, List, [], ◌∷◌, map, length, drop, zero, sym, ap, ◌∙◌, ap₂, arith, drop_of_length-le, le-ltb}
+use Rattle.std.proofs.Common.{◌≡◌, ℕ, suc, ◌+◌, ◌*◌, ◌<◌, ◌≤◌, Bool, true, false, cond, refl, ◌||◌, eqb, ltb, leb, List, [], ◌∷◌, map, length, drop, zero, sym, ap, ◌∙◌, ap₂, arith, drop_of_length-le, le-ltb}
 use Rattle.std.specs.List.{range_with_len, sum_by}
+use Rattle.std.proofs.lemmas.Bool.{both_ways}
 use Rattle.std.proofs.lemmas.List.Sums.{sum_by-cons}
 use Rattle.octets.specs.Bytes.{part, num, same_bytes}
 use Rattle.octets.proofs.Parts.{part_part}
 use Rattle.courier_core.specs.declared.ContactId.{ContactId}
 use Rattle.courier.specs.declared.Header.{Header}
-use Rattle.courier.specs.declared.Custody.{Custody}
-use Rattle.courier.specs.declared.Custody.TheVariants as custody
 use Rattle.courier.specs.Courier.{envelope_valid}
 use Rattle.table.specs.Lists.{any, count_by}
 use Rattle.table.specs.Rows.{held, rows, has_key}
@@ -23,15 +22,17 @@ use Rattle.rows.specs.Rows.{contact_codec, own_codec, carried_codec, tombstone_c
 use Rattle.model.specs.Basics.{same_contact}
 use Rattle.model.specs.State.{State}
 use Rattle.model.specs.Areas.{Areas, view}
-use Rattle.model.specs.Contacts.{now_min, minute_of, is_verified}
+use Rattle.model.specs.Contacts.{now_min, is_verified}
 use Rattle.model.specs.Cells.{cell_length}
 use Rattle.model.specs.Custody.{own_of_tag, carried_of_tag, quota, duplicate, deposited, carried_total, full, custody_of}
 use Rattle.model.specs.Tombs.{tombstoned}
 use Rattle.model.proofs.Laws.{carried_total_lem}
+use Rattle.model.proofs.KeepRows.{code}
+use Rattle.custody.specs.Lent.{Lends}
 
 -- a value is not both
 pub clash : {A : Type 0} (b : Bool) → b ≡ true → b ≡ false → A
-clash b p q = let z : ◌≡◌ {A = ℕ} 0 1 = cc in absurd (omega arith)
+clash _ p q = absurd (both_ways _ q p)
 
 -- a search of the rows of bytes for a tag, at the place where the rows have it, is the search of the typed rows
 pub tagged : {A : Type 0} (c : Codec A) (tag_of : A → List ℕ) (o : ℕ) → ((b : List ℕ) → part b o 16 ≡ tag_of (c.decode b)) → (tag : List ℕ) (count : ℕ) (a : List ℕ) (b : Bool)
@@ -53,11 +54,10 @@ duplicate_of tag a ed eo ec et o c t po pc pt = rw (ed, eo, ec, et, po, pc, pt)
 abbrev pub deposits : ContactId → List ℕ → Bool
 deposits peer row = eqb (num (part row 8 8)) peer.0
 
-pub deposit_all : (count n : ℕ) (a : List ℕ) (peer : ContactId) (found : ℕ) → n ≡ held (length a) carried_width count
-    → found ≡ count_by (deposits peer) (rows carried_width n a) → found ≡ deposited (table_of carried_codec count a) peer
+pub deposit_all : (count : ℕ) (a : List ℕ) (peer : ContactId) (found : ℕ)
+    → found ≡ count_by (deposits peer) (rows carried_width (held (length a) carried_width count) a) → found ≡ deposited (table_of carried_codec count a) peer
 unfolding deposited table_of carried_of count_by
-deposit_all count n a peer found held-n e =
-    e ∙ ap (λ (k : ℕ). count_by (deposits peer) (rows carried_width k a)) held-n ∙ go (rows carried_width (held (length a) carried_width count) a)
+deposit_all count a peer found e = e ∙ go (rows carried_width (held (length a) carried_width count) a)
   where
     go : (rs : List (List ℕ)) → count_by (deposits peer) rs ≡ count_by (λ (r : Carried). same_contact r.depositor peer) (map carried_of rs)
     go [] = refl
@@ -104,23 +104,15 @@ pub full_of : {size : ℕ} {rows : List Carried} {contacts : List Contact} (len 
 unfolding full
 full_of len peer s er ec es x y z px py pz = rw (er, ec, ← es, px, py, pz)
 
--- ---- the code, and what the areas say of its parts
+-- ---- the code, by what the tests say of areas that are lent
 
-abbrev pub code : Bool → Bool → Bool → Bool → Custody
-code o v d f = cond (not o) custody.Off (cond (not v) custody.Invalid (cond d custody.Duplicate (cond f custody.Full custody.Accepted)))
-
-pub code_of : (s : State) (peer : ContactId) (head : Header) (len : ℕ) (o v d f : Bool) → s.courier.enabled ≡ o
-    → envelope_valid len head.copies head.expiry_min (minute_of s) ≡ v → duplicate s head.tag ≡ d → full s peer len ≡ f
-    → custody_of s peer head len ≡ code o v d f
-unfolding custody_of
-code_of s peer head len o v d f po pv pd pf =
-    ap₂ (λ (x y : Bool). code x y (duplicate s head.tag) (full s peer len)) po pv ∙ ap₂ (code o v) pd pf
+pub code_at : {a : Areas} {d : Device} {ps os rs ts : List ℕ} {n : ℕ} → Lends a d ps os rs ts n → (peer : ContactId) (head : Header) (len : ℕ) (o v u f : Bool)
+    {m : ℕ} → m ≡ now_min d.now_s → d.courier.enabled ≡ o → envelope_valid len head.copies head.expiry_min m ≡ v → duplicate (view a) head.tag ≡ u
+    → full (view a) peer len ≡ f → code o v u f ≡ custody_of (view a) peer head len
+unfolding custody_of view
+code_at L peer head len o v u f em po pv pu pf = rw (pu, pf, L.device, ← em, po, pv)
 
 module _ {device : Device} (a : Areas) (e : a.device ≡ device) where
-  pub enabled_in : {o : Bool} → device.courier.enabled ≡ o → (view a).courier.enabled ≡ o
-  unfolding view
-  enabled_in p = rw e p
-
   pub contacts_in_lem : {x : List ℕ} → a.contacts ≡ x → (view a).contacts ≡ table_of contact_codec device.contacts x
   unfolding view
   contacts_in_lem p = rw (e, p)
@@ -128,10 +120,6 @@ module _ {device : Device} (a : Areas) (e : a.device ≡ device) where
   pub carried_in_lem : {x : List ℕ} → a.carried ≡ x → (view a).carried ≡ table_of carried_codec device.carried x
   unfolding view
   carried_in_lem p = rw (e, p)
-
-  pub minute_in : {m : ℕ} → m ≡ now_min device.now_s → m ≡ minute_of (view a)
-  unfolding view
-  minute_in p = p ∙ ap (λ (x : Device). now_min x.now_s) (sym e)
 
 pub cells_in : (a : Areas) {size : ℕ} → size ≡ length a.carried_cells → size ≡ length (view a).carried_cells
 unfolding view

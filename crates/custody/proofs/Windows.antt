@@ -8,7 +8,6 @@ use Rattle.std.specs.Ordering.{partial_lt, partial_ordering_then, nat_cmp, is_lt
 use Rattle.std.specs.declared.cmp.Ordering.{Ordering}
 use Rattle.std.specs.declared.cmp.Ordering.TheVariants.{Less, Equal, Greater}
 use Rattle.octets.specs.Bytes.{part, num, same_bytes}
-use Rattle.octets.proofs.Parts.{part_whole}
 use Rattle.chain.specs.Chain.{dir_of, no_dir}
 use Rattle.table.specs.Lists.{any, position}
 use Rattle.table.specs.Rows.{held, rows, has_key, ragged}
@@ -140,6 +139,6 @@ wrong_of a x y z px py pz = rw (px, py, pz)
 
 -- a row by its peer and its tag
 pub bad_row : (row tag : List ℕ) (id v : ℕ) (r : Bool) → v ≡ num (part row 0 8) → eqb v id ≡ true → length tag ≡ 16
-    → r ≡ same_bytes (part row 8 16) (part tag 0 16) → r ≡ (eqb (num (part row 0 8)) id && same_bytes (part row 8 16) tag)
+    → r ≡ same_bytes (part row 8 (length tag)) tag → r ≡ (eqb (num (part row 0 8)) id && same_bytes (part row 8 16) tag)
 bad_row row tag id v r e q l f =
-    f ∙ ap₂ (λ (b : Bool) (t : List ℕ). b && same_bytes (part row 8 16) t) (sym (ap (λ (x : ℕ). eqb x id) (sym e) ∙ q)) (part_whole tag 16 l)
+    f ∙ ap₂ (λ (b : Bool) (k : ℕ). b && same_bytes (part row 8 k) tag) (sym (ap (λ (x : ℕ). eqb x id) (sym e) ∙ q)) l

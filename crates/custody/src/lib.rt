@@ -8,15 +8,15 @@ ghost use Rattle.table.specs.Lists.{any};
 ghost use Rattle.table.specs.Rows.{held};
 ghost use Rattle.table.specs.Codec.{table_of};
 ghost use Rattle.table.specs.Tables.{rows_in};
-ghost use Rattle.rows.specs.Rows.{carried_width, contact_codec, own_codec, carried_codec, bad_tag_codec, reachable_of};
+ghost use Rattle.rows.specs.Rows.{contact_codec, own_codec, carried_width, carried_codec, bad_tag_width, bad_tag_codec, reachable_width, reachable_of};
 ghost use Rattle.model.specs.State.{State};
 ghost use Rattle.model.specs.Areas.{Areas, view};
-ghost use Rattle.model.specs.Cells.{cell_length, free_cell};
+ghost use Rattle.model.specs.Cells.{cell_size, cell_length, free_cell};
 ghost use Rattle.model.specs.Contacts.{known as known_of};
 ghost use Rattle.model.specs.Window.{strangers as some_stranger, window_rows, lookup, wrong_direction, key_below, keys_rise, wrong_window, is_bad};
 ghost use Rattle.custody.specs.Lent.{Lent};
 ghost use Rattle.custody.specs.Named.{cells_named, Marked};
-ghost use Rattle.model.specs.Custody.{max_carried_bytes, envelope_header, quota, duplicate, deposited, carried_total, full, custody_of};
+ghost use Rattle.model.specs.Custody.{max_carried, max_carried_bytes, envelope_header, quota, duplicate, deposited, carried_total, full, custody_of};
 
 use chain::no_dir;
 use contacts::{is_verified, known, now_min, strangers};
@@ -35,10 +35,10 @@ const MAX_CARRIED_BYTES: usize = 1_048_576;
 
 const MAX_PER_DEPOSITOR: usize = 16;
 
-// What the tests of an envelope read: the device, the tables that a host lends beside it, and the bytes of its carried cells.
-// (Its methods write the table of an area as a literal, where they read it: given by a method, each proof would first rewrite by what that
-// ensures. A field that is a lent array goes into a
-// literal through a local: put there straight, the borrow check does not cover it.)
+// What the tests of an envelope read: the device, the tables that a host lends beside it, and how many bytes its area of carried cells has.
+// (The areas are bare, as the device has their counts: with a `Table` as each field the counts would stand twice, and `Lent` would have to ask that
+// they agree. So the methods write the table of an area as a literal, where they read it: given by a method, each proof would first rewrite by what
+// that ensures. A field that is a lent array goes into a literal through a local: put there straight, the borrow check does not cover it.)
 #[derive(Clone, Copy)]
 pub struct Tables<'a> {
     pub device: Device,
@@ -55,17 +55,12 @@ pub struct Tables<'a> {
 pub fn deposited(carried: Table<CARRIED_WIDTH>, peer: ContactId) -> usize
     ensures { result ≡ deposited (rows_in carried_codec carried.entry) peer }
 {
-    table::count(
-        carried.area,
-        CARRIED_WIDTH,
-        carried.len(),
-        |row| ContactId(octets::get_u64(row, Carried::DEPOSITOR)) == peer,
-    )
+    carried.count_where(|row| ContactId(octets::get_u64(row, Carried::DEPOSITOR)) == peer)
 }
 
 // The length of a ciphertext in a cell area of size bytes: what lies inside the cell, the area, and the cells that count.
 pub fn cell_length(size: usize, cell: u16, len: u16) -> usize
-    ensures { (result ≡ cell_length size cell len) × (result ≤ 2064) }
+    ensures { (result ≡ cell_length size cell len) × (result ≤ cell_size) }
 {
     let start = usize::from(cell) * CELL;
     let end = size.min(MAX_CELLS * CELL);
@@ -74,8 +69,8 @@ pub fn cell_length(size: usize, cell: u16, len: u16) -> usize
 
 // The same, of the carried row at a place.
 fn ciphertext_length(carried: &[u8], at: usize, size: usize) -> usize
-    requires { at + 57 ≤ length carried.now }
-    ensures { (result ≡ cell_length size (num (part carried.now (at + 55) 2)) (num (part carried.now (at + 53) 2))) × (result ≤ 2064) }
+    requires { at + carried_width ≤ length carried.now }
+    ensures { (result ≡ cell_length size (num (part carried.now (at + 55) 2)) (num (part carried.now (at + 53) 2))) × (result ≤ cell_size) }
 {
     cell_length(
         size,
@@ -86,13 +81,13 @@ fn ciphertext_length(carried: &[u8], at: usize, size: usize) -> usize
 
 // Header and ciphertext bytes of carried rows, in a cell area of size bytes. There are 256 rows at most, so that the sum fits.
 fn carried_total(carried: Table<CARRIED_WIDTH>, size: usize) -> usize
-    requires { length carried.area.now ≤ 14592 }
+    requires { length carried.area.now ≤ max_carried * carried_width }
     ensures { result ≡ carried_total size (rows_in carried_codec carried.entry) }
 {
     (0..carried.len())
         .map(
             |i|
-                requires { i * 57 + 57 ≤ length carried.area.now }
+                requires { i * carried_width + carried_width ≤ length carried.area.now }
             { ENVELOPE_HEADER + ciphertext_length(carried.area, i * CARRIED_WIDTH, size) },
         )
         .sum()
@@ -117,7 +112,7 @@ fn over_bytes(bytes: usize, len: usize) -> bool
 
 // The same, over the carried rows. 256 of them have 537,856 bytes at most, so that a ciphertext which fits a cell never passes it.
 fn too_many_bytes(carried: Table<CARRIED_WIDTH>, size: usize, len: usize) -> bool
-    requires { length carried.area.now ≤ 14592 }
+    requires { length carried.area.now ≤ max_carried * carried_width }
     ensures { result ≡ nat_lt max_carried_bytes (carried_total size (rows_in carried_codec carried.entry) + (envelope_header + len)) }
 {
     len > CELL && over_bytes(carried_total(carried, size), len)
@@ -153,7 +148,7 @@ fn free_cell<const W: usize>(rows: Table<W>, offset: usize, size: usize) -> Opti
     ensures { result ≡ free_cell size (cells_named W offset (held (length rows.entry.area.now) W rows.entry.count) rows.entry.area.now) }
 {
     let marks = mark_cells(rows, offset);
-    first_unmarked(&marks[..MAX_CELLS.min(size / CELL)])
+    first_unmarked(&marks[..table::fit(size, CELL, MAX_CELLS)])
 }
 
 // Of carried rows and of own rows. (Two functions: each names where its rows have the cell, and is one call.)
@@ -181,7 +176,8 @@ fn lookup_key(window: &[u8], key: &[u8]) -> Option<usize>
     table::scan(window, REACHABLE_WIDTH, n, Reachable::TAG, key)
 }
 
-// The first row with the tag. (Two functions, of the two lengths that there are: of any length, it would ask that the key is no longer than a tag.)
+// The first row with the tag. (Two public functions over that one: it asks that the key is no longer than a tag, and these, of the two lengths that
+// calls have, ask nothing of callers.)
 pub fn lookup(window: &[u8], tag: [u8; 16]) -> Option<usize>
     ensures { result ≡ lookup (window_rows window.now) tag }
 {
@@ -210,15 +206,13 @@ fn wrong_directions(window: &[u8]) -> bool
 fn key_below(a: Reachable, b: Reachable) -> bool
     ensures { result ≡ key_below a b }
 {
-    let x = a.contact;
-    let y = b.contact;
-    (x.0, a.dir, a.generation, a.idx) < (y.0, b.dir, b.generation, b.idx)
+    (a.contact.0, a.dir, a.generation, a.idx) < (b.contact.0, b.dir, b.generation, b.idx)
 }
 
 // Is the key of the row at a place below that of the next?
 fn rises(window: &[u8], at: usize) -> bool
-    requires { at + 60 ≤ length window.now }
-    ensures { result ≡ key_below (reachable_of (part window.now at 30)) (reachable_of (part window.now (at + 30) 30)) }
+    requires { at + 2 * reachable_width ≤ length window.now }
+    ensures { result ≡ key_below (reachable_of (part window.now at reachable_width)) (reachable_of (part window.now (at + reachable_width) reachable_width)) }
 {
     key_below(
         Reachable::read(window, at),
@@ -231,7 +225,7 @@ fn keys_rise(window: &[u8]) -> bool
 {
     (1..window.len() / REACHABLE_WIDTH).all(
         |i|
-            requires { (1 ≤ i) × (i * 30 + 30 ≤ length window.now) }
+            requires { (1 ≤ i) × (i * reachable_width + reachable_width ≤ length window.now) }
         { rises(window, (i - 1) * REACHABLE_WIDTH) },
     )
 }
@@ -254,10 +248,10 @@ pub fn unknown(contacts: Table<CONTACT_WIDTH>, peer: ContactId, window: &[u8]) -
 
 // Is it the row of a tag that is bad for a peer?
 fn is_bad_row(row: &[u8], peer: ContactId, tag: [u8; 16]) -> bool
-    requires { 24 ≤ length row.now }
+    requires { bad_tag_width ≤ length row.now }
     ensures { result ≡ (num (part row.now 0 8) == peer.0 && same_bytes (part row.now 8 16) tag) }
 {
-    ContactId(octets::get_u64(row, 0)) == peer && octets::same(row, BadTag::TAG, &tag, 0, 16)
+    ContactId(octets::get_u64(row, 0)) == peer && octets::same(row, BadTag::TAG, &tag)
 }
 
 // Is a tag bad for a peer?

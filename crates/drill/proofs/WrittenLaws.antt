@@ -7,6 +7,7 @@ use Prim.Native.Nat.{ℕ, ◌+◌, ◌-◌, ◌%◌, ◌^◌, ◌≤◌}
 use native.Mathlib.Omega.{arith}
 use lib.ListN.{length, length-append, length-drop, take, drop}
 use lib.Seq.{length-take-le, take_all, take-add}
+use Rattle.std.proofs.Common.{leb, leb-true}
 use Rattle.std.proofs.lemmas.List.{take_rest}
 use Rattle.octets.proofs.Parts.{take_written}
 use Rattle.text.specs.Text.{Puts}
@@ -38,9 +39,6 @@ takes_once {total} {total'} {n} bytes h e = record {
   sent = λ before s. omega (arith, s, length-append before (take n bytes), length-take-le n bytes h);
 }
 
-pub takes_none : (total : ℕ) (bytes : List ℕ) → Takes total bytes 0 total
-takes_none total bytes = record { near = omega arith; sent = λ before s. subst (Sent total) (sym (append-nil before)) s }
-
 -- the first were sent, and then the first of the rest
 pub takes_on : (bytes : List ℕ) (done : ℕ) {total sum sum' k : ℕ} → Takes total bytes done sum → Takes sum (take (length bytes - done) (drop done bytes)) k sum'
     → Takes total bytes (done + k) sum'
@@ -53,14 +51,11 @@ takes_on bytes done {total} {sum} {sum'} {k} f g =
           (h.sent (before ++ take done bytes) (f.sent before s));
     }
 
--- as many as were asked
-pub wrote_all : (bytes : List ℕ) {total k total' : ℕ} → length bytes ≤ k → Takes total bytes k total' → Writes total bytes (record { total = total'; whole = true })
+-- they are whole where as many were taken as were asked
+pub wrote : (bytes : List ℕ) {total k total' : ℕ} → Takes total bytes k total' → Writes total bytes (record { total = total'; whole = leb (length bytes) k })
 unfolding Writes
-wrote_all bytes {total} {k} {total'} h f e before s = subst (λ (l : List ℕ). Sent total' (before ++ l)) (take_all k bytes h) (f.sent before s)
-
-pub wrote_cut : (total total' : ℕ) (bytes : List ℕ) → Writes total bytes (record { total = total'; whole = false })
-unfolding Writes
-wrote_cut total total' bytes e = absurd (false≢true e)
+wrote bytes {total} {k} {total'} f e before s =
+    subst (λ (l : List ℕ). Sent total' (before ++ l)) (take_all k bytes (leb-true (length bytes) k e)) (f.sent before s)
 
 -- a text that is put at the front of an area, and sent from there
 pub takes_text : {most n total k total' : ℕ} {o x text text' : List ℕ} → most ≤ length o → Puts most o 0 text n x → text ≡ text' → Takes total (take n x) k total'
@@ -97,21 +92,11 @@ is_ended (Some cause.Ended) = true
 is_ended (Some cause.Failed) = false
 
 module _ (t : Turn) {r : Ran} where
-  pub halts_refused : (w : Wrote) → t.why ≡ cause.Refused → w.whole ≡ true → r ≡ ran_of t w.total (Some cause.Refused) → Halts t w r
-  halts_refused w e whole is = subst (Halts t w) (sym is) (record { read = refl; wrote = refl; refused = λ h. (refl, e, whole) })
-
-  pub halts_cut : (w : Wrote) → r ≡ ran_of t w.total None → Halts t w r
-  halts_cut w is = subst (Halts t w) (sym is) (record { read = refl; wrote = refl; refused = λ h. absurd (false≢true h) })
-
   pub finishes_ended : {total put : ℕ} {out : List ℕ} {w : Wrote} → t.why ≡ cause.Ended → AtEnd t put out → Writes total (take put out) w → w.whole ≡ true
       → r ≡ ran_of t w.total (Some cause.Ended) → Finishes t total r
   unfolding Writes
   finishes_ended {total} {put} {out} {w} e end writes whole is =
       subst (Finishes t total) (sym is) (record { read = refl; ended = λ h. (refl, e, record { put = put; out = out; end = end; sent = writes whole }) })
-
-  -- a read or a write that failed
-  pub finishes_cut : (total wrote : ℕ) (why : Option Why) → is_unbroken why ≡ false → r ≡ ran_of t wrote why → Finishes t total r
-  finishes_cut total wrote why h is = subst (Finishes t total) (sym is) (record { read = refl; ended = λ l. absurd (false≢true (sym h ∙ l)) })
 
 -- ---- the run
 

@@ -75,17 +75,14 @@ struct Took {
 fn write_once(to: &impl Print, bytes: &[u8], total: u64) -> Took
     ensures { Takes total bytes.now result.n result.total }
 {
-    match to.write_some(bytes) {
-        Ok(n) => Took {
-            n,
-            total: drill_turn::further(total, n),
-            error: None,
-        },
-        Err(e) => Took {
-            n: 0,
-            total: drill_turn::further(total, 0),
-            error: Some(e),
-        },
+    let (n, error) = match to.write_some(bytes) {
+        Ok(n) => (n, None),
+        Err(e) => (0, Some(e)),
+    };
+    Took {
+        n,
+        total: drill_turn::further(total, n),
+        error,
     }
 }
 
@@ -127,20 +124,17 @@ fn emit(stdout: Stdout, stderr: Stderr, lines: &[u8], total: u64) -> Wrote
     ensures { Writes total lines.now result }
 {
     let took = write_front(&stdout, lines, total);
-    if took.n < lines.len() {
+    let whole = took.n >= lines.len();
+    if !whole {
         fail(
             stderr,
             "standard output",
             took.error.unwrap_or(io::Error::from(ErrorKind::WriteZero)),
         );
-        return Wrote {
-            total: took.total,
-            whole: false,
-        };
     }
     Wrote {
         total: took.total,
-        whole: true,
+        whole,
     }
 }
 
@@ -182,11 +176,9 @@ fn stop(stderr: Stderr, turn: Turn, input: &[u8; INPUT], wrote: Wrote) -> Ran
     requires { Inside turn.from turn.have }
     ensures { Halts turn wrote result }
 {
-    if wrote.whole {
-        if turn.why == Why::Refused {
-            tell(stderr, turn, input);
-            return ended(turn, wrote.total, Some(Why::Refused));
-        }
+    if wrote.whole && turn.why == Why::Refused {
+        tell(stderr, turn, input);
+        return ended(turn, wrote.total, Some(Why::Refused));
     }
     ended(turn, wrote.total, None)
 }
@@ -263,19 +255,12 @@ fn say_use(stderr: Stderr) -> Took
 
 // Does the program take a word behind its name?
 fn has_word(env: &impl Env) -> bool {
-    match env.arg(1, &mut [0u8; 1]) {
-        Err(FillError::NotPresent) => false,
-        _ => true,
-    }
+    !matches!(env.arg(1, &mut [0u8; 1]), Err(FillError::NotPresent))
 }
 
 // A log is not typed on a terminal, and the program takes no word.
 fn main(rt: HostRuntime) {
-    if has_word(&rt) {
-        say_use(rt.stderr());
-        return;
-    }
-    if rt.stdin().is_terminal() {
+    if has_word(&rt) || rt.stdin().is_terminal() {
         say_use(rt.stderr());
         return;
     }

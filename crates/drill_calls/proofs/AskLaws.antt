@@ -1,14 +1,12 @@
 -- From what each call does to what is told of its record.
 -- Assumes nothing.
-use Rattle.std.proofs.Common.{◌≡◌, ◌-◌, ◌≤◌, List, ℕ, length, take, drop, arith, length-drop, take_all, refl, sym, ap, ◌∙◌, subst, Option, Some, Ok, Err}
+use Rattle.std.proofs.Common.{◌≡◌, ◌≤◌, List, ℕ, length, refl, sym, ap, ◌∙◌, subst, Option, Some, Ok, Err}
 use Rattle.std.specs.Prelude.{IsSome, Result}
 use Rattle.std.specs.Result.{MatchResult, IsOkAnd}
 use Rattle.drill_lines.specs.declared.Said.{Said}
 use Rattle.std.proofs.lemmas.Option.{same_Some}
 use Rattle.octets.specs.Bytes.{part}
-use Rattle.courier_core.specs.Core.{refusal_number}
 use Rattle.courier_core.specs.declared.Refusal.{Refusal}
-use Rattle.courier_core.specs.declared.Refusal.TheVariants as refusal
 use Rattle.courier.specs.declared.Header.{Header}
 use Rattle.courier.specs.Courier.{header_of, envelope_decode}
 use Rattle.courier.proofs.HeaderLaws.{decode_whole}
@@ -20,7 +18,7 @@ use Rattle.model.specs.Step.{step}
 use Rattle.model.specs.Areas.{Areas, AnswerAreas, Written, view}
 use Rattle.model.specs.Lent.{Does}
 use Rattle.drill_run.specs.Drill.{record_step, call_of}
-use Rattle.drill_calls.specs.Asking.{Told, told_by, told_with, told_of_number, Asks}
+use Rattle.drill_calls.specs.Asking.{Told, told_by, told_with, Asks}
 use Rattle.drill_calls.proofs.StepLaws.{Same}
 
 -- A call that is a record's does what the model's step does: what is told of its answer is told of the record.
@@ -39,32 +37,12 @@ mapped f (Ok a) {r = Ok s} h m = ap Ok (h a s m)
 mapped f (Ok a) {r = Err e} h m = absurd m
 mapped f (Err e) h m = m
 
--- a refusal is told from its number
-pub fetch_refused : (why : Refusal) → Err why ≡ told_of_number (refusal_number why)
-fetch_refused refusal.ShortArea = refl
-fetch_refused refusal.UnknownContact = refl
-fetch_refused refusal.WrongExchange = refl
-fetch_refused refusal.NoCell = refl
-fetch_refused refusal.NoTombstoneRow = refl
-fetch_refused refusal.NoSlot = refl
-fetch_refused refusal.Configuration = refl
-fetch_refused refusal.SavedFile = refl
-fetch_refused refusal.NoBadTagRow = refl
-fetch_refused refusal.MessageNumberTaken = refl
-fetch_refused refusal.OwnLength = refl
-fetch_refused refusal.WindowRows = refl
-fetch_refused refusal.LogRecord = refl
-
 -- the header of an envelope is whole
 pub envelope_whole : (s : List ℕ) {r : Option Header} → 45 ≤ length s → r ≡ envelope_decode s 8 → IsSome r
 envelope_whole s {r} room e = subst IsSome (decode_whole s 8 room ∙ sym e) refl
 
 pub header_whole : (s : List ℕ) {r : Option Header} {h : Header} → 45 ≤ length s → r ≡ envelope_decode s 8 → r ≡ Some h → h ≡ header_of (part s 8 37)
 header_whole s {r} {h} room e w = same_Some h (header_of (part s 8 37)) (sym w ∙ e ∙ sym (decode_whole s 8 room))
-
--- what a body has behind its first bytes, as it is lent
-pub behind : (n : ℕ) (s : List ℕ) → take (length s - n) (drop n s) ≡ drop n s
-behind n s = take_all (length s - n) (drop n s) (omega (arith, length-drop n s))
 
 -- a body's record is what was read of it
 pub asks_of : {m k : Option Record} (r : Told) {before after : Areas → Areas} {lent back : AnswerAreas} → m ≡ k → Asks k r before after lent back → Asks m r before after lent back

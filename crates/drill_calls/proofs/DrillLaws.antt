@@ -1,6 +1,6 @@
 -- What is told of a record on the areas that its call is lent is told of it on all areas of the drill, of which the others stay as they are.
 -- Assumes nothing.
-use Rattle.std.proofs.Common.{◌≡◌, ℕ, ◌≤◌, List, length, refl, sym, ap, ◌∙◌, subst, Option, Some, None, Err}
+use Rattle.std.proofs.Common.{◌≡◌, ℕ, List, refl, sym, ap, ◌∙◌, Option, Some, None, Err}
 use Rattle.courier_core.specs.declared.Refusal.TheVariants as refusal
 use Rattle.model.specs.Areas.{Areas, AnswerAreas}
 use Rattle.model.specs.Calls.{Call, Result}
@@ -9,22 +9,19 @@ use Rattle.model.proofs.CallLaws.{refused_call}
 use Rattle.wire.specs.declared.Mark.{Mark}
 use Rattle.wire.specs.declared.Body.{Body}
 use Rattle.wire.specs.Log.{body_of}
-use Rattle.wire.specs.Read.{record_of, least_of}
+use Rattle.wire.specs.Read.{record_of}
 use Rattle.wire.specs.Read as read
 use Rattle.drill_run.specs.Drill.{record_step, tells}
 use Rattle.drill_calls.specs.Asking.{Told, told_by, Asks}
 use Rattle.drill_calls.proofs.AskLaws.{asks_of}
 use Rattle.drill_calls.proofs.AreaLaws.{with_replies, with_actions, with_both}
 
--- what was read of a body is its record, and the bytes that the record needs are there
+-- what was read of a body is its record
 module _ {m : Mark} {b : List ℕ} {x : Option Body} (t : read.Told m b x) where
   read_is : (k : Option Body) → x ≡ k → body_of m b ≡ record_of k b
   read_is k e = sym t.whole ∙ ap (λ (y : Option Body). record_of y b) e
 
   module _ {y : Body} (k : Body) (e : x ≡ Some y) (q : y ≡ k) where
-    pub bytes_read : least_of (Some k) ≤ length b
-    bytes_read = subst (λ (z : Option Body). least_of z ≤ length b) (e ∙ ap Some q) t.room
-
     pub asks_read : (r : Told) {before after : Areas → Areas} {lent back : AnswerAreas} → Asks (record_of (Some k) b) r before after lent back
         → Asks (body_of m b) r before after lent back
     asks_read r h = asks_of r (read_is (Some k) (e ∙ ap Some q)) h

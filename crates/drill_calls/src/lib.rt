@@ -47,7 +47,8 @@ pub struct Tables {
 }
 
 impl Tables {
-    // Areas of zeros: a fresh device has no row of them.
+    // Areas of zeros: a fresh device has no row of them. (No derived Default: of an array it ensures what holds of each element, and `zeros` says what
+    // the whole is. Tried of another such function, `no_row` of host_answers: the proof did not close.)
     pub fn zeros() -> Tables
         ensures zeros { (result.own_cells ≡ replicate 33024 0) × (result.cells ≡ replicate 33024 0) }
         ensures sizes { (length result.prefixes ≡ 4096) × (length result.offers ≡ 8704) }

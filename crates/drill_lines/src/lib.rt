@@ -28,10 +28,11 @@ pub struct HeldRows<'a> {
 
 // ---- one line
 
-// No line has more bytes.
+// No line has more bytes. (The clauses have the number itself, and do not follow an edit of this constant.)
 pub const LINE: usize = 96;
 
 // `put SLOT BLOBLENGTH`
+// (Area and place stay two arguments, and their bound stands at each function: crate text says why.)
 fn put_line(slot: u64, blob: usize, out: &mut [u8], at: usize) -> usize
     requires { at + 96 ≤ length out.old }
     ensures { Puts 96 out.old at (put_line slot blob) result out.new }
@@ -111,10 +112,9 @@ trait Listed<const N: usize>: Row<N> {
         ensures { (a : Areas) → Puts 96 out.old at (line (held_view kept.entry a) self) result out.new };
 }
 
-// Where a custody's code stands in a reply's body: behind the tag, as a header's commitment. (An envelope's body is its header.)
-const CODE: usize = Header::C;
-
 // A fetch has no line: it comes of a window, and there is none here.
+// (Of an envelope's header the line tells tag, expiry and copies, each read where it stands. `courier::decode` would read all of it, into an Option
+// that the proof has to show is some.)
 impl Listed<REPLY_WIDTH> for Reply {
     ghost line = { λ s. reply_line };
 
@@ -126,7 +126,12 @@ impl Listed<REPLY_WIDTH> for Reply {
                 let copies = octets::get_u8(&self.body, Header::COPIES);
                 envelope_line(tag, expiry, copies, out, at)
             }
-            Reply::CUSTODY => custody_line(tag, octets::get_u8(&self.body, CODE), out, at),
+            Reply::CUSTODY => custody_line(
+                tag,
+                octets::get_u8(&self.body, Reply::BEHIND_TAG),
+                out,
+                at,
+            ),
             Reply::TOMB => tomb_line(tag, out, at),
             _ => at,
         }

@@ -1,8 +1,7 @@
 -- Laws of the run over a buffer. Assumes nothing.
-use Rattle.std.proofs.Common.{◌≡◌, ℕ, ◌+◌, ◌-◌, ◌*◌, ◌<◌, ◌≤◌, Bool, true, false, List, [], ◌++◌, length, take, drop, sym, refl, ap, ◌∙◌, append_assoc, append-nil, arith, length-drop, take_all, Option, Some, None, Ok, Err}
+use Rattle.std.proofs.Common.{◌≡◌, ℕ, ◌+◌, ◌-◌, ◌*◌, ◌<◌, ◌≤◌, Bool, true, false, List, [], ◌++◌, length, take, drop, sym, refl, ap, ◌∙◌, append_assoc, append-nil, arith, length-drop, Option, Some, None, Ok, Err}
 use mathlib.Core.Bool.{false≢true}
 use Rattle.octets.specs.Bytes.{part}
-use lib.Seq.{drop-drop}
 use Rattle.octets.proofs.Parts.{take_written}
 use Rattle.courier_core.specs.declared.Refusal.{Refusal}
 use Rattle.courier_core.specs.declared.Refusal.TheVariants as refusal
@@ -55,10 +54,7 @@ more_lines : {most : ℕ} {out out' w : List ℕ} {at put : ℕ} → at + most �
 more_lines {most} {out} {out'} {w} {at} {put} room p =
     (λ i. take (p.next i) (p.area i)) ∙ take_written out at w (omega (arith, p.near))
 
--- the bytes that are left, and the body of a record at their front, as they are lent
-pub rest_lent : (used : ℕ) (input : List ℕ) → take (length input - used) (drop used input) ≡ drop used input
-rest_lent used input = take_all (length input - used) (drop used input) (omega (arith, length-drop used input))
-
+-- the body of a record at the front of the bytes that are left, as it is lent
 pub body_lent : {lent : List ℕ} (s : List ℕ) (n : ℕ) {end : ℕ} → lent ≡ s → end ≡ 4 + n → take (end - 4) (drop 4 lent) ≡ part s 4 n
 unfolding part
 body_lent {lent} s n {end} e l =
@@ -148,22 +144,10 @@ module _ (s : List ℕ) {r : ReadHead} (e : r ≡ head_of s) where
       held = so_far.held;
     }
 
--- before the first record, and where the lines of one more have no room
+-- before the first record
 pub run_start : (a : Areas) (b : List ℕ) → Ready a → Running (view a) b a b []
 unfolding after_all
 run_start a b g = record { ready = g; on = λ t. refl; calls = []; made = λ t. refl; held = refl }
-
-pub run_full : {s₀ : State} {a : Areas} {b rest lines : List ℕ} {why : Why} → why ≡ cause.Full → Running s₀ b a rest lines → Ran s₀ b a rest lines why
-run_full e k = record {
-  ready = k.ready;
-  on = λ h. k.on;
-  stop = λ h. absurd (omega (arith, ap rank e, ap rank h));
-  wants = λ h. absurd (omega (arith, ap rank e, ap rank h));
-  calls = k.calls;
-  made = λ h. k.made;
-  all = λ h. absurd (omega (arith, ap rank e, ap rank h));
-  held = k.held;
-}
 
 -- ---- the loop
 
@@ -174,10 +158,6 @@ pub record InRun (before after : Areas) (input out : List ℕ) (used put count :
   pub room : put ≤ 655360
   pub full : why ≡ cause.Full
   pub so_far : Ready before → Running (view before) input after (drop used input) (take put out)
-
--- behind n bytes more
-pub place_on : (n used : ℕ) (input : List ℕ) → drop (used + n) input ≡ drop n (drop used input)
-place_on n used input = sym (drop-drop n used input)
 
 -- where it ends
 pub run_ends : {before after : Areas} (input : List ℕ) {out : List ℕ} {used put : ℕ} {why : Why} → used ≤ length input → put ≤ 655360

@@ -1,7 +1,7 @@
 -- A whole log, read in pieces: what the runs over the pieces print and make is what the log does, and what the areas hold is what the
 -- model's run of its calls leaves. Assumes nothing.
-use Rattle.std.proofs.Common.{◌≡◌, ℕ, ◌<◌, List, [], ◌++◌, map, length, sym, refl, ap, ◌∙◌, subst, append_assoc, append-nil, arith, None, Ok, Err}
-use mathlib.Core.Bool.{true, false≢true}
+use Rattle.std.proofs.Common.{◌≡◌, ℕ, ◌<◌, List, [], ◌++◌, map, length, sym, refl, ap, ◌∙◌, subst, append_assoc, append-nil, None, Ok, Err}
+use mathlib.Core.Bool.{true}
 use mathlib.Core.List.{map-append}
 use lib.Seq.{take-append_seam}
 use Rattle.octets.specs.Bytes.{Bytes}
@@ -23,7 +23,6 @@ use Rattle.drill_run.proofs.RecordLaws.{ProperLent, records_proper, performed_pr
 use Rattle.drill_log.specs.declared.Why.{Why}
 use Rattle.drill_log.specs.declared.Why.TheVariants as cause
 use Rattle.drill_log.specs.Run.{Ready, Running, Ran, goes_on}
-use Rattle.drill_log.proofs.RunLaws.{rank}
 
 -- ---- one run after another, with bytes that were read between them
 
@@ -40,24 +39,6 @@ runs_join {s₀} {a₁} {a₂} {b} {rest} {rest'} {l} {l'} more j k = record {
       ap (λ (x : List ℕ). performed s₀ (records_of x)) (append_assoc b more t) ∙ j.made (more ++ t)
       ∙ ap (λ (x : List Record). j.calls ++ x) (ap (λ (x : List ℕ). performed (view a₁) (records_of x)) (sym (append_assoc rest more t)) ∙ k.made t)
       ∙ sym (append_assoc j.calls k.calls (performed (view a₂) (records_of (rest' ++ t))));
-  held = k.held ∙ ap (λ (x : State). after_all x k.calls) j.held ∙ sym (after_append s₀ j.calls k.calls);
-}
-
--- the last of them ends at number 13
-pub runs_stop : {s₀ : State} {a₁ a₂ : Areas} {b rest rest' l l' : List ℕ} (more : List ℕ) → Running s₀ b a₁ rest l → Ran (view a₁) (rest ++ more) a₂ rest' l' cause.Refused
-    → Ran s₀ (b ++ more) a₂ rest' (l ++ l') cause.Refused
-runs_stop {s₀} {a₁} {a₂} {b} {rest} {rest'} {l} {l'} more j k = record {
-  ready = k.ready;
-  on = λ h. absurd (false≢true h);
-  stop = λ h t.
-      ap (printed s₀) (append_assoc b more t) ∙ j.on (more ++ t)
-      ∙ ap (λ (x : List ℕ). l ++ x) (ap (printed (view a₁)) (sym (append_assoc rest more t)) ∙ k.stop refl t);
-  wants = λ h. absurd (omega (arith, ap rank h));
-  calls = j.calls ++ k.calls;
-  made = λ h. absurd (false≢true h);
-  all = λ h t.
-      ap (λ (x : List ℕ). performed s₀ (records_of x)) (append_assoc b more t) ∙ j.made (more ++ t)
-      ∙ ap (λ (x : List Record). j.calls ++ x) (ap (λ (x : List ℕ). performed (view a₁) (records_of x)) (sym (append_assoc rest more t)) ∙ k.all refl t);
   held = k.held ∙ ap (λ (x : State). after_all x k.calls) j.held ∙ sym (after_append s₀ j.calls k.calls);
 }
 

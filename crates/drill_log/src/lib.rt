@@ -13,7 +13,7 @@ use drill_lines::{HeldRows, LINE, Said};
 use rows::{Device, Exchange, LISTED_REPLIES};
 use wire::Mark;
 
-// The bytes of the area for lines.
+// The bytes of the area for lines. (`perform`'s clause has this number and that of a record's lines themselves, and does not follow an edit of the constants.)
 pub const OUTPUT: usize = 655_360;
 
 // The lines of a record have no more bytes: one line for each action and reply that the answer areas hold, and a last one.

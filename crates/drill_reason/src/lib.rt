@@ -28,10 +28,10 @@ fn head_reason(s: &[u8]) -> Reason
     requires { 4 ≤ length s.now }
     ensures { result ≡ head_reason (mark_at s.now) (size_at s.now) }
 {
-    if Mark::from(octets::get_u16(s, 0)) == Mark::Unknown {
+    if wire::mark_at(s) == Mark::Unknown {
         return Reason::Mark;
     }
-    if octets::get_u16(s, 2) as usize <= wire::BODY_MAX {
+    if wire::size_at(s) <= wire::BODY_MAX {
         return Reason::Shape;
     }
     Reason::Length

@@ -1,19 +1,17 @@
 -- The rows that a record's call lists are proper, and they fit the answer areas: so what is read off these is what the model lists.
 -- Assumes nothing.
-use Rattle.std.proofs.Common.{◌≡◌, ℕ, zero, suc, ◌+◌, ◌*◌, ◌^◌, ◌<◌, ◌≤◌, Bool, true, false, cond, eqb, ltb, leb, List, [], ◌∷◌, ◌++◌, map, length, get_or, take, replicate, sym, refl, ap, ◌∙◌, subst, arith, length-append, length-take, ltb-true, Option, Some, None}
+use Rattle.std.proofs.Common.{◌≡◌, ℕ, zero, suc, ◌+◌, ◌*◌, ◌^◌, ◌<◌, ◌≤◌, Bool, true, false, cond, eqb, ltb, leb, List, [], ◌∷◌, ◌++◌, map, length, get_or, replicate, sym, refl, ap, ◌∙◌, subst, arith, length-append, ltb-true, Option, Some, None}
 use mathlib.Core.List.{flat_map}
 use lib.ListN.{length-map}
 use Rattle.octets.specs.Bytes.{Bytes, be}
-use Rattle.octets.proofs.Numbers.{bytes_append, bytes_be, be_1, bytes_take}
+use Rattle.octets.proofs.Numbers.{bytes_append, bytes_be, be_1}
 use Rattle.courier_core.specs.declared.ContactId.{ContactId}
 use Rattle.courier_core.specs.declared.Refusal.{Refusal}
 use Rattle.courier_core.specs.declared.Refusal.TheVariants as refusal
-use Rattle.kdf.specs.Kdf.{hash}
 use Rattle.courier.specs.declared.Header.{Header}
 use Rattle.courier.specs.declared.Custody.{Custody}
 use Rattle.courier.specs.declared.Custody.TheVariants as custody
 use Rattle.courier.specs.Courier.{custody_code, header_bytes}
-use Rattle.courier.specs.Tags.{commitment_of}
 use Rattle.courier.proofs.HeaderLaws.{length_header}
 use Rattle.table.specs.Lists.{All, none, more, filter, position, position_from}
 use Rattle.table.specs.Rows.{rows, held}
@@ -42,8 +40,9 @@ use Rattle.model.specs.Tombs.{no_tombstone, tombstoned, least_expiry, evicted, s
 use Rattle.model.specs.Maintenance.{own_expired, carried_expired, tombstone_expired, own_puts, expired_slots, maintenance_tests, maintain_couriers}
 use Rattle.model.specs.Step.{tests, perform, step}
 use Rattle.model.specs.Good.{Good, ProperHeader, ProperCall}
-use Rattle.model.proofs.HashLaws.{sha384_run}
 use Rattle.model.proofs.KeepRows.{offers_few}
+use Rattle.model.proofs.RunLaws.{all_get_d}
+use Rattle.history.proofs.OfferLaws.{commitment_run}
 use Rattle.model.proofs.KeepCalls.{keeps}
 use Rattle.maintenance.proofs.MergeLaws.{length_expired}
 use Rattle.model.proofs.Laws.{all_merge}
@@ -65,11 +64,6 @@ Of P None = Unit {0}
 Of P (Some a) = P a
 
 module _ {A : Type 0} {P : A → Type 0} where
-  got : (xs : List A) (i : ℕ) (d : A) → All P xs → P d → P (get_or xs i d)
-  got [] i d p q = q
-  got (x ∷ xs) zero d (more h p) q = h
-  got (x ∷ xs) (suc i) d (more h p) q = got xs i d p q
-
   all_find : (q : A → Bool) (xs : List A) → All P xs → Of P (find q xs)
   unfolding find
   all_find q [] p = tt
@@ -158,7 +152,7 @@ header_run : (h : Header) → ProperHeader h → Run 37 (header_bytes h)
 unfolding header_bytes
 header_run h p =
     let front : List ℕ = h.tag ++ h.c in record {
-      size = length_header h (record { tag = p.tag.size; c = p.c.size; expiry = p.expiry_min; copies = p.copies });
+      size = length_header h p.tag.size p.c.size;
       bytes = bytes_append (front ++ be 4 h.expiry_min) (h.copies ∷ [])
           (bytes_append front (be 4 h.expiry_min) (bytes_append h.tag h.c p.tag.bytes p.c.bytes) (bytes_be 4 h.expiry_min))
           (bytes_one h.copies p.copies);
@@ -166,13 +160,6 @@ header_run h p =
 
 envelope_proper : (e : Envelope) → ProperEnvelope e → ProperReply (reply_for e)
 envelope_proper e p = record { kind = omega arith; cell = cell_proper e.cells e.cell; body = header_run e.head p }
-
-commitment_run : (s : List ℕ) → Run 16 (commitment_of s)
-unfolding commitment_of hash
-commitment_run s = go (sha384_run _)
-  where
-    go : {d : List ℕ} → Run 48 d → Run 16 (take 16 d)
-    go {d} r = record { size = omega (arith, length-take 16 d, r.size); bytes = bytes_take 16 d r.bytes }
 
 -- ---- what each call lists
 
@@ -317,10 +304,10 @@ module _ (s : State) (g : Good s) where
   SmallOwn o = (o.contact.0 < 2 ^ 64) × (o.msgno < 2 ^ 32)
 
   slot_at : (i : ℕ) → (get_or s.carried i no_carried).slot < 2 ^ 64
-  slot_at i = got {P = SmallSlot} s.carried i no_carried (all_imp (λ r p. p.slot) s.carried g.carried) (omega arith)
+  slot_at i = all_get_d {P = SmallSlot} s.carried i no_carried (all_imp (λ r p. p.slot) s.carried g.carried) (omega arith)
 
   own_small : (i : ℕ) → SmallOwn (get_or s.own i no_own)
-  own_small i = got {P = SmallOwn} s.own i no_own (all_imp (λ o p. (p.contact, p.msgno)) s.own g.own) (omega arith, omega arith)
+  own_small i = all_get_d {P = SmallOwn} s.own i no_own (all_imp (λ o p. (p.contact, p.msgno)) s.own g.own) (omega arith, omega arith)
 
   own_put_at : (i : ℕ) → ProperAction (put_queued (get_or s.own i no_own).contact (get_or s.own i no_own).msgno)
   own_put_at i = own_put_proper (get_or s.own i no_own).contact (get_or s.own i no_own).msgno (own_small i).0 (own_small i).1
@@ -364,7 +351,7 @@ module _ (s : State) (g : Good s) where
       slot = (get_or s.tombstones (least_expiry s.tombstones) no_tombstone).slot
 
       small : slot < 2 ^ 64
-      small = got {P = SmallTomb} s.tombstones (least_expiry s.tombstones) no_tombstone (all_imp (λ t p. p.slot) s.tombstones g.tombstones) (omega arith)
+      small = all_get_d {P = SmallTomb} s.tombstones (least_expiry s.tombstones) no_tombstone (all_imp (λ t p. p.slot) s.tombstones g.tombstones) (omega arith)
 
       go : (b : Bool) → All ProperAction (cond b (delete_courier slot ∷ []) []) × (length (cond b (delete_courier slot ∷ []) []) ≤ 1)
       go true = (more (delete_proper slot small) none, omega arith)

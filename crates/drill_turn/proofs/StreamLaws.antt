@@ -2,7 +2,6 @@
 use Rattle.std.proofs.Common.{◌≡◌, ℕ, ◌+◌, ◌-◌, ◌%◌, ◌^◌, ◌<◌, ◌≤◌, Bool, true, false, cond, eqb, List, [], ◌++◌, length, take, sym, refl, ap, ◌∙◌, subst, append-nil, zero-add, arith, length-append, length-take, eqb-true, drop, None, Ok, Err}
 use Rattle.std.specs.Option.{unwrap_or}
 use Rattle.std.specs.Prelude.{Option, Some, None}
-use mathlib.Core.Bool.{false≢true}
 use Rattle.octets.specs.Bytes.{part, splice}
 use lib.Seq.{drop-drop, paste}
 use Rattle.std.proofs.lemmas.List.{drop-take}
@@ -56,18 +55,6 @@ unfolding part
 left_behind a from have n h =
     let k : have - from ≡ n + (have - (from + n)) = omega arith in
     ap (λ (m : ℕ). drop n (take m (drop from a))) k ∙ drop-take n (have - (from + n)) (drop from a) ∙ ap (take (have - (from + n))) (drop-drop n from a)
-
--- nothing is read
-pub fed_none : (t : Turn) (input : List ℕ) → Inside t.from t.have → Fed t input t input
-fed_none t input inside = record {
-  device = refl;
-  exchange = refl;
-  inside = inside;
-  more = [];
-  rest = sym (append-nil (left t input));
-  counted = omega arith;
-  ended = λ e h. absurd (false≢true (ap goes_on (sym e) ∙ h));
-}
 
 -- bytes are read behind those that are kept
 module _ (t : Turn) (input moved input' : List ℕ) (got : Option ℕ) (inside : Inside t.from t.have) where

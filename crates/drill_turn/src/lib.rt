@@ -1,10 +1,10 @@
 // The drill's log, read in pieces: what a turn keeps of its input, what it hands on, and the line at the end of the input.
 #![tactic(auto)]
 
-ghost use Rattle.std.specs.Prelude.{◌≡◌, ◌+◌, ◌%◌, ◌^◌, ◌≤◌, length};
+ghost use Rattle.std.specs.Prelude.{◌≡◌, ◌+◌, ◌%◌, ◌^◌, ◌≤◌};
 ghost use Rattle.std.specs.Option.{unwrap_or};
 ghost use Rattle.drill_calls.specs.Asking.{tables_areas};
-ghost use Rattle.drill_turn.specs.Stream.{Inside, first_turn, with_input, after_read, read_turn, Keeps, Turned, AtEnd};
+ghost use Rattle.drill_turn.specs.Stream.{Inside, first_turn, after_read, read_turn, Keeps, Turned, AtEnd};
 
 use courier_core::Refusal;
 use drill_calls::Tables;
@@ -54,28 +54,20 @@ pub fn start() -> Turn
 
 // ---- the input
 
-// The same device and exchange, with other bytes in the buffer.
-fn with_input(turn: Turn, from: usize, have: usize, why: Why, bytes: u64) -> Turn
-    ensures { result ≡ with_input turn from have why bytes }
-{
-    Turn {
-        from,
-        have,
-        put: 0,
-        why,
-        bytes,
-        ..turn
-    }
-}
-
 // Keeps what is not done, at the front of the buffer, so that there is room behind it.
 pub fn keep(turn: Turn, input: &mut [u8; INPUT]) -> Turn
     requires { Inside turn.from turn.have }
     ensures { Keeps turn input.old result input.new }
 {
     input.copy_within(turn.from..turn.have, 0);
-    let bytes = further(turn.bytes, turn.from);
-    with_input(turn, 0, turn.have - turn.from, Why::More, bytes)
+    Turn {
+        from: 0,
+        have: turn.have - turn.from,
+        put: 0,
+        why: Why::More,
+        bytes: further(turn.bytes, turn.from),
+        ..turn
+    }
 }
 
 // Why a turn goes on or ends after a read: of so many bytes, or one that failed.
@@ -94,8 +86,12 @@ pub fn grow(turn: Turn, got: Option<usize>) -> Turn
     requires { turn.have + unwrap_or got 0 ≤ 65536 }
     ensures { result ≡ read_turn turn got }
 {
-    let have = turn.have + got.unwrap_or(0);
-    with_input(turn, turn.from, have, after_read(got), turn.bytes)
+    Turn {
+        have: turn.have + got.unwrap_or(0),
+        put: 0,
+        why: after_read(got),
+        ..turn
+    }
 }
 
 // ---- the records

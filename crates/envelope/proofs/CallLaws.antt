@@ -55,10 +55,10 @@ new_row_lem d depositor head len cell end expiry copies p q r = λ j. record {
   cell = cell;
 }
 
-pub carries : (d r : Device) (depositor : ContactId) (head : Header) (ct : List ℕ) (cell n : ℕ) (row : Carried) (a x c y : List ℕ)
+pub carries : {d r : Device} {depositor : ContactId} {head : Header} {ct : List ℕ} {cell n : ℕ} {row : Carried} {a x c y : List ℕ}
     → row ≡ new_row d depositor head (length ct) cell → TableNow carried_codec a (table_of carried_codec d.carried a ++ (row ∷ [])) n x
     → y ≡ splice c (cell * 2064) ct → r ≡ device_after d n → Carries d depositor head ct cell r a x c y
-carries d r depositor head ct cell n row a x c y e N s p =
+carries {d} {n = n} {a = a} {x = x} e N s p =
     let T = subst (λ (k : Carried). TableNow carried_codec a (table_of carried_codec d.carried a ++ (k ∷ [])) n x) e N in
     record { device = p ∙ ap (device_after d) T.count; rows = T.area; cells = s }
 

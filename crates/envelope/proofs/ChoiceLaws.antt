@@ -229,14 +229,6 @@ new_inside size named e = go (free_cell size named) refl e
     go (Some k) q t = free_inside size named k q
     go None q t = let z : ◌≡◌ {A = ℕ} 0 1 = cc in absurd (omega arith)
 
--- a code that is another is not accepted
-pub not_accepted : (code : Custody) → (code ≡ custody.Accepted → ⊥) → is_accepted code ≡ false
-not_accepted custody.Accepted n = absurd (n refl)
-not_accepted custody.Full n = refl
-not_accepted custody.Duplicate n = refl
-not_accepted custody.Off n = refl
-not_accepted custody.Invalid n = refl
-
 is_accepted_lem : (code : Custody) → is_accepted code ≡ true → code ≡ custody.Accepted
 is_accepted_lem custody.Accepted e = refl
 is_accepted_lem custody.Full e = let z : ◌≡◌ {A = ℕ} 0 1 = cc in absurd (omega arith)

@@ -38,6 +38,11 @@ envelope_choice s replies actions window peer head len =
     first_of (envelope_tests s replies actions window peer head len) Err
     (match_found (lookup (window_rows window) head.tag) (λ i. Ok (choice.Ours i)) (cond (is_accepted code) (Ok (choice.Take (carried_cell s))) (Ok (choice.Code code))))
 
+-- a cell that is taken, or why none is
+abbrev pub taken : Result ℕ Refusal → Result Choice Refusal
+taken (Err why) = Err why
+taken (Ok cell) = Ok (choice.Take cell)
+
 -- `NoCell` and `NoSlot` of an accepted envelope, in a cell area of so many bytes whose rows name these cells, or the cell that it gets
 unfoldable pub placed : ℕ → List ℕ → ℕ → Result Choice Refusal
 placed size named next =

@@ -1,17 +1,16 @@
 // The envelope call: `receive_envelope`, `carry` and `put_held` of couriering.rs.
 #![tactic(auto)]
 
-ghost use Rattle.std.specs.Prelude.{◌≡◌, ◌+◌, ◌*◌, ◌/◌, ◌<◌, ◌≤◌, not, ◌||◌, map, length, nat_lt};
+ghost use Rattle.std.specs.Prelude.{◌≡◌, ◌+◌, ◌*◌, ◌/◌, ◌<◌, ◌≤◌, not, ◌||◌, map, length};
 ghost use Rattle.octets.specs.Bytes.{part};
 ghost use Rattle.table.specs.Tables.{rows_in};
-ghost use Rattle.rows.specs.Rows.{carried_width, contact_codec, carried_codec, reachable_of};
+ghost use Rattle.rows.specs.Rows.{carried_codec, reachable_width, reachable_of};
 ghost use Rattle.model.specs.Calls.{envelope as envelope_call, short_replies};
-ghost use Rattle.model.specs.Contacts.{known as known_of};
-ghost use Rattle.model.specs.Window.{window_rows, strangers as some_stranger};
 ghost use Rattle.model.specs.Areas.{Areas, view};
+ghost use Rattle.model.specs.Cells.{cell_size, max_cells};
 ghost use Rattle.model.specs.Lent.{Does, answers_lent};
 ghost use Rattle.custody.specs.Lent.{Lent};
-ghost use Rattle.envelope.specs.Answers.{placed, envelope_choice, custody_choice, ours_of, new_row, Room, Carries, envelope_says, envelope_in};
+ghost use Rattle.envelope.specs.Answers.{taken, placed, envelope_choice, custody_choice, ours_of, new_row, Room, Carries, envelope_says, envelope_in};
 
 use contacts::lifetime_end;
 use courier::{Custody, Header};
@@ -41,14 +40,14 @@ pub enum Answer {
 // ---- what becomes of it: these only read
 
 // The cell of an envelope that is accepted, in a cell area of size bytes: or why it gets none: `NoCell`, `NoSlot`.
-fn place(carried: Table<CARRIED_WIDTH>, size: usize, next_slot: u64) -> Result<Choice, Refusal>
-    ensures { result ≡ placed size (map (λ x. x.cell) (rows_in carried_codec carried.entry)) next_slot }
+fn place(carried: Table<CARRIED_WIDTH>, size: usize, next_slot: u64) -> Result<usize, Refusal>
+    ensures { taken result ≡ placed size (map (λ x. x.cell) (rows_in carried_codec carried.entry)) next_slot }
 {
     let cell = free_carried_cell(carried, size).ok_or(Refusal::NoCell)?;
     if next_slot == u64::MAX {
         return Err(Refusal::NoSlot);
     }
-    Ok(Choice::Take(cell))
+    Ok(cell)
 }
 
 // What becomes of an envelope that is not in the window.
@@ -68,7 +67,7 @@ fn custody_choice(
                 area,
                 count: tables.device.carried,
             };
-            place(carried, tables.size, tables.device.next_slot)
+            Ok(Choice::Take(place(carried, tables.size, tables.device.next_slot)?))
         }
         code => Ok(Choice::Code(code)),
     }
@@ -108,8 +107,8 @@ fn decide(
 
 // The answer to an envelope that is in the window, in row i.
 fn ours_at(window: &[u8], i: usize) -> Answer
-    requires { i * 30 + 30 ≤ length window.now }
-    ensures { result ≡ ours_of (reachable_of (part window.now (i * 30) 30)) }
+    requires { i * reachable_width + reachable_width ≤ length window.now }
+    ensures { result ≡ ours_of (reachable_of (part window.now (i * reachable_width) reachable_width)) }
 {
     let row = Reachable::read(window, i * rows::REACHABLE_WIDTH);
     Answer::Ours(row.contact, row.generation, row.idx)
@@ -120,7 +119,7 @@ fn ours_at(window: &[u8], i: usize) -> Answer
 // The new row: copies and expiry become the lesser of their own and the configured.
 // (An array field goes into a literal through a local: put there straight, the borrow check does not cover it.)
 fn new_row(device: Device, depositor: ContactId, head: Header, len: usize, cell: usize) -> Carried
-    requires { (len ≤ 2064) × (cell < 256) }
+    requires { (len ≤ cell_size) × (cell < max_cells) }
     ensures { result ≡ new_row device depositor head len cell }
 {
     let tag = head.tag;

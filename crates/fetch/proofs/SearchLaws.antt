@@ -1,9 +1,9 @@
 -- Laws of a search: a row that is found is one of its table, and its bytes lie in the area. The model's search through the envelopes is the
 -- search through own rows, then through carried rows.
 -- Assumes nothing.
-use Rattle.std.proofs.Common.{◌≡◌, ℕ, ◌+◌, ◌*◌, ◌<◌, ◌≤◌, Bool, true, List, [], ◌++◌, map, length, get_or, sym, ap, ◌∙◌, append-nil, arith, Some, None}
+use Rattle.std.proofs.Common.{◌≡◌, ℕ, ◌+◌, ◌*◌, ◌<◌, ◌≤◌, Bool, List, [], map, length, get_or, sym, ap, ◌∙◌, append-nil, arith, Some, None}
 use Rattle.courier_core.specs.declared.ContactId.{ContactId}
-use Rattle.table.specs.Lists.{position, filter}
+use Rattle.table.specs.Lists.{position}
 use Rattle.table.specs.Rows.{held}
 use Rattle.table.specs.Codec.{Codec, table_of}
 use Rattle.table.proofs.RowLaws.{row_in, held_inside}
@@ -14,7 +14,7 @@ use Rattle.rows.specs.declared.Carried.{Carried}
 use Rattle.model.specs.Basics.{find}
 use Rattle.model.specs.Custody.{carried_of_tag}
 use Rattle.model.specs.Exchange.{Envelope, own_envelope_of, carried_envelope_of, not_for, envelopes, envelope_of_tag, no_own, no_carried}
-use Rattle.model.proofs.SearchLaws.{find_at, find_past, filter_all}
+use Rattle.model.proofs.SearchLaws.{find_at, find_past, found_in, found_behind}
 use Rattle.fetch.specs.Fetch.{for_others}
 
 -- ---- the row that is found
@@ -35,9 +35,6 @@ module _ (own : List Own) (carried : List Carried) (peer : ContactId) (tag : Lis
   abbrev tail : List Envelope
   tail = map carried_envelope_of carried
 
-  whole : map carried_envelope_of (filter (λ (x : Carried). true) carried) ++ [] ≡ tail
-  whole = append-nil (map carried_envelope_of (filter (λ (x : Carried). true) carried)) ∙ ap (map carried_envelope_of) (filter_all carried)
-
   pub own_found : (i : ℕ) → Some i ≡ position (for_others peer tag) own
       → find (envelope_of_tag tag) (envelopes own carried peer) ≡ Some (own_envelope_of (get_or own i no_own))
   unfolding envelopes own_envelope_of
@@ -52,9 +49,9 @@ module _ (own : List Own) (carried : List Carried) (peer : ContactId) (tag : Lis
         → find (envelope_of_tag tag) (envelopes own carried peer) ≡ Some (carried_envelope_of (get_or carried i no_carried))
     unfolding carried_envelope_of
     carried_found i e =
-        past ∙ ap (find (envelope_of_tag tag)) (sym whole) ∙ find_at carried_envelope_of (envelope_of_tag tag) (λ (x : Carried). true) [] no_carried carried i (sym e)
+        past ∙ ap (find (envelope_of_tag tag)) (sym (append-nil tail)) ∙ found_in carried_envelope_of (envelope_of_tag tag) [] carried no_carried i e
 
     pub none_found : None ≡ position (carried_of_tag tag) carried → find (envelope_of_tag tag) (envelopes own carried peer) ≡ None
     unfolding carried_envelope_of find
     none_found e =
-        past ∙ ap (find (envelope_of_tag tag)) (sym whole) ∙ find_past carried_envelope_of (envelope_of_tag tag) (λ (x : Carried). true) [] carried 0 (sym e)
+        past ∙ ap (find (envelope_of_tag tag)) (sym (append-nil tail)) ∙ found_behind carried_envelope_of (envelope_of_tag tag) [] carried e

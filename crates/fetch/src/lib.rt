@@ -1,11 +1,11 @@
 // Fetch: the envelope with a tag, and the part of the cell area that is its ciphertext.
 #![tactic(auto)]
 
-ghost use Rattle.std.specs.Prelude.{◌≡◌, ◌+◌, ◌≤◌, not, ◌&&◌, length, ◌==◌};
-ghost use Rattle.octets.specs.Bytes.{part, num, same_bytes};
+ghost use Rattle.std.specs.Prelude.{◌≡◌, ◌+◌, ◌≤◌, not, ◌&&◌, length};
+ghost use Rattle.octets.specs.Bytes.{part};
 ghost use Rattle.table.specs.Lists.{position};
 ghost use Rattle.table.specs.Tables.{rows_in};
-ghost use Rattle.rows.specs.Rows.{own_codec, carried_codec, own_of, carried_of};
+ghost use Rattle.rows.specs.Rows.{own_width, carried_width, reply_width, own_codec, carried_codec, own_of, carried_of};
 ghost use Rattle.model.specs.Calls.{fetch as fetch_call};
 ghost use Rattle.model.specs.Cells.{ciphertext};
 ghost use Rattle.model.specs.Custody.{carried_of_tag};
@@ -26,7 +26,7 @@ pub fn own_for_others(own: Table<OWN_WIDTH>, peer: ContactId, tag: [u8; 16]) -> 
     ensures { result ≡ position (for_others peer tag) (rows_in own_codec own.entry) }
 {
     own.position(|row| ContactId(octets::get_u64(row, 0)) != peer
-        && octets::same(row, Own::TAG, &tag, 0, 16))
+        && octets::same(row, Own::TAG, &tag))
 }
 
 // The first carried row with the tag.
@@ -51,8 +51,8 @@ pub fn cell_part(cells: &[u8], cell: u16, len: u16) -> &[u8]
 
 // Writes the own envelope at a place to the reply area, and answers its ciphertext.
 fn give_own<'c>(own: &[u8], at: usize, cells: &'c [u8], replies: &mut [u8]) -> &'c [u8]
-    requires { (at + 54 ≤ length own.now) × (40 ≤ length replies.old) }
-    ensures { Given (own_envelope_of (own_of (part own.now at 54))) cells.now replies.old result.now replies.new }
+    requires { (at + own_width ≤ length own.now) × (reply_width ≤ length replies.old) }
+    ensures { Given (own_envelope_of (own_of (part own.now at own_width))) cells.now replies.old result.now replies.new }
 {
     let row = Own::read(own, at);
     answers::put_envelope(
@@ -67,8 +67,8 @@ fn give_own<'c>(own: &[u8], at: usize, cells: &'c [u8], replies: &mut [u8]) -> &
 // The same, of a carried envelope. (Two functions: one would be given the header, the cell as a reply says it, the row's cell and its length,
 // each made by another function or read from another type at the two calls.)
 fn give_carried<'c>(carried: &[u8], at: usize, cells: &'c [u8], replies: &mut [u8]) -> &'c [u8]
-    requires { (at + 57 ≤ length carried.now) × (40 ≤ length replies.old) }
-    ensures { Given (carried_envelope_of (carried_of (part carried.now at 57))) cells.now replies.old result.now replies.new }
+    requires { (at + carried_width ≤ length carried.now) × (reply_width ≤ length replies.old) }
+    ensures { Given (carried_envelope_of (carried_of (part carried.now at carried_width))) cells.now replies.old result.now replies.new }
 {
     let row = Carried::read(carried, at);
     answers::put_envelope(

@@ -1,6 +1,6 @@
 -- Laws of the call: each way out as the model's step, and what it leaves.
 -- Assumes nothing.
-use Rattle.std.proofs.Common.{◌≡◌, ℕ, ◌+◌, ◌*◌, ◌/◌, ◌<◌, ◌≤◌, min, Bool, true, false, cond, not, ◌||◌, eqb, ltb, List, [], length, sym, refl, ap, ◌∙◌, arith, ltb-false, Option, Some, None, Result, Ok, Err}
+use Rattle.std.proofs.Common.{◌≡◌, ℕ, ◌+◌, ◌*◌, ◌/◌, ◌<◌, min, Bool, true, false, cond, not, ◌||◌, eqb, ltb, List, [], length, sym, refl, ap, ◌∙◌, Option, Some, None, Result, Ok, Err}
 use denote.Enum.Bare.{sameb}
 use Rattle.std.specs.Option.{option_eq}
 use Rattle.octets.specs.Bytes.{part}
@@ -127,15 +127,6 @@ module _ (i : ℕ) (tag : List ℕ) (code : Custody) (d : Device) (e : Exchange)
         (acted done _ _ ac _ H.actions)
 
 -- ---- the call
-
--- areas that are not too short have room for the action
-pub action_room : (p o n to : ℕ) {b : Bool} → b ≡ ((ltb p 4096 || ltb o 8704) || ltb n (13 * (512 + to / 44))) → b ≡ false → 13 ≤ n
-action_room p o n to e f = go (ltb p 4096 || ltb o 8704) (ltb n (13 * (512 + to / 44))) refl (sym e ∙ f)
-  where
-    go : (x y : Bool) → ltb n (13 * (512 + to / 44)) ≡ y → (x || y) ≡ false → 13 ≤ n
-    go true y q h = let z : ◌≡◌ {A = ℕ} 0 1 = cc in absurd (omega arith)
-    go false true q h = let z : ◌≡◌ {A = ℕ} 0 1 = cc in absurd (omega arith)
-    go false false q h = omega (arith, ltb-false n (13 * (512 + to / 44)) q)
 
 module _ (d : Device) (e : Exchange) (peer : ContactId) (tag : List ℕ) (code : Custody) (contacts own carried to prefixes offers ac : List ℕ) (a : Areas) where
   abbrev B : Areas

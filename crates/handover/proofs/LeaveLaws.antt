@@ -14,7 +14,7 @@ use Rattle.rows.specs.declared.Carried.{Carried}
 use Rattle.rows.specs.declared.Offer.{Offer}
 use Rattle.model.specs.Basics.{match_found}
 use Rattle.model.specs.State.{State, nothing, own_now, carried_now, offered_now, ◌and◌}
-use Rattle.model.specs.Calls.{Call, only, done, custody_answer}
+use Rattle.model.specs.Calls.{only, done, custody_answer}
 use Rattle.model.specs.Custody.{own_of_tag, carried_of_tag, is_accepted}
 use Rattle.model.specs.Exchange.{offer_of_tag, no_offer, handed_over, settle, receive_custody}
 use Rattle.model.specs.Step.{perform}
@@ -54,19 +54,14 @@ module _ (e : SessionAreas) (s : State) (tag : List ℕ) (code : Custody) where
 
 -- ---- the call
 
-module _ (d d' : Device) (e x : Exchange) (contacts own carried own' carried' tombstones prefixes offers offers' : List ℕ) where
-  abbrev Before : Areas → Areas
-  Before = code_lent d e contacts own carried tombstones prefixes offers
-
-  abbrev After : Areas → Areas
-  After = code_lent d' x contacts own' carried' tombstones prefixes offers'
-
-  module _ (actions : ℕ) (peer : ContactId) (tag : List ℕ) (code : Custody) (r : Result ℕ Refusal) (lent back : AnswerAreas) where
-    abbrev C : Call
-    C = custody_answer actions peer tag code
-
-    pub code_lends : Does says C r Before After lent back → Lends says C r Before After lent back (code_leaves tag e) e x
-    unfolding perform
-    code_lends =
-        lends says C r Before After lent back (code_leaves tag e) e x (λ a. refl) (λ a. refl)
-        (λ a. code_leaves_lem (Before a).session (view (Before a)) tag code)
+pub code_lends : {d d' : Device} {e x : Exchange} {contacts own carried own' carried' tombstones prefixes offers offers' : List ℕ}
+    {actions : ℕ} {peer : ContactId} {tag : List ℕ} {code : Custody} {r : Result ℕ Refusal} {lent back : AnswerAreas}
+    → Does says (custody_answer actions peer tag code) r
+    (code_lent d e contacts own carried tombstones prefixes offers) (code_lent d' x contacts own' carried' tombstones prefixes offers') lent back
+    → Lends says (custody_answer actions peer tag code) r
+    (code_lent d e contacts own carried tombstones prefixes offers) (code_lent d' x contacts own' carried' tombstones prefixes offers') lent back
+    (code_leaves tag e) e x
+unfolding perform
+code_lends {d = d} {e = e} {contacts = contacts} {own = own} {carried = carried} {tombstones = tombstones} {prefixes = prefixes} {offers = offers} {tag = tag} {code = code} =
+    let before : Areas → Areas = code_lent d e contacts own carried tombstones prefixes offers in
+    lends (λ a. refl) (λ a. refl) (λ a. code_leaves_lem (before a).session (view (before a)) tag code)

@@ -5,7 +5,7 @@ ghost use Rattle.std.specs.Prelude.{◌≡◌, ◌+◌, ◌-◌, ◌*◌, ◌/�
 ghost use Rattle.table.specs.Lists.{position};
 ghost use Rattle.table.specs.Rows.{held};
 ghost use Rattle.table.specs.Tables.{rows_in};
-ghost use Rattle.rows.specs.Rows.{own_width, carried_width, offer_width, offer_codec};
+ghost use Rattle.rows.specs.Rows.{own_width, carried_width, tombstone_width, offer_width, action_width, offer_codec};
 ghost use Rattle.model.specs.Calls.{custody_answer};
 ghost use Rattle.model.specs.Exchange.{offer_of_tag};
 ghost use Rattle.model.specs.Lent.{actions_lent};
@@ -34,7 +34,7 @@ fn offer_of_tag(offers: Table<OFFER_WIDTH>, tag: [u8; 16]) -> Option<usize>
 // (A table that changes is lent by `&mut`, and its count goes back to the device: two values, as the trait's functions have them.)
 // (One function for own rows too would take a trait over `Row`, with a row of fewer copies and its action, and an `impl` for each: no plainer.)
 fn take_off(carried: &mut [u8], count: usize, i: usize, n: u8, actions: &mut [u8]) -> usize
-    requires { (i < held (length carried.old) carried_width count) × (13 ≤ length actions.old) }
+    requires { (i < held (length carried.old) carried_width count) × (action_width ≤ length actions.old) }
     ensures { TakenOffCarried n count i carried.old actions.old result carried.new actions.new }
 {
     let row = Carried::read(carried, i * CARRIED_WIDTH);
@@ -48,7 +48,7 @@ fn take_off(carried: &mut [u8], count: usize, i: usize, n: u8, actions: &mut [u8
 
 // The same, of an own row.
 fn take_off_own(own: &mut [u8], count: usize, i: usize, n: u8, actions: &mut [u8]) -> usize
-    requires { (i < held (length own.old) own_width count) × (13 ≤ length actions.old) }
+    requires { (i < held (length own.old) own_width count) × (action_width ≤ length actions.old) }
     ensures { TakenOffOwn n count i own.old actions.old result own.new actions.new }
 {
     let row = Own::read(own, i * OWN_WIDTH);
@@ -69,7 +69,7 @@ fn hand_over(
     carried: &mut [u8],
     actions: &mut [u8],
 ) -> usize
-    requires { 13 ≤ length actions.old }
+    requires { action_width ≤ length actions.old }
     ensures { HandedAs device.old tag n own.old carried.old actions.old device.new result own.new carried.new actions.new }
 {
     let carried_rows = Table {
@@ -95,7 +95,7 @@ fn hand_over(
 
 // Is the prefix area, the offer area or the action area too short?
 fn too_short(prefixes: &[u8], offers: &[u8], actions: &[u8], tombstones: &[u8]) -> bool
-    ensures { result ≡ ((nat_lt (length prefixes.now) 4096 || nat_lt (length offers.now) 8704) || nat_lt (length actions.now) (13 * (512 + length tombstones.now / 44))) }
+    ensures { result ≡ ((nat_lt (length prefixes.now) 4096 || nat_lt (length offers.now) 8704) || nat_lt (length actions.now) (action_width * (512 + length tombstones.now / tombstone_width))) }
 {
     contacts::short_exchange(prefixes.len(), offers.len())
         || answers::short_actions(actions.len(), tombstones.len())

@@ -1,7 +1,7 @@
 // SHA-384 of a message that comes in parts, none of which is copied but for a block at most at each end.
 #![tactic(auto)]
 
-ghost use Rattle.std.specs.Prelude.{◌≡◌, List, [], ◌++◌, ℕ, ◌+◌, ◌%◌, ◌^◌, ◌≤◌, ◌<◌, length};
+ghost use Rattle.std.specs.Prelude.{◌≡◌, List, [], ℕ, ◌+◌, ◌%◌, ◌^◌, ◌≤◌, ◌<◌, length};
 ghost use Rattle.sha384.specs.Sha384.{sha384};
 ghost use Rattle.hasher.specs.Taken.{Taken, Adds};
 ghost use Rattle.hasher.specs.Parts.{joined};
@@ -32,14 +32,12 @@ pub struct Hasher {
     pub len: usize,
 }
 
-// (An array that a call answers goes into a field through a local: put there straight, the borrow check does not cover it.)
 impl Hasher {
     pub fn new() -> Hasher
         ensures { Taken result [] }
     {
-        let state = sha384::start();
         Hasher {
-            state,
+            state: sha384::start(),
             block: [0; BLOCK],
             len: 0,
         }
@@ -56,17 +54,17 @@ impl Hasher {
             len,
         } = self;
         let at = len % BLOCK;
-        let len = len + m.len();
         octets::copy_in(&mut block, at, m);
-        if at + m.len() == BLOCK {
-            let next = sha384::blocks(state, &block);
-            return Hasher {
-                state: next,
-                block,
-                len,
-            };
+        let full = at + m.len() == BLOCK;
+        Hasher {
+            state: if full {
+                sha384::blocks(state, &block)
+            } else {
+                state
+            },
+            block,
+            len: len + m.len(),
         }
-        Hasher { state, block, len }
     }
 
     // Whole blocks, where no bytes are held.
@@ -75,9 +73,8 @@ impl Hasher {
         ensures { Adds self m.now result }
     {
         let Hasher { state, block, len } = self;
-        let next = sha384::blocks(state, m);
         Hasher {
-            state: next,
+            state: sha384::blocks(state, m),
             block,
             len: len + m.len(),
         }

@@ -1,6 +1,7 @@
 -- An envelope call that is answered with code 0 has put its row, with its ciphertext in a cell that no row named.
 -- Assumes nothing.
-use Rattle.std.proofs.Common.{◌≡◌, ℕ, Bool, true, false, cond, not, ◌&&◌, List, [], ◌∷◌, ◌++◌, length, get_or, replicate, sym, refl, ap, ◌∙◌, arith, Option, Some, None}
+use Rattle.std.proofs.Common.{◌≡◌, ℕ, Bool, true, false, cond, not, ◌&&◌, List, [], ◌∷◌, length, get_or, replicate, sym, refl, ap, ◌∙◌, arith, Option, Some, None}
+use Rattle.std.proofs.lemmas.List.{get_or_at}
 use borrow.Author.Tests.{not-false}
 use Rattle.courier_core.specs.declared.ContactId.{ContactId}
 use Rattle.courier_core.specs.declared.Refusal.{Refusal}
@@ -32,10 +33,6 @@ no_reply = record { kind = 0; cell = 0; body = [] }
 abbrev code_in : ℕ → List Reply → ℕ
 code_in n rs = get_or (get_or rs 0 no_reply).body n 9
 
-code_is : (tag : List ℕ) (n : ℕ) (zeros : List ℕ) → get_or (tag ++ (n ∷ zeros)) (length tag) 9 ≡ n
-code_is [] n zeros = refl
-code_is (x ∷ tag) n zeros = code_is tag n zeros
-
 -- a call that lists replies was not refused
 replied : (ts : List (Bool × Refusal)) (o : Result) (x : Reply) → (step_of ts o).replies ≡ x ∷ [] → Passed ts × (step_of ts o ≡ o)
 unfolding step_of
@@ -53,7 +50,7 @@ replied (t ∷ ts) o x e = go t.0 refl e (replied ts o x)
 module _ (s : State) (replies actions : ℕ) (window : List ℕ) (peer : ContactId) (head : Header) (ct : List ℕ) where
   code_accepted : (code : Custody) → (answer_custody s peer head ct code).replies ≡ custody_reply head.tag custody.Accepted ∷ [] → custody_code code ≡ 0
   unfolding answer_custody
-  code_accepted code e = sym (code_is head.tag (custody_code code) (replicate 20 0)) ∙ ap (code_in (length head.tag)) e ∙ code_is head.tag 0 (replicate 20 0)
+  code_accepted code e = sym (get_or_at head.tag (custody_code code) (replicate 20 0) 9 (length head.tag) refl) ∙ ap (code_in (length head.tag)) e ∙ get_or_at head.tag 0 (replicate 20 0) 9 (length head.tag) refl
 
   answered : (f : Option ℕ) (code : Custody) → custody_of s peer head (length ct) ≡ code → lookup (window_rows window) head.tag ≡ f
       → known s.contacts peer ≡ true → (accepts s (window_rows window) peer head (length ct) && cells_used (length s.carried_cells) (carried_named s)) ≡ false

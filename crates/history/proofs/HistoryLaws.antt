@@ -20,7 +20,7 @@ use Rattle.model.specs.State.{State, OpenExchange, Session, nobody, no_session}
 use Rattle.model.specs.Step.{Post, Lent, step, state_for, answer_to, run}
 use Rattle.model.specs.Areas.{PostAreas, view_post, run_areas, Fresh}
 use Rattle.model.specs.Good.{Sized, GoodSession, ProperCall}
-use Rattle.model.proofs.RunLaws.{no_session_good, lent_view, closed_session, fresh_post, run_fresh}
+use Rattle.model.proofs.RunLaws.{no_session_good, lent_view, closed_session, fresh_post, fresh_view, run_fresh}
 use Rattle.model.proofs.Laws.{carried_total_lem, length_ciphertext}
 use Rattle.model.proofs.KeepRows.{or_false}
 use Rattle.history.specs.Order.{empty, HeldOrder, OwnOrder}
@@ -194,10 +194,6 @@ fresh_empty p = record {
 }
 
 module _ (p : PostAreas) (fresh : Fresh p) (sized : Sized p.areas) (copies : p.areas.device.courier.copies < 2 ^ 8) where
-  fresh_seen : view_post p ≡ fresh_post p
-  unfolding run_areas run
-  fresh_seen = run_fresh p fresh sized copies [] none
-
   -- Demand 3 of what fresh areas hold: each call on them is of the definitions that its contract cites.
   pub custody_history_areas : (ls : List Lent) → All (λ (l : Lent). ProperCall l.call) ls → CustodyOnAreas p ls
   unfolding answer_to
@@ -205,9 +201,9 @@ module _ (p : PostAreas) (fresh : Fresh p) (sized : Sized p.areas) (copies : p.a
     seen = seen;
     answered = λ before l rest e.
         ap (λ (s : State). step s l.call) (lent_view (run_areas p before) l ∙ ap (λ (q : Post). state_for q l) (seen before (l ∷ rest) e));
-    history = custody_history (view_post p) (subst Empty (sym fresh_seen) (fresh_empty p)) (subst (λ (q : Post). q.state.courier.copies < 2 ^ 8) (sym fresh_seen) copies) ls h;
+    history = custody_history (view_post p) (subst Empty (sym (fresh_view p fresh)) (fresh_empty p)) (subst (λ (q : Post). q.state.courier.copies < 2 ^ 8) (sym (fresh_view p fresh)) copies) ls h;
   }
     where
       seen : (before rest : List Lent) → ls ≡ before ++ rest → view_post (run_areas p before) ≡ run (view_post p) before
       seen before rest e =
-          run_fresh p fresh sized copies before (all_left before rest (subst (All (λ (l : Lent). ProperCall l.call)) e h)) ∙ ap (λ (q : Post). run q before) (sym fresh_seen)
+          run_fresh p fresh sized copies before (all_left before rest (subst (All (λ (l : Lent). ProperCall l.call)) e h)) ∙ ap (λ (q : Post). run q before) (sym (fresh_view p fresh))

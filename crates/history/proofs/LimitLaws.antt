@@ -1,13 +1,14 @@
 -- Every call keeps the limits: tags differ, at most 256 rows, and no contact has more than its quota.
 -- Assumes nothing.
 use Rattle.std.proofs.Common.{◌≡◌, ℕ, suc, ◌+◌, ◌*◌, ◌<◌, ◌≤◌, Bool, true, false, cond, not, ◌&&◌, eqb, ltb, List, [], ◌∷◌, ◌++◌, length, sym, refl, ap, ◌∙◌, subst, append-nil, arith, length-append, ltb-false, ltb-true, lt-ltb, ne_eqb, eqb-true}
+use Rattle.std.proofs.lemmas.Bool.{cond_both}
 use mathlib.Core.Bool.{false≢true}
 use borrow.Author.Tests.{eqb-false}
 use Rattle.octets.specs.Bytes.{same_bytes}
 use Rattle.octets.proofs.Compare.{same_refl}
 use Rattle.courier_core.specs.declared.ContactId.{ContactId}
 use Rattle.table.specs.Lists.{All, none, more, any, filter, count_by}
-use Rattle.table.proofs.ListLaws.{all_imp, all_push, count_append}
+use Rattle.table.proofs.ListLaws.{all_each, all_imp, all_push, count_append}
 use Rattle.table.proofs.FindLaws.{any_none}
 use Rattle.rows.specs.declared.Contact.{Contact}
 use Rattle.rows.specs.declared.Carried.{Carried}
@@ -140,16 +141,12 @@ count_none id (x ∷ xs) = go (from id x) refl (count_none id xs)
     go true e h = h
     go false e h = ap (λ (b : Bool). cond b (suc (count_by (from id) (filter (λ (r : Carried). not (from id r)) xs))) (count_by (from id) (filter (λ (r : Carried). not (from id r)) xs))) e ∙ h
 
-count_more : {A : Type 0} (f g : A → Bool) (xs : List A) → ((x : A) → f x ≡ true → g x ≡ true) → count_by f xs ≤ count_by g xs
+pub count_imp : {A : Type 0} (p q : A → Bool) (xs : List A) → All (λ (x : A). p x ≡ true → q x ≡ true) xs → count_by p xs ≤ count_by q xs
 unfolding count_by
-count_more f g [] h = omega arith
-count_more f g (x ∷ xs) h = go (f x) (g x) refl refl (count_more f g xs h)
-  where
-    go : (a b : Bool) → f x ≡ a → g x ≡ b → count_by f xs ≤ count_by g xs → cond a (suc (count_by f xs)) (count_by f xs) ≤ cond b (suc (count_by g xs)) (count_by g xs)
-    go true true i j le = omega arith
-    go true false i j le = absurd (false≢true (sym j ∙ h x i))
-    go false true i j le = omega arith
-    go false false i j le = omega arith
+count_imp p q [] a = omega arith
+count_imp p q (x ∷ xs) (more f a) =
+    let h = count_imp p q xs a in
+    cond_both (p x) _ _ (λ (n : ℕ). n ≤ count_by q (x ∷ xs)) (λ e. rw (f e) (omega arith)) (λ e. omega (arith, count_append q (x ∷ []) xs))
 
 -- a depositor who is not the first contact is one of the others
 others_known : (q : Contact) (ps : List Contact) (xs : List Carried) → All (λ (r : Carried). known (q ∷ ps) r.depositor ≡ true) xs
@@ -183,7 +180,7 @@ unfolding deposited
 rows_split q xs = length_split (from q.id) xs
 
 fewer_others : (p : ContactId) (q : Contact) (ps : List Contact) (xs : List Carried) → count_by (other_with_rows (without q xs) p) ps ≤ count_by (other_with_rows xs p) ps
-fewer_others p q ps xs = count_more (other_with_rows (without q xs) p) (other_with_rows xs p) ps had
+fewer_others p q ps xs = count_imp (other_with_rows (without q xs) p) (other_with_rows xs p) ps (all_each had ps)
   where
     had : (c : Contact) → other_with_rows (without q xs) p c ≡ true → other_with_rows xs p c ≡ true
     had c e =

@@ -8,7 +8,8 @@ use Rattle.octets.proofs.Compare.{same_eq}
 use Rattle.octets.proofs.Numbers.{bytes_take}
 use Rattle.courier_core.specs.declared.ContactId.{ContactId}
 use Rattle.table.specs.Lists.{All, none, more, any, filter, position, position_from, is_at, remove_at, replace_at}
-use Rattle.table.proofs.ListLaws.{drop_next, all_each, all_imp, all_append, all_map, all_filter, any_append}
+use Rattle.std.proofs.lemmas.List.{drop_more}
+use Rattle.table.proofs.ListLaws.{all_each, all_imp, all_append, all_map, all_filter, any_append}
 use Rattle.table.proofs.FindLaws.{position_any, position_first, any_none}
 use Rattle.kdf.specs.Kdf.{hash}
 use Rattle.courier.specs.Courier.{header_of}
@@ -72,7 +73,7 @@ module _ (tag : List ℕ) where
 
   module _ (t : List ℕ) (os : List Offer) (i : ℕ) (p : position (offer_of_tag t) os ≡ Some i) (d : OffersDiffer os) where
     parts : take i os ++ (get_or os i no_offer ∷ drop (i + 1) os) ≡ os
-    parts = ap (λ (l : List Offer). take i os ++ l) (sym (drop_next os i no_offer (position_first (offer_of_tag t) os no_offer i p).inside)) ∙ take-append-drop i os
+    parts = ap (λ (l : List Offer). take i os ++ l) (sym (drop_more os i no_offer (position_first (offer_of_tag t) os no_offer i p).inside)) ∙ take-append-drop i os
 
     the_tag : (get_or os i no_offer).tag ≡ t
     the_tag = same_eq (get_or os i no_offer).tag t (position_first (offer_of_tag t) os no_offer i p).holds

@@ -1,6 +1,7 @@
 -- What the exchanges have offered after a list of calls is what the calls and their replies say.
 -- Assumes nothing.
-use Rattle.std.proofs.Common.{◌≡◌, ℕ, zero, suc, ◌+◌, ◌/◌, ◌%◌, ◌≤◌, min, Bool, true, false, cond, eqb, ltb, List, [], ◌∷◌, ◌++◌, length, get_or, set, sym, refl, ap, ◌∙◌, subst, arith, get_or-set_other, get_or-set_same, ltb-false, ltb-true, eq-eqb, ne_eqb, eqb-true, Option, Some, None}
+use Rattle.std.proofs.Common.{◌≡◌, ℕ, ◌+◌, ◌/◌, ◌%◌, ◌≤◌, min, Bool, true, false, cond, eqb, ltb, List, [], ◌∷◌, ◌++◌, length, get_or, set, sym, refl, ap, ◌∙◌, subst, arith, get_or-set_other, get_or-set_same, ltb-false, ltb-true, eq-eqb, ne_eqb, eqb-true, Option, Some, None}
+use Rattle.std.proofs.lemmas.List.{set_past}
 use lib.ListN.{get_or-eq_default}
 use borrow.Author.Tests.{eqb-false}
 use Rattle.octets.specs.Bytes.{same_bytes}
@@ -211,11 +212,6 @@ module _ (s : State) where
 pub record Sound (p : Post) : Type 0 where
   pub good : Good (with_session p.state no_session)
   pub sessions : All (λ (e : Session). GoodSession e × OffersDiffer e.exchange.offered) p.sessions
-
-set_past : {A : Type 0} (xs : List A) (i : ℕ) (x : A) → length xs ≤ i → set xs i x ≡ xs
-set_past [] i x h = refl
-set_past (y ∷ ys) zero x h = absurd (omega arith)
-set_past (y ∷ ys) (suc i) x h = ap (λ (l : List _). y ∷ l) (set_past ys i x (omega arith))
 
 -- what the exchange of a session has offered
 abbrev pub offered_at : Post → ℕ → List Offer

@@ -2,7 +2,8 @@
 -- Assumes nothing.
 use Rattle.std.proofs.Common.{◌≡◌, ℕ, zero, suc, ◌+◌, ◌<◌, ◌≤◌, Bool, true, false, cond, leb, ◌⊎◌, List, [], ◌∷◌, ◌++◌, map, length, get_or, take, drop, sym, refl, ap, ◌∙◌, subst, inl, inr, add-one, arith, take-append-drop, drop_of_length-le, leb-false, leb-true, Option, Some, None}
 use Rattle.table.specs.Lists.{All, none, more, any, filter, count_by, position, is_at, unwrap_or, insert_at, remove_at, replace_at}
-use Rattle.table.proofs.ListLaws.{drop_next, all_append, all_take, all_drop, all_imp}
+use Rattle.std.proofs.lemmas.List.{drop_more}
+use Rattle.table.proofs.ListLaws.{all_append, all_take, all_drop, all_imp}
 use Rattle.table.proofs.FindLaws.{position_any, position_first, any_none}
 use Rattle.model.specs.Basics.{merge}
 use Rattle.model.proofs.Laws.{all_merge}
@@ -42,7 +43,7 @@ module _ {A : Type 0} where
   in_one {y = y} (there h) = elim h [ ]
 
   split_at : (xs : List A) (i : ℕ) (d : A) → i < length xs → take i xs ++ (get_or xs i d ∷ drop (i + 1) xs) ≡ xs
-  split_at xs i d h = ap (λ (l : List A). take i xs ++ l) (sym (drop_next xs i d h)) ∙ take-append-drop i xs
+  split_at xs i d h = ap (λ (l : List A). take i xs ++ l) (sym (drop_more xs i d h)) ∙ take-append-drop i xs
 
   all_between : {P : A → Type 0} (xs ys : List A) (x : A) → All P (xs ++ ys) → P x → All P (xs ++ (x ∷ ys))
   all_between [] ys x a p = more p a
@@ -67,7 +68,7 @@ module _ {A : Type 0} {R : A → A → Type 0} where
   sorted_right [] ys s = s
   sorted_right (x ∷ xs) ys (next a s) = sorted_right xs ys s
 
-  head_all : {x : A} {xs : List A} → Sorted R (x ∷ xs) → All (R x) xs
+  pub head_all : {x : A} {xs : List A} → Sorted R (x ∷ xs) → All (R x) xs
   head_all (next a s) = a
 
   -- the elements after the one at i
@@ -128,7 +129,7 @@ module _ {A : Type 0} {R : A → A → Type 0} where
           let f = position_first p xs x i e in
           let n : A = get_or xs i x in
           let r : R x n = at_get xs i x high f.inside f.holds in
-          let after : All (R x) (drop i xs) = subst (All (R x)) (sym (drop_next xs i x f.inside)) (more r (all_imp (λ y q. trans x n y r q) (drop (i + 1) xs) (sorted_after xs i x f.inside s))) in
+          let after : All (R x) (drop i xs) = subst (All (R x)) (sym (drop_more xs i x f.inside)) (more r (all_imp (λ y q. trans x n y r q) (drop (i + 1) xs) (sorted_after xs i x f.inside s))) in
           sorted_between (take i xs) (drop i xs) x (kept i) (below i f.before) after
       go None e =
           sorted_between (take (length xs) xs) (drop (length xs) xs) x (kept (length xs))
@@ -239,17 +240,6 @@ module _ {A : Type 0} {G : A → Type 0} {S : A → A → Type 0} where
       go : (b : Bool) → count_by p ys ≤ count_by p xs → count_by p ys ≤ cond b (suc (count_by p xs)) (count_by p xs)
       go true h = omega arith
       go false h = h
-
-  pub became_forward : {xs ys : List A} {x : A} → Became G S xs ys → x ∈ xs → G x ⊎ ((y : A) × (y ∈ ys) × S x y)
-  became_forward (stays {y = y} s b) here = inr (y, here, s)
-  became_forward (goes g b) here = inl g
-  became_forward (stays s b) (there m) = go (became_forward b m)
-    where
-      go : {x y : A} {ys : List A} → G x ⊎ ((z : A) × (z ∈ ys) × S x z) → G x ⊎ ((z : A) × (z ∈ (y ∷ ys)) × S x z)
-      go (inl g) = inl g
-      go (inr t) = inr (t.0, there t.1, t.2)
-  became_forward (goes g b) (there m) = became_forward b m
-  became_forward ends h = elim h [ ]
 
   pub became_back : {xs ys : List A} {y : A} → Became G S xs ys → y ∈ ys → (x : A) × (x ∈ xs) × S x y
   became_back (stays {x = x} s b) here = (x, here, s)

@@ -3,8 +3,6 @@
 use Rattle.std.proofs.Common.{◌≡◌, ℕ, zero, suc, ◌*◌, ◌<◌, Bool, true, cond, List, [], ◌∷◌, ◌++◌, map, get_or, take, set, replicate, sym, refl, ap, subst, arith}
 use lib.ListN.{length-replicate}
 use Rattle.octets.specs.Bytes.{Bytes, splice, part, num, be, same_bytes}
-use Rattle.octets.proofs.Compare.{same_refl}
-use Rattle.courier_core.specs.declared.ContactId.{ContactId}
 use Rattle.courier_core.specs.declared.Verification.{Verification}
 use Rattle.courier_core.specs.declared.Verification.TheVariants as verification
 use Rattle.table.specs.Rows as table
@@ -15,17 +13,16 @@ use Rattle.table.proofs.ListLaws.{all_append}
 use Rattle.courier.specs.declared.Custody.{Custody}
 use Rattle.courier.specs.declared.Custody.TheVariants as custody
 use Rattle.courier.specs.Courier as courier
-use Rattle.courier.specs.Tags.{commitment_of, tombstone_matches}
+use Rattle.courier.specs.Tags.{commitment_of}
 use Rattle.state.specs.Config.{in_range}
 use Rattle.rows.specs.declared.Carried.{Carried}
 use Rattle.rows.specs.Rows as encoded
-use Rattle.rows.specs.Device.{fresh_device, closed_exchange}
 use Rattle.rows.specs.Proper.{Run}
 use Rattle.rows.specs.declared.Reply.{Reply}
 use Rattle.rows.specs.declared.Action.{Action}
 use Rattle.model.specs.State.{State, apply}
 use Rattle.model.specs.Calls
-use Rattle.model.specs.Calls.{Call, Result, step_of, put_courier, custody_reply}
+use Rattle.model.specs.Calls.{Result, step_of, put_courier, custody_reply}
 use Rattle.model.specs.Contacts
 use Rattle.model.specs.Window
 use Rattle.model.specs.Cells
@@ -33,7 +30,7 @@ use Rattle.model.specs.Custody as model
 use Rattle.model.specs.Exchange
 use Rattle.model.specs.Tombs
 use Rattle.model.specs.Tombs.{Met, carried_at, wrong}
-use Rattle.model.specs.Areas.{PostAreas, SessionAreas, no_session_areas, view, view_session, view_post, store, store_device, store_session, areas_for, after_areas, run_areas, Fresh}
+use Rattle.model.specs.Areas.{PostAreas, view, view_session, view_post, store, store_device, store_session, areas_for, after_areas, run_areas, Fresh}
 use Rattle.model.specs.Good.{Sized, ProperCall}
 use Rattle.model.specs.Step.{Post, Lent, tests, perform, step, state_for, answer_to, after, run}
 use Rattle.model.proofs.RunLaws.{fresh_post, run_fresh}

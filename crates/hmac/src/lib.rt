@@ -31,8 +31,8 @@ fn block_key(key: &[u8]) -> [u8; BLOCK]
     k0
 }
 
-// Steps 4 and 7: the block xor a pad.
-#[tactic(auto, using(crate::proofs::HmacLaws::map_all), unfolding(crate::specs::Hmac::padded))]
+// Steps 4 and 7: the block xor a pad. (By a loop: std's laws have one for it, `map_over_more`, and none for an array's `map`.)
+#[tactic(auto, unfolding(crate::specs::Hmac::padded))]
 fn pad(k0: [u8; BLOCK], byte: u8) -> [u8; BLOCK]
     ensures { result ≡ padded k0 byte }
 {
@@ -97,22 +97,18 @@ fn next_block(k0: [u8; BLOCK], previous: &[u8], info: Parts<'_>, i: u8) -> [u8; 
     end(k0, s)
 }
 
-// 2.3: T(1) to T(N), one behind the other, as far as there is room. T(i) is the first `have` bytes of t: T(0) has none. (An Option of t would be
-// matched to lend the same slice.)
+// 2.3: T(1) to T(N), one behind the other, as far as there is room. T(i) is read where it was written: T(0) has no bytes.
 // Not `chunks_mut`: after it, a proof knows only the length of `out`.
 pub fn expand(prk: [u8; DIGEST], info: Parts<'_>, out: &mut [u8])
     requires { length out.old ≤ longest }
     ensures { out.new ≡ expand_of prk (joined info.entry) (length out.old) }
 {
     let k0 = block_key(&prk);
-    let mut t = [0; DIGEST];
-    let mut have = 0;
     for i in 0..out.len().div_ceil(DIGEST) {
-        let next = next_block(k0, &t[..have], info, (i + 1) as u8);
+        let previous = &out[DIGEST * i.saturating_sub(1)..DIGEST * i];
+        let next = next_block(k0, previous, info, (i + 1) as u8);
         let room = (out.len() - DIGEST * i).min(DIGEST);
         octets::copy_in(out, DIGEST * i, &next[..room]);
-        t = next;
-        have = DIGEST;
     }
 }
 

@@ -7,14 +7,15 @@ use Rattle.rows.specs.declared.Device.{Device}
 use Rattle.rows.specs.declared.Exchange.{Exchange}
 use Rattle.rows.specs.declared.Reachable.{Reachable}
 use Rattle.model.specs.State.{State}
-use Rattle.model.specs.Calls.{Call, Result as Outcome, inventory_received}
+use Rattle.model.specs.Calls.{Result as Outcome, inventory_received}
 use Rattle.model.specs.Window.{window_rows, prefix_rows}
 use Rattle.model.specs.Exchange.{answer_inventory, list_more, too_many, receive_inventory}
 use Rattle.model.specs.Step.{perform}
 use Rattle.model.specs.Areas.{Areas, SessionAreas, AnswerAreas, view, store_session}
 use Rattle.model.specs.Lent.{Does}
 use Rattle.contacts.specs.Lends.{exchange_of, Lends}
-use Rattle.contacts.proofs.LendLaws.{either_way, Leaves, lends}
+use Rattle.model.proofs.RefusalLaws.{by_test}
+use Rattle.contacts.proofs.LendLaws.{Leaves, lends}
 use Rattle.inventory.specs.declared.Said.{Said}
 use Rattle.inventory.specs.Inventory.{received_says, received_in, inventory_leaves}
 
@@ -40,23 +41,18 @@ module _ (e : SessionAreas) (s : State) (window : List Reachable) (peer : Contac
 
   inventory_leaves_lem : Listing-leaves (receive_inventory s window peer listed)
   unfolding receive_inventory store_session
-  inventory_leaves_lem = either_way Listing-leaves (too_many s.session.exchange (length listed)) refl (list_leaves (eqb (length listed) 0) refl)
+  inventory_leaves_lem = by_test Listing-leaves (too_many s.session.exchange (length listed)) refl (list_leaves (eqb (length listed) 0) refl)
 
 -- ---- the call
 
-module _ (d : Device) (contacts own carried tombstones bad : List ℕ) (e x : Exchange) (prefixes offers prefixes' offers' : List ℕ) where
-  abbrev Before : Areas → Areas
-  Before = received_in d contacts own carried tombstones bad e prefixes offers
-
-  abbrev After : Areas → Areas
-  After = received_in d contacts own carried tombstones bad x prefixes' offers'
-
-  module _ (replies : ℕ) (window : List ℕ) (peer : ContactId) (listed : List ℕ) (r : Result Said Refusal) (lent back : AnswerAreas) where
-    abbrev C : Call
-    C = inventory_received replies window peer listed
-
-    pub inventory_lends : Does received_says C r Before After lent back → Lends received_says C r Before After lent back (inventory_leaves peer (prefix_rows listed) e) e x
-    unfolding perform
-    inventory_lends =
-        lends received_says C r Before After lent back (inventory_leaves peer (prefix_rows listed) e) e x (λ a. refl) (λ a. refl)
-        (λ a. inventory_leaves_lem (Before a).session (view (Before a)) (window_rows window) peer (prefix_rows listed))
+pub inventory_lends : {d : Device} {contacts own carried tombstones bad : List ℕ} {e x : Exchange} {prefixes offers prefixes' offers' : List ℕ}
+    {replies : ℕ} {window : List ℕ} {peer : ContactId} {listed : List ℕ} {r : Result Said Refusal} {lent back : AnswerAreas}
+    → Does received_says (inventory_received replies window peer listed) r
+    (received_in d contacts own carried tombstones bad e prefixes offers) (received_in d contacts own carried tombstones bad x prefixes' offers') lent back
+    → Lends received_says (inventory_received replies window peer listed) r
+    (received_in d contacts own carried tombstones bad e prefixes offers) (received_in d contacts own carried tombstones bad x prefixes' offers') lent back
+    (inventory_leaves peer (prefix_rows listed) e) e x
+unfolding perform
+inventory_lends {d = d} {contacts = contacts} {own = own} {carried = carried} {tombstones = tombstones} {bad = bad} {e = e} {prefixes = prefixes} {offers = offers} {window = window} {peer = peer} {listed = listed} =
+    let before : Areas → Areas = received_in d contacts own carried tombstones bad e prefixes offers in
+    lends (λ a. refl) (λ a. refl) (λ a. inventory_leaves_lem (before a).session (view (before a)) (window_rows window) peer (prefix_rows listed))

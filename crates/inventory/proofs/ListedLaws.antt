@@ -7,7 +7,7 @@ use Rattle.std.proofs.lemmas.List.{map-id}
 use Rattle.octets.specs.Bytes.{part, splice, same_bytes}
 use Rattle.octets.proofs.Parts.{part_part}
 use Rattle.courier_core.specs.declared.ContactId.{ContactId}
-use Rattle.table.specs.Lists.{position, filter}
+use Rattle.table.specs.Lists.{position}
 use Rattle.table.specs.Rows.{held, rows, has_key}
 use Rattle.table.specs.Codec.{table_of}
 use Rattle.table.proofs.RowLaws.{held_all, held_inside}
@@ -23,7 +23,7 @@ use Rattle.model.specs.Calls.{fetch_reply, tomb_reply}
 use Rattle.model.specs.Window.{no_reachable, window_rows, prefix_codec, lookup, is_bad}
 use Rattle.model.specs.Exchange.{fetch_for, has_prefix, tomb_for}
 use Rattle.model.specs.Tombs.{tombstoned}
-use Rattle.model.proofs.SearchLaws.{find_at, find_past, filter_all}
+use Rattle.model.proofs.SearchLaws.{found_in, found_behind}
 use Rattle.answers.proofs.Laws.{length_reply}
 use Rattle.offers.specs.Appended.{Appended}
 use Rattle.offers.proofs.AppendLaws.{append_none, append_one}
@@ -94,15 +94,15 @@ fetch_put a x tag k l h ex = append_one 40 a x (reply_bytes (fetch_reply tag)) k
 
 -- a search for a place, and for what stands there
 module _ {A : Type 0} (p : A → Bool) (xs : List A) where
-  whole : xs ≡ map (λ (x : A). x) (filter (λ (x : A). true) xs) ++ []
-  whole = sym (append-nil _ ∙ map-id (filter (λ (x : A). true) xs) ∙ filter_all xs)
+  whole : xs ≡ map (λ (x : A). x) xs ++ []
+  whole = sym (append-nil _ ∙ map-id xs)
 
   find_some : (d : A) (i : ℕ) → position p xs ≡ Some i → find p xs ≡ Some (get_or xs i d)
-  find_some d i e = ap (find p) whole ∙ find_at (λ (x : A). x) p (λ (x : A). true) [] d xs i e
+  find_some d i e = ap (find p) whole ∙ found_in (λ (x : A). x) p [] xs d i (sym e)
 
   find_none : position p xs ≡ None → find p xs ≡ None
   unfolding find
-  find_none e = ap (find p) whole ∙ find_past (λ (x : A). x) p (λ (x : A). true) [] xs 0 e
+  find_none e = ap (find p) whole ∙ found_behind (λ (x : A). x) p [] xs (sym e)
 
 -- the tombstones, and the one at the place that is found
 module _ (count : ℕ) (tombs prefix : List ℕ) (l : length prefix ≡ 8) (f : Option ℕ)

@@ -22,7 +22,9 @@ use Rattle.model.proofs.CallLaws.{refused_here, not_here, no_test, refused_call}
 use Rattle.model.specs.Lent.{bytes_lent}
 use Rattle.offers.specs.declared.Row.{Row}
 use Rattle.offers.specs.Appended.{Appended}
-use Rattle.offers.specs.Entries.{Entry, own_entry, carried_entry, entries, entry_at, row_of}
+use Rattle.offers.specs.declared.Held.{Held}
+use Rattle.offers.specs.Areas.{how_many, own_of, carried_of, held_entry}
+use Rattle.offers.specs.Entries.{Entry, own_entry, carried_entry, entries, row_of}
 use Rattle.offers.proofs.AppendLaws.{append_none, append_one}
 use Rattle.offers.proofs.EntryLaws.{length_held, held_is, sent, envelopes_sent}
 use Rattle.inventory.specs.Inventory.{prefix_for, prefix_of, inventory_says, held_in}
@@ -42,24 +44,24 @@ module _ (a : List ℕ) (k : ℕ) {row : Option Row} where
 
 -- ---- the walk through the rows
 
-module _ (peer : ContactId) (own carried : List ℕ) (n m : ℕ) (lent : List ℕ) where
+module _ (peer : ContactId) (kept : Held) (lent : List ℕ) where
   abbrev E : List Entry
-  E = entries peer (table_of own_codec n own) (table_of carried_codec m carried)
+  E = entries peer (own_of kept) (carried_of kept)
 
   abbrev pub Listing : ℕ → ℕ → List ℕ → Type 0
   Listing i k x = Filling 8 prefix_of E lent 0 i k x
 
-  module _ (fits_own : n * 54 ≤ length own) (fits_carried : m * 57 ≤ length carried) {i k : ℕ} {x : List ℕ} (L : Listing i k x) where
-    total : length E ≡ n + m
-    total = length_held (own_entry peer) carried_entry own carried n m fits_own fits_carried
+  module _ {i k : ℕ} {x : List ℕ} (L : Listing i k x) where
+    total : length E ≡ how_many kept
+    total = length_held (own_entry peer) carried_entry kept
 
-    pub listing_next : {j : ℕ} {y : List ℕ} {row : Option Row} → i < n + m → j * 8 ≤ length lent → row ≡ row_of (entry_at peer own n carried i)
+    pub listing_next : {j : ℕ} {y : List ℕ} {row : Option Row} → i < how_many kept → j * 8 ≤ length lent → row ≡ row_of (held_entry peer kept i)
         → Appended 8 x k (prefix_for row) j y → j ≤ k + 1 → Listing (i + 1) j y
     listing_next h room e A b =
         filling_next 8 prefix_of E lent 0 L (carried_entry no_carried) (omega (arith, total))
-        (ap prefix_for (ap row_of (held_is (own_entry peer) carried_entry own carried n m fits_own fits_carried i h) ∙ sym e)) A b room
+        (ap prefix_for (ap row_of (held_is (own_entry peer) carried_entry kept i h) ∙ sym e)) A b room
 
-    pub listing_end : n + m ≤ i → Appended 8 lent 0 (flat_map prefix_of E) k x
+    pub listing_end : how_many kept ≤ i → Appended 8 lent 0 (flat_map prefix_of E) k x
     listing_end h = filling_end 8 prefix_of E lent 0 L (omega (arith, total))
 
 -- ---- the call

@@ -1,13 +1,13 @@
 -- The refusals of inventory received, in document 01's order.
 -- Assumes nothing.
-use Rattle.std.proofs.Common.{◌≡◌, ℕ, ◌%◌, ◌≤◌, min, Bool, true, false, cond, not, ◌||◌, ltb, List, [], ◌∷◌, length, sym, refl, ap, ◌∙◌, arith, ltb-false, Option, Result, Ok, Err}
+use Rattle.std.proofs.Common.{◌≡◌, ℕ, ◌*◌, ◌%◌, ◌≤◌, min, Bool, true, false, cond, not, ◌||◌, ltb, List, [], ◌∷◌, length, sym, refl, ap, ◌∙◌, arith, ltb-false, Option, Result, Ok, Err}
 use Rattle.courier_core.specs.Core.{first_of}
 use Rattle.courier_core.specs.declared.ContactId.{ContactId}
 use Rattle.courier_core.specs.declared.Refusal.{Refusal}
 use Rattle.courier_core.specs.declared.Refusal.TheVariants as refusal
 use Rattle.table.specs.Rows.{ragged, Fits}
 use Rattle.table.specs.Codec.{table_of}
-use Rattle.table.proofs.RowLaws.{held_le, fits_at}
+use Rattle.table.proofs.RowLaws.{held_all}
 use Rattle.rows.specs.declared.Device.{Device}
 use Rattle.rows.specs.Rows.{contact_codec}
 use Rattle.model.specs.State.{State}
@@ -21,11 +21,12 @@ use Rattle.inventory.specs.Inventory.{Reads}
 pub or_no : {x y z : Bool} → x ≡ false → z ≡ y → z ≡ (x || y)
 or_no e f = rw e f
 
--- 512 at most
-pub capped : (len count : ℕ) {k r : ℕ} → k ≡ min count 512 → Fits len 8 k r → Fits len 8 (min 512 count) r × (r ≤ 512)
-capped len count {k} e F =
+-- 512 at most, which fit an area that has room for them
+pub capped : (len count : ℕ) {k : ℕ} → 4096 ≤ len → k ≡ min count 512 → Fits len 8 (min 512 count) k × (k ≤ 512)
+capped len count {k} room e =
     let m : k ≡ min 512 count = omega arith in
-    (fits_at m F, omega (arith, F.is, (held_le len 8 k).0))
+    let h : min 512 count * 8 ≤ len = omega arith in
+    (record { is = m ∙ sym (held_all len 8 (min 512 count) (omega arith) h); inside = omega arith }, omega arith)
 
 -- the first test that holds, as the call answers it
 abbrev pub first_refusal : List (Bool × Refusal) → Result Unit Refusal

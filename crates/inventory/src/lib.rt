@@ -4,16 +4,15 @@
 ghost use Rattle.std.specs.Prelude.{◌≡◌, ◌+◌, ◌*◌, ◌/◌, ◌%◌, ◌<◌, ◌≤◌, min, not, ◌||◌, ◌++◌, map, length, take, nat_lt};
 ghost use mathlib.Core.List.{flat_map};
 ghost use Rattle.courier_core.specs.Core.{first_of};
-ghost use Rattle.octets.specs.Bytes.{splice};
 ghost use Rattle.table.specs.Rows.{ragged};
 ghost use Rattle.table.specs.Codec.{table_of};
 ghost use Rattle.table.specs.Tables.{rows_in};
-ghost use Rattle.rows.specs.Rows.{own_codec, carried_codec, tombstone_codec, contact_codec, reply_bytes};
+ghost use Rattle.rows.specs.Rows.{reply_width, own_codec, carried_codec, tombstone_codec, reply_bytes};
 ghost use Rattle.model.specs.State.{State};
-ghost use Rattle.model.specs.Calls.{inventory_of_ours, inventory_received};
+ghost use Rattle.model.specs.Calls.{short_replies, inventory_of_ours, inventory_received};
 ghost use Rattle.model.specs.Contacts.{known};
-ghost use Rattle.model.specs.Window.{window_rows, prefix_rows, prefix_codec, wrong_window, strangers};
-ghost use Rattle.model.specs.Exchange.{tomb_for, receive_inventory_tests};
+ghost use Rattle.model.specs.Window.{prefix_rows, prefix_codec, wrong_window};
+ghost use Rattle.model.specs.Exchange.{max_inventory, tomb_for, receive_inventory_tests};
 ghost use Rattle.model.specs.Lent.{Does, replies_lent, bytes_lent};
 ghost use Rattle.contacts.specs.Lends.{Lends};
 ghost use Rattle.offers.specs.Appended.{Appended};
@@ -113,7 +112,8 @@ pub fn inventory(
 
 // ---- what a listed prefix is answered with
 
-// Where a listed prefix is looked up for the peer. (A lifetime for each area: a literal that has one for areas of three lifetimes gets no generated proof.)
+// Where a listed prefix is looked up for the peer. (A lifetime for each area: with one for all three the call's signature, which lends each area by itself,
+// would have to name it at each.)
 #[derive(Clone, Copy)]
 struct Lookup<'w, 'b, 't> {
     peer: ContactId,
@@ -142,8 +142,8 @@ impl Lookup<'_, '_, '_> {
 
 // Writes the fetch of a tag, if there is one, behind the k replies that are there; answers how many there are then.
 fn push_fetch(replies: &mut [u8], k: usize, tag: Option<[u8; 16]>) -> usize
-    requires { k * 40 + 40 ≤ length replies.old }
-    ensures { Appended 40 replies.old k (map reply_bytes (fetch_of tag)) result replies.new × (result ≤ k + 1) }
+    requires { k * reply_width + reply_width ≤ length replies.old }
+    ensures { Appended reply_width replies.old k (map reply_bytes (fetch_of tag)) result replies.new × (result ≤ k + 1) }
 {
     match tag {
         Some(tag) => {
@@ -156,8 +156,8 @@ fn push_fetch(replies: &mut [u8], k: usize, tag: Option<[u8; 16]>) -> usize
 
 // Writes the fetches for the listed prefixes, in their order; answers how many replies there are.
 fn push_fetches(replies: &mut [u8], listed: Rows<PREFIX_WIDTH>, lookup: &Lookup) -> usize
-    requires { listed.n * 40 ≤ length replies.old }
-    ensures { Appended 40 replies.old 0 (map reply_bytes (flat_map (fetches lookup.now) (rows_of prefix_codec listed.entry))) result replies.new
+    requires { listed.n * reply_width ≤ length replies.old }
+    ensures { Appended reply_width replies.old 0 (map reply_bytes (flat_map (fetches lookup.now) (rows_of prefix_codec listed.entry))) result replies.new
         × (result ≤ listed.entry.n) }
 {
     let mut k = 0;
@@ -168,16 +168,16 @@ fn push_fetches(replies: &mut [u8], listed: Rows<PREFIX_WIDTH>, lookup: &Lookup)
     k
 }
 
-// Writes the tomb of the first tombstone with the prefix, which is the one of lowest slot, if there is one, behind the k replies that are there;
-// answers how many there are then.
+// Writes the tomb of the first tombstone with the prefix, if there is one, behind the k replies that are there; answers how many there are then.
+// (The first is the one of lowest slot in an area that calls left: there slots ascend.)
 fn push_tomb(
     replies: &mut [u8],
     k: usize,
     tombstones: Table<TOMBSTONE_WIDTH>,
     prefix: [u8; 8],
 ) -> usize
-    requires { k * 40 + 40 ≤ length replies.old }
-    ensures { Appended 40 replies.old k (map reply_bytes (tomb_for (rows_in tombstone_codec tombstones.entry) prefix)) result replies.new × (result ≤ k + 1) }
+    requires { k * reply_width + reply_width ≤ length replies.old }
+    ensures { Appended reply_width replies.old k (map reply_bytes (tomb_for (rows_in tombstone_codec tombstones.entry) prefix)) result replies.new × (result ≤ k + 1) }
 {
     match tombstones.find(Tombstone::TAG, &prefix) {
         Some(j) => {
@@ -197,8 +197,8 @@ fn push_tombs(
     listed: Rows<PREFIX_WIDTH>,
     tombstones: Table<TOMBSTONE_WIDTH>,
 ) -> usize
-    requires { (n + listed.n) * 40 ≤ length replies.old }
-    ensures { Appended 40 replies.old n (map reply_bytes (flat_map (tomb_for (rows_in tombstone_codec tombstones.entry)) (rows_of prefix_codec listed.entry))) result replies.new
+    requires { (n + listed.n) * reply_width ≤ length replies.old }
+    ensures { Appended reply_width replies.old n (map reply_bytes (flat_map (tomb_for (rows_in tombstone_codec tombstones.entry)) (rows_of prefix_codec listed.entry))) result replies.new
         × (result ≤ n + listed.entry.n) }
 {
     let mut k = n;
@@ -229,7 +229,7 @@ fn answer_inventory(
     offers: &mut [u8],
     replies: &mut [u8],
 ) -> Said
-    requires few { (how_many held.now ≤ 512) × (listed.n ≤ 512) }
+    requires few { (how_many held.now ≤ 512) × (listed.n ≤ max_inventory) }
     requires in_bounds { (8704 ≤ length offers.old) × (61440 ≤ length replies.old) }
     ensures { Answers exchange.old lookup.now (own_of held.now) (carried_of held.now) (rows_of prefix_codec listed.entry) replies.old offers.old exchange.new result replies.new offers.new }
 {
@@ -256,8 +256,8 @@ fn list_more(exchange: &mut Exchange, prefixes: &mut [u8], l: usize, listed: &[u
 
 // More than `MAX_PREFIXES` in all are malformed, and so is any inventory after the terminator.
 fn too_many(complete: bool, l: usize, more: usize) -> bool
-    requires { (l ≤ 512) × (more < 2305843009213693952) }
-    ensures { result ≡ (complete || nat_lt 512 (l + more)) }
+    requires { (l ≤ max_inventory) × (more < 2305843009213693952) }
+    ensures { result ≡ (complete || nat_lt max_inventory (l + more)) }
 {
     complete || MAX_PREFIXES < l + more
 }
@@ -273,7 +273,7 @@ struct Room {
 }
 
 fn too_short(room: Room) -> bool
-    ensures { result ≡ (nat_lt room.replies 61440 || (nat_lt room.prefixes 4096 || nat_lt room.offers 8704)) }
+    ensures { result ≡ (short_replies room.replies || (nat_lt room.prefixes 4096 || nat_lt room.offers 8704)) }
 {
     answers::short_replies(room.replies) || contacts::short_exchange(room.prefixes, room.offers)
 }
@@ -345,8 +345,7 @@ pub fn receive_inventory(
         replies: replies.len(),
     };
     tested(device, exchange.peer, peer, contacts, window, listed, room)?;
-    let before = exchange.listed.min(MAX_PREFIXES);
-    let l = table::fit(room.prefixes, PREFIX_WIDTH, before);
+    let l = exchange.listed.min(MAX_PREFIXES);
     let more = listed.len() / PREFIX_WIDTH;
     if too_many(exchange.complete, l, more) {
         return Ok(Said::Malformed);

@@ -31,7 +31,8 @@ pub enum Refused {
 }
 
 // The head of a label whose length fits. (Where it is hashed, head, label and the rest stand as a literal of Parts: made by a function, each of
-// the three proofs would rewrite by its equation.)
+// the three proofs would rewrite by its equation. Not one function that tests and makes the head: its callers' proofs would have to take the head's
+// bytes and the label's bound, which Parts asks for, out of its answer, by laws that are longer than the tests.)
 fn head_of(label: &[u8]) -> [u8; HEAD]
     requires { length label.now ≤ longest_label }
     ensures { result ≡ head_of label.now }

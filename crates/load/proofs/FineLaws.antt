@@ -9,7 +9,7 @@ use Rattle.octets.specs.Bytes.{part, num, be, same_bytes}
 use Rattle.octets.proofs.Compare.{same_eq}
 use Rattle.octets.proofs.Numbers.{length_be, num_be}
 use Rattle.octets.proofs.Parts.{length_part, part_part}
-use Rattle.table.specs.Lists.{All, any, count_by}
+use Rattle.table.specs.Lists.{All, count_by}
 use Rattle.table.specs.Lists as lists
 use Rattle.table.specs.Rows.{join, has_key}
 use Rattle.table.proofs.ListLaws.{all_imp, count_append, count_map}
@@ -24,6 +24,7 @@ use Rattle.model.specs.Basics.{merge}
 use Rattle.model.specs.Saved.{Slotted, held_mark, saved_record, saved_file}
 use Rattle.history.specs.Order.{Sorted, next}
 use Rattle.history.proofs.EffectLaws.{and_true}
+use Rattle.history.proofs.LimitLaws.{count_imp}
 use Rattle.model.proofs.Laws.{all_merge}
 use Rattle.load_tests.specs.Records.{records, slot_in, depositor_in, tag_in, is_carried, is_tombstone, counted}
 use Rattle.load_tests.specs.Tests.{slot_past, slot_twice, tag_twice, unknown_depositor, many_of_one, kind_tests, fails, cut_short}
@@ -104,15 +105,15 @@ once_saved hs a s h B = le-ltb 1 (count_by is (map saved_record hs)) (at_most_on
 -- it starts with its mark and a next slot, and is whole records
 pub record Begins (file : List ℕ) : Type 0 where
   pub long : 10 ≤ length file
-  pub mark : true ≡ same_bytes (part file 0 2) (part (72 ∷ 78 ∷ []) 0 2)
+  pub mark : true ≡ has_key 0 (72 ∷ 78 ∷ []) file
   pub whole : false ≡ cut_short file
 
 length_file : (slot : ℕ) (hs : List Slotted) → length (saved_file slot hs) ≡ 10 + length (join (map saved_record hs))
 unfolding saved_file
 length_file slot hs = omega (arith, length-append ((72 ∷ 78 ∷ []) ++ be 8 slot) (join (map saved_record hs)), length_be 8 slot)
 
-mark_file : (slot : ℕ) (hs : List Slotted) → true ≡ same_bytes (part (saved_file slot hs) 0 2) (part (72 ∷ 78 ∷ []) 0 2)
-unfolding saved_file same_bytes part
+mark_file : (slot : ℕ) (hs : List Slotted) → true ≡ has_key 0 (72 ∷ 78 ∷ []) (saved_file slot hs)
+unfolding has_key saved_file same_bytes part
 mark_file slot hs = refl
 
 pub begins_saved : (slot : ℕ) (hs : List Slotted) → All Short hs → Begins (saved_file slot hs)
@@ -245,13 +246,6 @@ pub counts_saved : (p : List ℕ → Bool) (q : Slotted → Bool) (hs : List Slo
 unfolding count_by
 counts_saved p q [] a = refl
 counts_saved p q (h ∷ hs) (lists.more e a) = ap₂ (λ (t : Bool) (n : ℕ). cond t (suc n) n) e (counts_saved p q hs a)
-
-pub count_imp : {A : Type 0} (p q : A → Bool) (xs : List A) → All (λ (x : A). p x ≡ true → q x ≡ true) xs → count_by p xs ≤ count_by q xs
-unfolding count_by
-count_imp p q [] a = omega arith
-count_imp p q (x ∷ xs) (lists.more f a) =
-    let h = count_imp p q xs a in
-    cond_both (p x) _ _ (λ (n : ℕ). n ≤ count_by q (x ∷ xs)) (λ e. rw (f e) (omega arith)) (λ e. omega (arith, count_append q (x ∷ []) xs))
 
 -- a carried row of the depositor
 abbrev pub of_depositor : ℕ → Slotted → Bool

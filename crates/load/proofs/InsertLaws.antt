@@ -1,6 +1,7 @@
 -- Laws of a row that is put in by its slot.
 -- Assumes nothing.
 use Rattle.std.proofs.Common.{◌≡◌, ℕ, ◌+◌, ◌-◌, ◌*◌, ◌<◌, ◌≤◌, Bool, cond, ltb, List, map, length, take, drop, sym, refl, ap, ◌∙◌, subst, ap₂, add-zero, arith, Some, None}
+use Rattle.std.proofs.lemmas.List.{take_rest}
 use Rattle.octets.specs.Bytes.{part, splice, num}
 use Rattle.octets.proofs.Parts.{part_part}
 use Rattle.table.specs.Lists.{All, position_from, position, unwrap_or, insert_at}
@@ -14,7 +15,6 @@ use Rattle.rows.specs.Rows.{carried_codec, carried_of, tombstone_codec, tombston
 use Rattle.state.specs.declared.Carried.{Carried as HeldCarried}
 use Rattle.rows.specs.declared.Carried.{Carried}
 use Rattle.rows.specs.Proper.{ProperCarried}
-use Rattle.load_tests.proofs.RecordLaws.{lent_tail}
 use Rattle.load.specs.Load.{insert_by, carried_slot, carried_row}
 use Rattle.load.specs.Laying.{higher, Inserted, Carries}
 
@@ -77,5 +77,5 @@ pub carries : (b : List ℕ) (row : HeldCarried) (p : ℕ) (x z : List ℕ) (p' 
     → Inserted carried_codec ProperCarried carried_slot new p x p' x' → Carries b row p x z p' x' z'
 carries b row p x z p' x' z' es en ez I = record {
   table = subst (λ (r : Carried). Inserted carried_codec ProperCarried carried_slot r p x p' x') (en ∙ ap (λ (s : ℕ). carried_row s (length b - 58) p row) es) I;
-  cells = ez ∙ ap (splice z (p * 2064)) (lent_tail 58 b);
+  cells = ez ∙ ap (splice z (p * 2064)) (take_rest b 58);
 }

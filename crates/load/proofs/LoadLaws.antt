@@ -1,6 +1,6 @@
 -- Laws of the records, loaded one by one.
 -- Assumes nothing.
-use Rattle.std.proofs.Common.{◌≡◌, ℕ, ◌+◌, ◌-◌, ◌*◌, ◌<◌, ◌≤◌, Bool, true, false, cond, List, [], ◌∷◌, length, drop, sym, refl, ap, ◌∙◌, subst, ap₂, zero-add, arith, length-drop, drop-drop, Option, Some, None}
+use Rattle.std.proofs.Common.{mul-le-mul_right, ◌≡◌, ℕ, ◌+◌, ◌-◌, ◌*◌, ◌<◌, ◌≤◌, Bool, true, false, cond, List, [], ◌∷◌, length, drop, sym, refl, ap, ◌∙◌, subst, ap₂, zero-add, arith, length-drop, drop-drop, Option, Some, None}
 use borrow.Author.Tests.{not-false}
 use Rattle.octets.specs.Bytes.{part, splice, num, same_bytes}
 use Rattle.octets.proofs.Compare.{same_eq}
@@ -8,7 +8,7 @@ use Rattle.table.specs.Lists.{count_by}
 use Rattle.table.specs.Rows.{has_key}
 use Rattle.table.specs.Codec.{Codec, with_table, TableNow}
 use Rattle.table.proofs.ListLaws.{count_append}
-use Rattle.table.proofs.RowLaws.{mul_le, next_row, written_none, held_all}
+use Rattle.table.proofs.RowLaws.{next_row, written_none, held_all}
 use Rattle.table.proofs.TableLaws.{table_then, table_none}
 use Rattle.state.specs.declared.Carried.{Carried as HeldCarried}
 use Rattle.state.specs.declared.Tombstone.{Tombstone as HeldTombstone}
@@ -186,10 +186,10 @@ module _ {file a t c : List ℕ} (F : Fine file a t c) where
       few = omega (arith, S.carried, F.few);
       carried = λ m.
           let o : h.carried + 1 ≤ count_by is_carried (records file) = omega (arith, S.carried, turn_count e is_carried true m) in
-          (omega (arith, mul_le 57 o, next_row h.carried 57, F.carried, S.carried_size), omega (arith, mul_le 2064 o, next_row h.carried 2064, F.cells, S.cell_size));
+          (omega (arith, mul-le-mul_right 57 o, next_row h.carried 57, F.carried, S.carried_size), omega (arith, mul-le-mul_right 2064 o, next_row h.carried 2064, F.cells, S.cell_size));
       tombstone = λ m.
           let o : h.tombstones + 1 ≤ count_by is_tombstone (records file) = omega (arith, S.tombstones, turn_count e is_tombstone true m) in
-          omega (arith, mul_le 44 o, next_row h.tombstones 44, F.tombstones, S.tombstone_size);
+          omega (arith, mul-le-mul_right 44 o, next_row h.tombstones 44, F.tombstones, S.tombstone_size);
       carried_rise = ascend_table carried_slot carried_starts (omega arith) S.laid.carried S.by_slot.carried;
       tombstones_rise = ascend_table tombstone_slot tombstone_starts (omega arith) S.laid.tombstones S.by_slot.tombstones;
     }

@@ -21,8 +21,9 @@ use Rattle.model.specs.Basics.{match_some}
 use Rattle.model.specs.State.{State, apply}
 use Rattle.model.specs.Calls.{Result, done}
 use Rattle.model.specs.Cells.{cell_count}
+use Rattle.model.proofs.FetchLaws.{count_zero}
 use Rattle.history.specs.Order.{Sorted, empty, next, HeldOrder}
-use Rattle.history.proofs.SortedLaws.{all_both, sorted_insert, sorted_insert_at}
+use Rattle.history.proofs.SortedLaws.{all_both, head_all, sorted_insert, sorted_insert_at}
 use Rattle.load_tests.specs.Records.{record_size, records_in, records_at, records, slot_in, is_carried, counted}
 use Rattle.load_tests.specs.Tests.{strange_mark, refused_blob, other_kind, slot_past, slot_twice, unknown_depositor, tag_twice, many_of_one, kind_tests, record_tests, fails, next_in, carried_count, load_tests, tested_as}
 use Rattle.load_tests.proofs.BlobLaws.{Decoded, decoded}
@@ -66,13 +67,6 @@ passed limit cs rs b e =
       few = (or_parts (many_of_one rs b) _ f7.1).0;
     }
 
--- a slot that is counted once is no other record's
-none_counted : (p : List ℕ → Bool) (rs : List (List ℕ)) → count_by p rs ≤ 0 → All (λ (b : List ℕ). p b ≡ false) rs
-unfolding count_by
-none_counted p [] h = lists.none
-none_counted p (r ∷ rs) h =
-    cond_both (p r) _ _ (λ (n : ℕ). n ≤ 0 → All (λ (b : List ℕ). p b ≡ false) (r ∷ rs)) (λ e k. absurd (omega arith)) (λ e k. lists.more e (none_counted p rs k)) h
-
 -- records are bytes, and hold their slot
 abbrev pub Whole : List ℕ → Type 0
 Whole b = Bytes b × (12 ≤ length b)
@@ -98,9 +92,6 @@ module _ {A : Type 0} {x : A} {xs : List A} where
   pub rest_of : {P : A → Type 0} → All P (x ∷ xs) → All P xs
   rest_of (lists.more p a) = a
 
-  pub first_away : {R : A → A → Type 0} → Sorted R (x ∷ xs) → All (R x) xs
-  first_away (next a s) = a
-
   pub rest_away : {R : A → A → Type 0} → Sorted R (x ∷ xs) → Sorted R xs
   rest_away (next a s) = s
 
@@ -114,7 +105,7 @@ pub counted_apart : (like : List ℕ → List ℕ → Bool) (Q : List ℕ → Ty
 unfolding count_by
 counted_apart like Q [] w c = empty
 counted_apart like Q (b ∷ rs) (lists.more v w) (lists.more h c) =
-    next (under rs (λ q. none_counted (like b) rs (omega (arith, own q, h q))))
+    next (under rs (λ q. count_zero (like b) rs (omega (arith, own q, h q))))
     (counted_apart like Q rs w (all_imp (λ d k q. omega (arith, k q, count_append (like d) (b ∷ []) rs)) rs c))
   where
     own : Q b → count_by (like b) (b ∷ rs) ≡ suc (count_by (like b) rs)
@@ -184,7 +175,7 @@ module _ (limit size total : ℕ) (room : total * 2064 ≤ size) (l : Rows) (b :
         in_cells = all_by carried_slot n l.carried (omega (arith, c), h) (all_imp (λ x p. (omega (arith, p.0, c), p.1)) l.carried O.in_cells);
         sized = length_splice l.cells (length l.carried * 2064) ct (omega (arith, O.count, k, O.sized)) ∙ O.sized;
         count = omega (arith, O.count, k, c);
-        fresh_carried = all_imp (λ d k. all_by carried_slot n l.carried k.0 k.1) rs (all_both rs (first_away O.slots) (rest_of O.fresh_carried));
+        fresh_carried = all_imp (λ d k. all_by carried_slot n l.carried k.0 k.1) rs (all_both rs (head_all O.slots) (rest_of O.fresh_carried));
         fresh_tombstones = rest_of O.fresh_tombstones;
         slots = rest_away O.slots;
         kinds = rest_of O.kinds;
@@ -207,7 +198,7 @@ module _ (limit size total : ℕ) (room : total * 2064 ≤ size) (l : Rows) (b :
         sized = O.sized;
         count = omega (arith, O.count, k);
         fresh_carried = rest_of O.fresh_carried;
-        fresh_tombstones = all_imp (λ d k. all_by tombstone_slot n l.tombstones k.0 k.1) rs (all_both rs (first_away O.slots) (rest_of O.fresh_tombstones));
+        fresh_tombstones = all_imp (λ d k. all_by tombstone_slot n l.tombstones k.0 k.1) rs (all_both rs (head_all O.slots) (rest_of O.fresh_tombstones));
         slots = rest_away O.slots;
         kinds = rest_of O.kinds;
         below = rest_of O.below;

@@ -6,10 +6,10 @@ ghost use Rattle.std.specs.Prelude.{◌≡◌, ◌+◌, ◌*◌, ◌<◌, ◌≤
 ghost use Rattle.octets.specs.Bytes.{part, num};
 ghost use Rattle.table.specs.Lists.{position, unwrap_or, insert_at};
 ghost use Rattle.table.specs.Rows.{rows, RowsNow};
-ghost use Rattle.rows.specs.Rows.{carried_codec, tombstone_codec};
-ghost use Rattle.rows.specs.Proper.{ProperCarried, ProperTombstone};
-ghost use Rattle.load.specs.Load.{carried_slot, tombstone_slot, carried_row, tombstone_row, loaded};
-ghost use Rattle.load.specs.Laying.{higher, SlotsAscend, Inserted, Carries, Room, Loads, Fine, Laid, load_lent, DoesLoad};
+ghost use Rattle.rows.specs.Rows.{carried_width};
+ghost use Rattle.model.specs.Cells.{cell_size};
+ghost use Rattle.load.specs.Load.{carried_row, tombstone_row, loaded};
+ghost use Rattle.load.specs.Laying.{higher, SlotsAscend, Carries, Room, Loads, Fine, Laid, load_lent, DoesLoad};
 
 use courier::Header;
 use courier_core::Refusal;
@@ -24,7 +24,7 @@ use table::Table;
 const CIPHERTEXT: usize = state::RECORD_HEAD + state::CARRIED_HEAD;
 
 // How many rows are loaded so far.
-#[derive(Drop)]
+#[derive(Default, Drop)]
 pub struct Counts {
     pub carried: usize,
     pub tombstones: usize,
@@ -105,7 +105,7 @@ fn load_carried(
     carried: &mut [u8],
     cells: &mut [u8],
 ) -> usize
-    requires { ((58 ≤ length «record».now) × (length «record».now ≤ 2122)) × ((n < 65536) × (((n * 57 + 57 ≤ length carried.old) × (n * 2064 + 2064 ≤ length cells.old)) × SlotsAscend 57 n carried.old)) }
+    requires { ((58 ≤ length «record».now) × (length «record».now ≤ 2122)) × ((n < 65536) × (((n * carried_width + carried_width ≤ length carried.old) × (n * cell_size + cell_size ≤ length cells.old)) × SlotsAscend carried_width n carried.old)) }
     ensures { Carries «record».now row n carried.old cells.old result carried.new cells.new }
 {
     let slot = octets::get_u64(record, state::SLOT);
@@ -144,10 +144,7 @@ fn load_records(file: &[u8], carried: &mut [u8], tombstones: &mut [u8], cells: &
     requires { Fine file.now carried.old tombstones.old cells.old }
     ensures { Laid carried.old tombstones.old (loaded cells.old file.now) result carried.new tombstones.new cells.new }
 {
-    let mut counts = Counts {
-        carried: 0,
-        tombstones: 0,
-    };
+    let mut counts = Counts::default();
     for record in load_tests::records(file) {
         load_record(record, &mut counts, carried, tombstones, cells);
     }

@@ -1,19 +1,19 @@
 -- Laws of the blob in a record: what `held_decode` takes, and how long it is.
 -- Assumes nothing.
 use Rattle.std.proofs.Common.{◌≡◌, ℕ, ◌-◌, ◌≤◌, Bool, true, false, not, ◌&&◌, ◌||◌, eqb, leb, List, [], ◌∷◌, length, get_or, take, drop, sym, refl, ap, ◌∙◌, arith, length-drop, eqb-true, leb-true, Option, Some, None}
+use Rattle.std.proofs.lemmas.List.{take_rest}
 use Rattle.std.proofs.lemmas.Bool.{cond_both, or_parts}
 use mathlib.Core.Bool.{or-true}
-use Rattle.courier.specs.Courier.{envelope_valid}
 use Rattle.courier.proofs.Laws.{both, carried_fits, valid_parts}
 use Rattle.table.specs.Lists.{any}
 use Rattle.table.specs.Rows.{has_key}
 use Rattle.state.specs.Held.{Held, carried, tombstone, carried_of, tombstone_of, carried_in, tombstone_in, held_decode, held_read}
+use Rattle.state.proofs.HeldLaws.{passes}
 use Rattle.state.specs.declared.Held.{Held as Read}
 use Rattle.state.specs.declared.Held.TheVariants as read
 use Rattle.model.specs.Basics.{match_some}
 use Rattle.model.specs.Saved.{held_mark}
 use Rattle.load_tests.specs.Records.{is_carried, is_tombstone}
-use Rattle.load_tests.proofs.RecordLaws.{lent_tail}
 use Rattle.load_tests.specs.Tests.{strange_mark, refused_blob, other_kind, kind_tests, fails}
 
 -- what a blob has that is taken
@@ -22,15 +22,12 @@ Decoded b None = Unit {0}
 Decoded b (Some (carried r ct)) = (r ≡ carried_of b) × ((ct ≡ drop 46 b) × ((46 ≤ length b) × (length b ≤ 2110)))
 Decoded b (Some (tombstone t)) = (t ≡ tombstone_of b) × (length b ≡ 37)
 
-abbrev valid_in : List ℕ → Bool
-valid_in b = envelope_valid (length b - 46) (carried_of b).header.copies (carried_of b).header.expiry_min 0
-
 pub decoded : (b : List ℕ) → Decoded b (held_decode b)
 unfolding held_decode carried_in tombstone_in
 decoded b =
     cond_both (eqb (get_or b 0 0) 0) _ _ (Decoded b)
-    (λ k. cond_both (leb 46 (length b) && valid_in b) _ _ (Decoded b) (λ e.
-    let f = both (leb 46 (length b)) (valid_in b) e in
+    (λ k. cond_both (leb 46 (length b) && passes b) _ _ (Decoded b) (λ e.
+    let f = both (leb 46 (length b)) (passes b) e in
     let h : 46 ≤ length b = leb-true 46 (length b) f.0 in
     (refl, (refl, (h, omega (arith, carried_fits (length b - 46) (valid_parts _ _ _ _ f.1).0))))) (λ e. tt))
     (λ k. cond_both (eqb (get_or b 0 0) 1) _ _ (Decoded b) (λ t. cond_both (eqb (length b) 37) _ _ (Decoded b) (λ e. (refl, eqb-true (length b) 37 e)) (λ e. tt)) (λ t. tt))
@@ -83,4 +80,4 @@ module _ (b : List ℕ) where
 
 -- what `decode` says of the blob of a record, as it is lent
 pub read_lent : (b : List ℕ) {r e : Option Read} → r ≡ held_read (held_decode (take (length b - 12) (drop 12 b))) → r ≡ e → e ≡ held_read (held_decode (drop 12 b))
-read_lent b q f = sym f ∙ q ∙ ap (λ (l : List ℕ). held_read (held_decode l)) (lent_tail 12 b)
+read_lent b q f = sym f ∙ q ∙ ap (λ (l : List ℕ). held_read (held_decode l)) (take_rest b 12)

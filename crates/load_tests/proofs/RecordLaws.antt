@@ -5,9 +5,8 @@ use Rattle.std.proofs.lemmas.Bool.{cond_both}
 use mathlib.Core.Bool.{and-false}
 use borrow.Author.Tests.{lt-leb}
 use Rattle.std.specs.List.{filter, list_any, fold, sum_by}
-use Rattle.std.proofs.lemmas.List.{take_all}
+use Rattle.std.proofs.lemmas.List.{take_rest}
 use Rattle.octets.specs.Bytes.{part, num, same_bytes}
-use Rattle.octets.proofs.Parts.{part_whole}
 use Rattle.table.specs.Lists.{All, none, more, any, count_by}
 use Rattle.table.specs.Rows.{join, has_key}
 use Rattle.table.proofs.ListLaws.{all_get}
@@ -24,10 +23,6 @@ size_least b = omega arith
 pub sized : (b : List ℕ) {v : ℕ} → v ≡ num (part b 10 2) → 12 + v ≡ record_size b
 unfolding record_size
 sized b e = ap (λ (k : ℕ). 12 + k) e
-
--- what is lent from a place on
-pub lent_tail : (k : ℕ) (b : List ℕ) → take (length b - k) (drop k b) ≡ drop k b
-lent_tail k b = take_all (length b - k) (drop k b) (omega (arith, length-drop k b))
 
 -- one that is not whole
 pub records_none : (n : ℕ) (b : List ℕ) → length b < record_size b → records_in n b ≡ []
@@ -77,7 +72,7 @@ records_long file = all_long (length file - 10) (drop 10 file)
 pub starts : (file : List ℕ) {k : ℕ} → k ≡ min (length file) 10
     → records_in (length (take (length file - k) (drop k file))) (take (length file - k) (drop k file)) ≡ records file
 unfolding records_at
-starts file {k} e = rw (lent_tail k file) (go (leb 10 (length file)) refl)
+starts file {k} e = rw (take_rest file k) (go (leb 10 (length file)) refl)
   where
     go : (t : Bool) → leb 10 (length file) ≡ t → records_in (length (drop k file)) (drop k file) ≡ records file
     go true q =
@@ -169,7 +164,3 @@ module _ (b : List ℕ) (o : ℕ) (key : List ℕ) where
   pub no_key : length b - o < length key → false ≡ has_key o key b
   unfolding has_key part
   no_key k = sym (same_short (take (length key) (drop o b)) key (omega (arith, length-take (length key) (drop o b), length-drop o b)))
-
-  pub key_here : {r : Bool} → r ≡ same_bytes (part b o (length key)) (part key 0 (length key)) → r ≡ has_key o key b
-  unfolding has_key
-  key_here e = e ∙ ap (same_bytes (part b o (length key))) (part_whole key (length key) refl)

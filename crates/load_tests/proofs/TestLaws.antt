@@ -1,11 +1,10 @@
 -- Laws of the tests of a load: of a record, of the records one by one, and of a file.
 -- Assumes nothing.
 use Rattle.std.proofs.Common.{◌≡◌, ℕ, ◌/◌, ◌<◌, ◌≤◌, min, Bool, true, false, cond, not, ◌&&◌, ◌||◌, ltb, leb, List, [], ◌∷◌, map, length, sym, refl, ap, ◌∙◌, ap₂, ltb-false, le-ltb, lt-ltb, le-leb, Result, Ok, Err}
-use Rattle.std.proofs.Math.Nat.{min_comm}
+use Rattle.std.proofs.lemmas.Bool.{or_parts}
 use mathlib.Core.Bool.{or-false, or-true}
 use borrow.Author.Tests.{lt-leb}
-use Rattle.octets.specs.Bytes.{part, num, same_bytes}
-use Rattle.octets.proofs.Parts.{part_whole}
+use Rattle.octets.specs.Bytes.{part, num}
 use Rattle.courier_core.specs.declared.ContactId.{ContactId}
 use Rattle.courier_core.specs.declared.Refusal.{Refusal}
 use Rattle.courier_core.specs.declared.Refusal.TheVariants as refusal
@@ -18,16 +17,6 @@ use Rattle.model.specs.Contacts.{known}
 use Rattle.model.specs.Cells.{cell_count}
 use Rattle.load_tests.specs.Records.{records, depositor_in, tag_in, is_carried, is_tombstone, counted}
 use Rattle.load_tests.specs.Tests.{slot_past, slot_twice, unknown_depositor, tag_twice, many_of_one, kind_tests, row_tests, record_tests, fails, carried_fails, short_next, next_not_first, cut_short, many_carried, carried_count, tombstone_count, wrongs, holds, of_records, next_in, load_tests, tested_as}
-
--- ---- no one of two
-
-pub left_no : (x y : Bool) → (x || y) ≡ false → x ≡ false
-left_no true y e = e
-left_no false y e = refl
-
-pub right_no : (x y : Bool) → (x || y) ≡ false → y ≡ false
-right_no true y e = cc
-right_no false y e = e
 
 pub none_any : {A : Type 0} (p : A → Bool) (xs : List A) → All (λ (x : A). p x ≡ false) xs → any p xs ≡ false
 unfolding any
@@ -119,11 +108,11 @@ module _ (b : List ℕ) (cs : List Contact) (rs : List (List ℕ)) where
 module _ (p : List ℕ → Bool) {rs ts : List (List ℕ)} {b : List ℕ} (none : any p rs ≡ false) (e : rs ≡ b ∷ ts) where
   pub none_here : p b ≡ false
   unfolding any
-  none_here = left_no (p b) (any p ts) (sym (ap (any p) e) ∙ none)
+  none_here = (or_parts (p b) (any p ts) (sym (ap (any p) e) ∙ none)).0
 
   pub none_next : any p ts ≡ false
   unfolding any
-  none_next = right_no (p b) (any p ts) (sym (ap (any p) e) ∙ none)
+  none_next = (or_parts (p b) (any p ts) (sym (ap (any p) e) ∙ none)).1
 
 -- a record that fails the tests of its kind, or those of its row
 module _ (next : ℕ) (cs : List Contact) (rs : List (List ℕ)) (b : List ℕ) where
@@ -205,14 +194,14 @@ module _ (cs : List Contact) (file : List ℕ) where
       unfolding short_next
       long x e = file_read ∙ ap₂ (λ (y z : Bool). y || (z || (cut_short file || (wrong || (many_carried file || false))))) (le-ltb (length file) 10 h) e
 
-      not_first : {m : Bool} → m ≡ same_bytes (part file 0 2) (part (72 ∷ 78 ∷ []) 0 2) → (x : Bool) → m ≡ x → next_not_first file ≡ not x
-      unfolding next_not_first
-      not_first q x f = ap not (ap (same_bytes (part file 0 2)) (sym (part_whole (72 ∷ 78 ∷ []) 2 refl)) ∙ sym q ∙ f)
+      not_first : {m : Bool} → m ≡ has_key 0 (72 ∷ 78 ∷ []) file → (x : Bool) → m ≡ x → next_not_first file ≡ not x
+      unfolding next_not_first has_key
+      not_first q x f = ap not (sym q ∙ f)
 
-      pub file_mark : r ≡ true → {m : Bool} → m ≡ same_bytes (part file 0 2) (part (72 ∷ 78 ∷ []) 0 2) → m ≡ false → Is
+      pub file_mark : r ≡ true → {m : Bool} → m ≡ has_key 0 (72 ∷ 78 ∷ []) file → m ≡ false → Is
       file_mark e q f = e ∙ sym (long true (not_first q false f))
 
-      module _ {m : Bool} (q : m ≡ same_bytes (part file 0 2) (part (72 ∷ 78 ∷ []) 0 2)) (f : m ≡ true) where
+      module _ {m : Bool} (q : m ≡ has_key 0 (72 ∷ 78 ∷ []) file) (f : m ≡ true) where
         marked : (x y : Bool) → cut_short file ≡ x → wrong ≡ y → holds (wrongs cs file) ≡ (x || (y || (many_carried file || false)))
         marked x y e g = long false (not_first q true f) ∙ ap₂ (λ (z w : Bool). z || (w || (many_carried file || false))) e g
 
@@ -241,13 +230,13 @@ module _ (cs : List Contact) (file : List ℕ) where
   -- a file that is not refused by number 8 is whole
   pub fine_long : holds (wrongs cs file) ≡ false → 10 ≤ length file
   unfolding short_next
-  fine_long e = ltb-false (length file) 10 (left_no (ltb (length file) 10) from_mark (sym file_read ∙ e))
+  fine_long e = ltb-false (length file) 10 (or_parts (ltb (length file) 10) from_mark (sym file_read ∙ e)).0
 
   fine_cut : holds (wrongs cs file) ≡ false → (cut_short file || from_records) ≡ false
-  fine_cut e = right_no (next_not_first file) (cut_short file || from_records) (right_no (short_next file) from_mark (sym file_read ∙ e))
+  fine_cut e = (or_parts (next_not_first file) (cut_short file || from_records) (or_parts (short_next file) from_mark (sym file_read ∙ e)).1).1
 
   pub fine_records : holds (wrongs cs file) ≡ false → wrong ≡ false
-  fine_records e = left_no wrong (many_carried file || false) (right_no (cut_short file) from_records (fine_cut e))
+  fine_records e = (or_parts wrong (many_carried file || false) (or_parts (cut_short file) from_records (fine_cut e)).1).0
 
   -- then 4 and 5
   module _ (cells room : ℕ) where
@@ -265,10 +254,10 @@ module _ (cs : List Contact) (file : List ℕ) where
       unfolding load_tests tested_as
       tested_wrong t = ap rest (sym t ∙ e)
 
-      module _ (t : w ≡ false) {c n : ℕ} (ec : c ≡ min (cells / 2064) 256) (en : n ≡ count_by (has_key 0 (72 ∷ 67 ∷ [])) (records file)) where
+      module _ (t : w ≡ false) {c n : ℕ} (ec : c ≡ min 256 (cells / 2064)) (en : n ≡ count_by (has_key 0 (72 ∷ 67 ∷ [])) (records file)) where
         cells_read : (x : Bool) → ltb c n ≡ x → fours false x (ltb room (tombstone_count file)) ≡ tested_as (load_tests cs cells room file)
         unfolding load_tests tested_as cell_count is_carried
-        cells_read x f = ap₂ (λ (y z : Bool). fours y z (ltb room (tombstone_count file))) (sym t ∙ e) (sym f ∙ ap₂ ltb (ec ∙ min_comm (cells / 2064) 256) en)
+        cells_read x f = ap₂ (λ (y z : Bool). fours y z (ltb room (tombstone_count file))) (sym t ∙ e) (sym f ∙ ap₂ ltb ec en)
 
         pub tested_cells : c < n → Says (Err refusal.NoCell)
         tested_cells f = cells_read true (lt-ltb c n f)
@@ -300,5 +289,5 @@ module _ (cs : List Contact) (file : List ℕ) where
   pub fine_kinds : holds (wrongs cs file) ≡ false → any (fails kind_tests) (records file) ≡ false
   fine_kinds e =
       none_any (fails kind_tests) (records file)
-      (all_imp (λ r f. left_no _ _ (sym (both_tests (next_in file) cs (records file) r _ _ refl refl) ∙ f)) (records file)
+      (all_imp (λ r f. (or_parts _ _ (sym (both_tests (next_in file) cs (records file) r _ _ refl refl) ∙ f)).0) (records file)
       (any_none (fails (record_tests (next_in file) cs (records file))) (records file) (fine_records e)))

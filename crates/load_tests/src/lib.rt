@@ -1,7 +1,7 @@
 // What a load tests before it writes: walks through the records of the file.
 #![tactic(auto)]
 
-ghost use Rattle.std.specs.Prelude.{◌≡◌, ◌+◌, ◌*◌, ◌<◌, ◌≤◌, true, false, [], ◌∷◌, length, nat_lt};
+ghost use Rattle.std.specs.Prelude.{◌≡◌, ◌+◌, ◌*◌, ◌<◌, ◌≤◌, true, false, length, nat_lt};
 ghost use Rattle.std.specs.Iterator.{YieldsFirstRef, item_count};
 ghost use Rattle.table.specs.Lists.{any, count_by};
 ghost use Rattle.table.specs.Rows.{rows, has_key};
@@ -13,8 +13,8 @@ ghost use Rattle.load_tests.specs.Tests.{fails, kind_tests, row_tests, record_te
 use courier_core::{ContactId, Refusal};
 use rows::{CONTACT_WIDTH, MAX_CARRIED, MAX_CELLS, MAX_PER_VERIFIED};
 use state::{
-    CARRIED_LETTER, DEPOSITOR_AT, FILE_HEAD, HEADER_AT, Held, LEN, NEXT_LETTER, RECORD_HEAD, SLOT,
-    TOMBSTONE_LETTER,
+    CARRIED_MARK, DEPOSITOR_AT, FILE_HEAD, FILE_MARK, HEADER_AT, Held, LEN, RECORD_HEAD, SLOT,
+    TOMBSTONE_MARK,
 };
 use table::Table;
 
@@ -24,13 +24,6 @@ const DEPOSITOR: usize = RECORD_HEAD + DEPOSITOR_AT;
 const TAG: usize = RECORD_HEAD + HEADER_AT;
 
 const TAG_END: usize = TAG + 16;
-
-// What a file starts with, the record of a carried row, and that of a tombstone.
-const FILE_MARK: &[u8; 2] = &[b'H', NEXT_LETTER];
-
-const CARRIED_MARK: &[u8; 2] = &[b'H', CARRIED_LETTER];
-
-const TOMBSTONE_MARK: &[u8; 2] = &[b'H', TOMBSTONE_LETTER];
 
 // A depositor and a tag, and where the tag stands behind the depositor.
 const KEY_WIDTH: usize = TAG_END - DEPOSITOR;
@@ -66,10 +59,7 @@ impl<'a> Iterator for RecordIter<'a> {
             return None;
         }
         let n = RECORD_HEAD + octets::get_u16(self.rest, LEN) as usize;
-        if self.rest.len() < n {
-            return None;
-        }
-        let (record, rest) = self.rest.split_at(n);
+        let (record, rest) = self.rest.split_at_checked(n)?;
         self.rest = rest;
         Some(record)
     }
@@ -95,7 +85,7 @@ fn has_key(record: &[u8], offset: usize, key: &[u8]) -> bool
     if record.len() - offset < key.len() {
         return false;
     }
-    octets::same(record, offset, key, 0, key.len())
+    octets::same(record, offset, key)
 }
 
 // How many records have the key at the offset?
@@ -135,7 +125,7 @@ fn gather(file: &[u8], keys: &mut [u8]) -> usize
 {
     let mut k = 0;
     for record in records(file) {
-        if has_key(record, 0, CARRIED_MARK) {
+        if has_key(record, 0, &CARRIED_MARK) {
             k = table::push(keys, KEY_WIDTH, k, &record[DEPOSITOR..TAG_END]);
         }
     }
@@ -147,12 +137,7 @@ fn count_keys(keys: Table<KEY_WIDTH>, offset: usize, key: &[u8]) -> usize
     requires { (keys.count * 24 ≤ length keys.area.now) × (offset + length key.now ≤ 24) }
     ensures { result ≡ count_by (has_key offset key.now) (rows 24 keys.entry.count keys.entry.area.now) }
 {
-    table::count(
-        keys.area,
-        KEY_WIDTH,
-        keys.count,
-        |row| octets::same(row, offset, key, 0, key.len()),
-    )
+    keys.count_where(|row| octets::same(row, offset, key))
 }
 
 // ---- `SavedFile`, record by record
@@ -164,8 +149,8 @@ fn wrong_kind(record: &[u8]) -> bool
 {
     match state::decode(&record[RECORD_HEAD..]) {
         None => true,
-        Some(Held::Carried(_)) => !has_key(record, 0, CARRIED_MARK),
-        Some(Held::Tombstone(_)) => !has_key(record, 0, TOMBSTONE_MARK),
+        Some(Held::Carried(_)) => !has_key(record, 0, &CARRIED_MARK),
+        Some(Held::Tombstone(_)) => !has_key(record, 0, &TOMBSTONE_MARK),
     }
 }
 
@@ -228,7 +213,7 @@ impl Against<'_, '_> {
         if self.slot_twice(&record[SLOT..LEN]) {
             return true;
         }
-        if has_key(record, 0, CARRIED_MARK) {
+        if has_key(record, 0, &CARRIED_MARK) {
             return self.wrong_carried(record);
         }
         false
@@ -273,13 +258,13 @@ fn wrong_file(file: &[u8], contacts: Table<CONTACT_WIDTH>) -> bool
     if file.len() < FILE_HEAD {
         return true;
     }
-    if !octets::same(file, 0, FILE_MARK, 0, 2) {
+    if !has_key(file, 0, &FILE_MARK) {
         return true;
     }
     if cut_short(file) {
         return true;
     }
-    if MAX_CARRIED < count(file, 0, CARRIED_MARK) {
+    if MAX_CARRIED < count(file, 0, &CARRIED_MARK) {
         return true;
     }
     let next = octets::get_u64(file, SLOT);
@@ -298,10 +283,10 @@ pub fn test_file(
     if wrong_file(file, contacts) {
         return Err(Refusal::SavedFile);
     }
-    if (cells / state::CELL).min(MAX_CELLS) < count(file, 0, CARRIED_MARK) {
+    if table::fit(cells, state::CELL, MAX_CELLS) < count(file, 0, &CARRIED_MARK) {
         return Err(Refusal::NoCell);
     }
-    if room < count(file, 0, TOMBSTONE_MARK) {
+    if room < count(file, 0, &TOMBSTONE_MARK) {
         return Err(Refusal::NoTombstoneRow);
     }
     Ok(())

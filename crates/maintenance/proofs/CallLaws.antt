@@ -6,7 +6,7 @@ use Rattle.octets.specs.Bytes.{splice}
 use Rattle.courier_core.specs.declared.Refusal.TheVariants as refusal
 use Rattle.table.specs.Lists.{filter}
 use Rattle.table.specs.Rows.{held, join, written}
-use Rattle.table.specs.declared.Table.{Table}
+use Rattle.table.specs.declared.lent.Table.{Table}
 use Rattle.table.specs.Codec.{table_of, with_table, TableNow}
 use Rattle.table.specs.Tables.{rows_in}
 use Rattle.by_slot.specs.declared.held.Held.{Held}

@@ -1,14 +1,14 @@
 -- Rows of a typed table that a test keeps, each changed, written over the table in place: the invariant of that loop, over any codec.
 -- In row i of the area so far stands row i of the area at entry.
 -- Assumes nothing.
-use Rattle.std.proofs.Common.{◌≡◌, ℕ, ◌+◌, ◌*◌, ◌<◌, ◌≤◌, Bool, true, false, List, [], ◌∷◌, ◌++◌, map, length, take, sym, refl, ap, ◌∙◌, append-nil, arith, length-append}
+use Rattle.std.proofs.Common.{mul-le-mul_right, ◌≡◌, ℕ, ◌+◌, ◌*◌, ◌<◌, ◌≤◌, Bool, true, false, List, [], ◌∷◌, ◌++◌, map, length, take, sym, refl, ap, ◌∙◌, append-nil, arith, length-append}
 use Rattle.octets.specs.Bytes.{Bytes, splice, part}
 use Rattle.octets.proofs.Parts.{read_past}
 use Rattle.table.specs.Lists.{All, filter}
 use Rattle.table.specs.Rows.{held, join}
 use Rattle.table.specs.Codec.{Codec, CodecLaws, table_of, with_table}
 use Rattle.table.proofs.ListLaws.{all_map, all_imp, all_filter, all_take}
-use Rattle.table.proofs.RowLaws.{mul_le, row_in, next_row, held_inside, written_none, written_splice}
+use Rattle.table.proofs.RowLaws.{row_in, next_row, held_inside, written_none, written_splice}
 use Rattle.table.proofs.TableLaws.{length_table, table_proper, length_encoded, length_with, with_push}
 use Rattle.maintenance.specs.Expiry.{Rewritten, Rewriting}
 use Rattle.maintenance.proofs.SiftLaws.{sift_next, sift_end}
@@ -36,7 +36,7 @@ module _ {A : Type 0} {c : Codec A} {P : A → Type 0} (laws : CodecLaws c P) (f
   module _ (i k : ℕ) (x : List ℕ) (I : Rewriting c f p T a i k x) where
     module _ (h : i < held (length a) W count) where
       fits : k * W + W ≤ length a
-      fits = omega (arith, mul_le W I.below, row_in i (held (length a) W count) W h, held_inside (length a) W count)
+      fits = omega (arith, mul-le-mul_right W I.below, row_in i (held (length a) W count) W h, held_inside (length a) W count)
 
       pub rewrite_row : part x (i * W) W ≡ part a (i * W) W
       unfolding with_table
@@ -44,7 +44,7 @@ module _ {A : Type 0} {c : Codec A} {P : A → Type 0} (laws : CodecLaws c P) (f
           let l : length (join (map c.encode (K i))) ≡ k * W =
           length_encoded laws (K i) (proper_kept i) ∙ ap (λ (n : ℕ). n * W) (sym I.rewritten.count) in
           ap (λ (y : List ℕ). part y (i * W) W) (I.rewritten.area ∙ written_splice a (map c.encode (K i)))
-          ∙ read_past a 0 (join (map c.encode (K i))) (i * W) W (omega (arith, fits)) (omega (arith, mul_le W I.below))
+          ∙ read_past a 0 (join (map c.encode (K i))) (i * W) W (omega (arith, fits)) (omega (arith, mul-le-mul_right W I.below))
 
       module _ {row : A} (e : row ≡ c.decode (part x (i * W) W)) where
         at_entry : row ≡ c.decode (part a (i * W) W)

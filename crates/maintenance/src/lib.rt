@@ -7,9 +7,9 @@ ghost use Rattle.table.specs.Lists.{filter};
 ghost use Rattle.table.specs.Rows.{held, rows, RowsNow};
 ghost use Rattle.table.specs.Codec.{table_of};
 ghost use Rattle.table.specs.Tables.{rows_in};
-ghost use Rattle.rows.specs.Rows.{own_width, own_codec, carried_width, carried_codec, tombstone_width, tombstone_codec};
+ghost use Rattle.rows.specs.Rows.{own_width, tombstone_width, action_width, own_codec, carried_codec, tombstone_codec};
 ghost use Rattle.model.specs.Calls.{maintenance, delete_courier};
-ghost use Rattle.model.specs.Maintenance.{own_expired, carried_expired, tombstone_expired, is_renewed, renew_expired, maintain_own, own_puts, expired_slots};
+ghost use Rattle.model.specs.Maintenance.{own_expired, is_renewed, renew_expired, maintain_own, own_puts, expired_slots};
 ghost use Rattle.model.specs.Lent.{Does, actions_lent};
 ghost use Rattle.maintenance.specs.Expiry.{live_row, Listed, Moving, Moved, Rewritten, maintained_of, lent_tables};
 
@@ -61,8 +61,8 @@ fn lives<const W: usize>(table: Table<W>, offset: usize, i: usize, minute: u32) 
     is_live(&table.area[at..at + W], offset, minute)
 }
 
-// One row further: a row that has not expired is passed; else the lower slot is listed. (Each branch lists its own: given the slot behind them, the proof
-// would match on the branch again.)
+// One row further: a row that has not expired is passed; else the lower slot is listed. (Each branch lists its own, and makes its own step: given the slot
+// behind them, or a step by `Cursor::past`, the proof would match on the branch again.)
 // (No iterator over all held rows by slot, with a filter behind it: a row that has not expired is passed before slots are compared, and slots of an
 // area need not be in order, so that what is listed would stand in another order.)
 fn list_one(held: Held, minute: u32, progress: &mut Progress, actions: &mut [u8])
@@ -99,7 +99,7 @@ fn list_one(held: Held, minute: u32, progress: &mut Progress, actions: &mut [u8]
 
 // Lists the deletions behind k actions; answers how many are listed.
 fn list_held(held: Held, minute: u32, k: usize, actions: &mut [u8]) -> usize
-    requires { (k + (held.carried.count + held.tombstones.count)) * 13 ≤ length actions.old }
+    requires { (k + (held.carried.count + held.tombstones.count)) * action_width ≤ length actions.old }
     ensures { Listed actions.old k (map delete_courier (expired_slots minute (rows_in carried_codec held.entry.carried) (rows_in tombstone_codec held.entry.tombstones))) result actions.new }
 {
     let next = Cursor::default();
@@ -115,7 +115,7 @@ fn list_held(held: Held, minute: u32, k: usize, actions: &mut [u8]) -> usize
 // Lists an own put for each own row that has expired; answers how many are listed.
 // (k counts by hand: the actions stand one behind the other in a lent area, and no Vec is there to count them, since there is no heap.)
 fn list_own(own: Table<OWN_WIDTH>, minute: u32, actions: &mut [u8]) -> usize
-    requires { held (length own.area.now) own_width own.count * 13 ≤ length actions.old }
+    requires { held (length own.area.now) own_width own.count * action_width ≤ length actions.old }
     ensures { Listed actions.old 0 (own_puts minute (rows_in own_codec own.entry)) result actions.new }
 {
     let n = own.len();
@@ -181,7 +181,7 @@ fn list_actions(
     minute: u32,
     actions: &mut [u8],
 ) -> usize
-    requires { 13 * (512 + length tombstones.now / 44) ≤ length actions.old }
+    requires { action_width * (512 + length tombstones.now / tombstone_width) ≤ length actions.old }
     ensures { Listed actions.old 0
         (own_puts minute (table_of own_codec device.own own.now)
         ++ map delete_courier (expired_slots minute (table_of carried_codec device.carried carried.now) (table_of tombstone_codec device.tombstones tombstones.now)))

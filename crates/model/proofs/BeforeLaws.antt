@@ -1,7 +1,8 @@
 -- Every call beside the rules before a request: its answer is the same, or it is a terminator that is answered; and where what a terminator
 -- changes is the same, so is the post after any list of calls.
 -- Assumes nothing.
-use Rattle.std.proofs.Common.{◌≡◌, ℕ, Bool, true, false, eqb, ◌⊎◌, List, [], ◌∷◌, length, set, sym, refl, ap, ◌∙◌, subst, inl, inr, ⊎_elim, arith, eqb-true}
+use Rattle.std.proofs.Common.{◌≡◌, ℕ, Bool, true, false, eqb, ◌⊎◌, List, [], ◌∷◌, length, set, sym, refl, ap, ◌∙◌, subst, inl, inr, ⊎_elim, eqb-true}
+use Rattle.std.proofs.lemmas.List.{nil_from_length}
 use Rattle.courier_core.specs.declared.ContactId.{ContactId}
 use Rattle.courier_core.specs.declared.Refusal.{Refusal}
 use Rattle.rows.specs.declared.Reachable.{Reachable}
@@ -35,10 +36,6 @@ tested ((false, why) ∷ ts) = go (tested ts)
     go (refuses w h) = refuses w h
     go (passes h) = passes h
 
-no_prefixes : (ps : List (List ℕ)) → eqb (length ps) 0 ≡ true → ps ≡ []
-no_prefixes [] e = refl
-no_prefixes (p ∷ ps) e = absurd (omega (arith, eqb-true (length (p ∷ ps)) 0 e))
-
 -- ---- every call, beside what a terminator was answered with
 
 module _ (answer : State → List Reachable → ContactId → Result) where
@@ -60,7 +57,7 @@ module _ (answer : State → List Reachable → ContactId → Result) where
         go false m true e (refuses why h) = inl (h _ ∙ sym (h _))
         go false m true e (passes h) = inr (record {
           call = record { replies = replies; window = window; peer = peer; listed = listed; is = refl };
-          empty = no_prefixes tags e;
+          empty = nil_from_length tags (eqb-true (length tags) 0 e);
           answered = ap (λ (o : Result). o.answer) (h _) ∙ rw (m, e);
         })
 

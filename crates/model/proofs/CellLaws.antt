@@ -1,6 +1,6 @@
 -- Laws of the first free cell: it is one of those that count, no row names it, and it lies in its area.
 -- Assumes nothing.
-use Rattle.std.proofs.Common.{◌≡◌, ℕ, zero, suc, ◌+◌, ◌*◌, ◌/◌, ◌<◌, ◌≤◌, Bool, true, false, cond, eqb, List, sym, refl, ap, ◌∙◌, arith, div-mul-le_self, Option, Some, None}
+use Rattle.std.proofs.Common.{◌≡◌, ℕ, zero, suc, ◌+◌, ◌*◌, ◌/◌, ◌<◌, ◌≤◌, Bool, true, false, cond, eqb, List, sym, refl, ap, ◌∙◌, arith, div-mul-le_self, Some}
 use native.Mathlib.Nat.{min-le_left, min-le_right}
 use Rattle.table.specs.Lists.{any}
 use Rattle.model.specs.Cells.{cell_count, free_from, free_cell}

@@ -10,7 +10,8 @@ use Rattle.octets.specs.Bytes.{be, same_bytes}
 use Rattle.octets.proofs.Compare.{same_refl, same_eq}
 use Rattle.courier_core.specs.declared.ContactId.{ContactId}
 use Rattle.table.specs.Lists.{All, more, any, filter, position, position_from, is_at, insert_at, remove_at, replace_at, unwrap_or}
-use Rattle.table.proofs.ListLaws.{drop_next, filter_append, all_filter, all_map}
+use Rattle.std.proofs.lemmas.List.{drop_more}
+use Rattle.table.proofs.ListLaws.{filter_append, all_filter, all_map}
 use Rattle.table.proofs.FindLaws.{position_any, position_first, any_none}
 use Rattle.courier.specs.Courier.{header_bytes, carried_length}
 use Rattle.courier.proofs.Laws.{carried_fits}
@@ -123,7 +124,7 @@ pub place_first : {A : Type 0} (f : A → List ℕ) (tag : List ℕ) (rows : Lis
 place_first f tag rows d i e =
     let p = position_first (same f tag) rows d i e in
     record {
-      all = sym (take-append-drop i rows) ∙ ap (λ (l : List _). take i rows ++ l) (drop_next rows i d p.inside);
+      all = sym (take-append-drop i rows) ∙ ap (λ (l : List _). take i rows ++ l) (drop_more rows i d p.inside);
       tagged = same_eq (f (get_or rows i d)) tag p.holds;
       none = λ h. false≢true (sym p.before ∙ has_any f tag (take i rows) h);
     }
@@ -237,7 +238,7 @@ offer_kept tag e os h = go (position p os) refl
         let r = position_first p os no_offer i k in
         find_without q (take i os) (drop (i + 1) os) o h
         ∙ sym (find_without q (take i os) (drop (i + 1) os) (get_or os i no_offer) (ap (λ (t : List ℕ). same_bytes t tag) (same_eq (get_or os i no_offer).tag e.head.tag r.holds) ∙ h))
-        ∙ ap (find q) (ap (λ (l : List Offer). take i os ++ l) (sym (drop_next os i no_offer r.inside)) ∙ take-append-drop i os)
+        ∙ ap (find q) (ap (λ (l : List Offer). take i os ++ l) (sym (drop_more os i no_offer r.inside)) ∙ take-append-drop i os)
     go None k = find_without q os [] o h ∙ ap (find q) (append-nil os)
 
 offers_kept : (tag : List ℕ) (es : List Envelope) (os : List Offer) → All (λ (e : Envelope). same_bytes e.head.tag tag ≡ false) es

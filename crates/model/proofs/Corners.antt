@@ -169,7 +169,7 @@ pub record CourieringCorners : Type 0 where
 -- ---- the parts that take a step
 
 -- a code other than Accepted leaves the rows
-another_code : (code : Custody) → (code ≡ custody.Accepted → ⊥) → is_accepted code ≡ false
+pub another_code : (code : Custody) → (code ≡ custody.Accepted → ⊥) → is_accepted code ≡ false
 another_code custody.Accepted k = absurd (k refl)
 another_code custody.Full k = refl
 another_code custody.Duplicate k = refl

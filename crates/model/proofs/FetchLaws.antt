@@ -67,7 +67,7 @@ pub record OnlyFetchesLost : Type 0 where
 
 -- ---- one prefix, and all that are listed
 
-count_zero : {A : Type 0} (p : A → Bool) (xs : List A) → count_by p xs ≡ 0 → All (λ (x : A). p x ≡ false) xs
+pub count_zero : {A : Type 0} (p : A → Bool) (xs : List A) → count_by p xs ≡ 0 → All (λ (x : A). p x ≡ false) xs
 unfolding count_by
 count_zero p [] e = none
 count_zero p (x ∷ xs) e = go (p x) refl e (count_zero p xs)

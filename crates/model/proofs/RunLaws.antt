@@ -2,6 +2,7 @@
 -- Assumes nothing.
 use Rattle.std.proofs.Common.{◌≡◌, ℕ, zero, suc, ◌/◌, ◌^◌, ◌<◌, min, List, [], ◌∷◌, map, length, get_or, set, sym, refl, ap, ◌∙◌, subst, ap₂, arith}
 use lib.ListN.{get_or-map}
+use lib.Seq.{map-set}
 use Rattle.table.specs.Lists.{All, none, more}
 use Rattle.table.specs.Rows.{rows, held}
 use Rattle.table.specs.Codec.{table_of}
@@ -39,11 +40,6 @@ module _ {A : Type 0} {P : A → Type 0} where
   all_set [] i x p q = none
   all_set (y ∷ ys) zero x (more h p) q = more q p
   all_set (y ∷ ys) (suc i) x (more h p) q = more h (all_set ys i x p q)
-
-map_set : {A B : Type 0} (f : A → B) (xs : List A) (i : ℕ) (x : A) → map f (set xs i x) ≡ set (map f xs) i (f x)
-map_set f [] i x = refl
-map_set f (y ∷ ys) zero x = refl
-map_set f (y ∷ ys) (suc i) x = ap (λ (l : List _). f y ∷ l) (map_set f ys i x)
 
 -- ---- the session that is lent
 
@@ -121,7 +117,7 @@ module _ (p : PostAreas) (l : Lent) (g : GoodPost p) (h : ProperCall l.call) whe
   unfolding A change view_post after_areas after answer_to post_of_lem view
   after_areas_lem =
       ap₂ (λ (s : State) (es : List Session). record { state = s; sessions = es }) viewed
-      (map_set view_session p.sessions l.session (store A change).session
+      (map-set view_session p.sessions l.session (store A change).session
       ∙ ap (λ (s : State). set (map view_session p.sessions) l.session s.session) viewed)
       ∙ ap post_of_lem (lent_view p l)
 

@@ -45,26 +45,26 @@ same_one : (x y : ℕ) → same_bytes (x ∷ []) (y ∷ []) ≡ eqb x y
 unfolding same_bytes
 same_one x y = grind arith
 
--- the bytes of two parts, from none on, one more at a time
-pub same_none : (a b : List ℕ) (at bt : ℕ) → same_bytes (part a at 0) (part b bt 0) ≡ true
+-- the bytes of a part and a key, from none on, one more at a time
+pub same_none : (a b : List ℕ) (at : ℕ) → same_bytes (part a at 0) (part b 0 0) ≡ true
 unfolding same_bytes part
-same_none a b at bt = refl
+same_none a b at = refl
 
-pub same_more : (a b : List ℕ) (at bt k acc : ℕ) → at + k < length a → bt + k < length b
-    → eqb acc 0 ≡ same_bytes (part a at k) (part b bt k)
-    → eqb (bit_or acc (bit_xor (get_or a (at + k) 0) (get_or b (bt + k) 0))) 0 ≡ same_bytes (part a at (k + 1)) (part b bt (k + 1))
-same_more a b at bt k acc ha hb e =
+pub same_more : (a b : List ℕ) (at k acc : ℕ) → at + k < length a → k < length b
+    → eqb acc 0 ≡ same_bytes (part a at k) (part b 0 k)
+    → eqb (bit_or acc (bit_xor (get_or a (at + k) 0) (get_or b k 0))) 0 ≡ same_bytes (part a at (k + 1)) (part b 0 (k + 1))
+same_more a b at k acc ha hb e =
     let x = get_or a (at + k) 0 in
-    let y = get_or b (bt + k) 0 in
+    let y = get_or b k 0 in
     grind (
       arith,
       gathered acc x y,
       same_one x y,
-      same_append (part a at k) (part b bt k) (x ∷ []) (y ∷ []),
+      same_append (part a at k) (part b 0 k) (x ∷ []) (y ∷ []),
       length_part a at k,
-      length_part b bt k,
+      length_part b 0 k,
       part_add a at k 1,
-      part_add b bt k 1,
+      part_add b 0 k 1,
       part_one a (at + k),
-      part_one b (bt + k),
+      part_one b k,
     )

@@ -2,7 +2,7 @@
 // (Area and index, and not the slice from the index on: each caller would cut it, and owe the same bound.)
 #![tactic(auto)]
 
-ghost use Rattle.std.specs.Prelude.{◌≡◌, ℕ, ◌+◌, ◌*◌, ◌^◌, ◌≤◌, ◌<◌, length};
+ghost use Rattle.std.specs.Prelude.{◌≡◌, ◌+◌, ◌^◌, ◌≤◌, ◌<◌, length};
 ghost use Rattle.octets.specs.Bytes.{Bytes, splice, part, num, be, low_first, same_bytes};
 
 // Copies src into dst, from index at on.
@@ -68,43 +68,43 @@ fn low_first(a: &[u8], at: usize) -> u64
     u64::from_le_bytes(get_array(a, at))
 }
 
-// Are the sixteen bytes of a from at on those of b from bt on? Every difference is gathered, whatever the bytes are.
-fn same_16(a: &[u8], at: usize, b: &[u8], bt: usize) -> bool
-    requires { (at + 16 ≤ length a.now) × (bt + 16 ≤ length b.now) }
-    ensures { result ≡ same_bytes (part a.now at 16) (part b.now bt 16) }
+// Are the sixteen bytes of area from at on those of the key? Every difference is gathered, whatever the bytes are.
+fn same_16(area: &[u8], at: usize, key: &[u8]) -> bool
+    requires { (at + 16 ≤ length area.now) × (length key.now ≡ 16) }
+    ensures { result ≡ same_bytes (part area.now at 16) key.now }
 {
-    let first = low_first(a, at) ^ low_first(b, bt);
-    let second = low_first(a, at + 8) ^ low_first(b, bt + 8);
+    let first = low_first(area, at) ^ low_first(key, 0);
+    let second = low_first(area, at + 8) ^ low_first(key, 8);
     (first | second) == 0
 }
 
-// Are the n bytes of a from at on those of b from bt on?
+// Are the bytes of area from at on those of the key?
 // Not `==`: as in `same_16`, every byte is read, whatever came before, and the differences are looked at once (of the machine code:
 // docs/DECISIONS.md, 26).
-#[tactic(auto, using(crate::proofs::Compare::same_none, crate::proofs::Compare::same_more))]
-fn same_run(a: &[u8], at: usize, b: &[u8], bt: usize, n: usize) -> bool
-    requires { (at + n ≤ length a.now) × (bt + n ≤ length b.now) }
-    ensures { result ≡ same_bytes (part a.now at n) (part b.now bt n) }
+#[tactic(auto, using(crate::proofs::Compare::same_none, crate::proofs::Compare::same_more, crate::proofs::Parts::part_whole))]
+fn same_run(area: &[u8], at: usize, key: &[u8]) -> bool
+    requires { at + length key.now ≤ length area.now }
+    ensures { result ≡ same_bytes (part area.now at (length key.now)) key.now }
 {
     let mut acc = 0;
-    for k in 0..n {
-        acc |= a[at + k] ^ b[bt + k];
+    for k in 0..key.len() {
+        acc |= area[at + k] ^ key[k];
     }
     acc == 0
 }
 
-// Are the n bytes of a from at on those of b from bt on? Tags have 16 bytes and prefixes 8: those take one or two loads and no loop.
-pub fn same(a: &[u8], at: usize, b: &[u8], bt: usize, n: usize) -> bool
-    requires { (at + n ≤ length a.now) × (bt + n ≤ length b.now) }
-    ensures { result ≡ same_bytes (part a.now at n) (part b.now bt n) }
+// Are the bytes of area from at on those of the key? Tags have 16 bytes and prefixes 8: those take one or two loads and no loop.
+pub fn same(area: &[u8], at: usize, key: &[u8]) -> bool
+    requires { at + length key.now ≤ length area.now }
+    ensures { result ≡ same_bytes (part area.now at (length key.now)) key.now }
 {
-    if n == 16 {
-        return same_16(a, at, b, bt);
+    if key.len() == 16 {
+        return same_16(area, at, key);
     }
-    if n == 8 {
-        return low_first(a, at) == low_first(b, bt);
+    if key.len() == 8 {
+        return low_first(area, at) == low_first(key, 0);
     }
-    same_run(a, at, b, bt, n)
+    same_run(area, at, key)
 }
 
 // Numbers, the highest byte first: a function for each width, as std has one `from_be_bytes` for each type. One for all is a trait

@@ -19,9 +19,10 @@ use Rattle.rows.specs.declared.Carried.{Carried}
 use Rattle.rows.specs.Rows.{own_codec, own_of, carried_codec, carried_of}
 use Rattle.model.specs.Exchange.{Envelope, own_envelope_of, carried_envelope_of, not_for, envelopes, no_own, no_carried}
 use Rattle.offers.specs.declared.area.Rows.{Rows}
+use Rattle.offers.specs.declared.Held.{Held}
 use Rattle.offers.specs.declared.HeldRow.{HeldRow}
 use Rattle.offers.specs.declared.HeldRow.TheVariants as kind
-use Rattle.offers.specs.Areas.{rows_of}
+use Rattle.offers.specs.Areas.{rows_of, how_many}
 use Rattle.offers.specs.Entries.{by_kind, held_by, held_by_at, held_envelopes, Entry, own_entry, carried_entry, entries, passes}
 
 -- the rows that a count says of an area
@@ -29,58 +30,66 @@ pub rows_fit : {A : Type 0} (c : Codec A) (r : Rows c.width) (count : ℕ) (a : 
     → rows_of c r ≡ table_of c count a
 rows_fit c r count a z F s = ap (table_of c r.n) s ∙ table_held c count r.n a z F.is
 
-module _ {X : Type 0} (f : Own → X) (g : Carried → X) (own carried : List ℕ) (n : ℕ) where
-  module _ (m : ℕ) (fits_own : n * 54 ≤ length own) (fits_carried : m * 57 ≤ length carried) where
-    abbrev To : List Own
-    To = table_of own_codec n own
+module _ {X : Type 0} (f : Own → X) (g : Carried → X) (kept : Held) where
+  abbrev n : ℕ
+  n = kept.own.n
 
-    abbrev Tc : List Carried
-    Tc = table_of carried_codec m carried
+  abbrev own : List ℕ
+  own = kept.own.area.now
 
-    length_own : length (map f To) ≡ n
-    length_own = length-map To f ∙ length_table own_codec n own ∙ held_all (length own) 54 n (omega arith) fits_own
+  abbrev carried : List ℕ
+  carried = kept.carried.area.now
 
-    length_carried : length Tc ≡ m
-    length_carried = length_table carried_codec m carried ∙ held_all (length carried) 57 m (omega arith) fits_carried
+  abbrev To : List Own
+  To = table_of own_codec n own
 
-    pub length_held : length (held_by f g To Tc) ≡ n + m
-    unfolding held_by
-    length_held = omega (arith, length-append (map f To) (map g Tc), length-map Tc g, length_own, length_carried)
+  abbrev Tc : List Carried
+  Tc = table_of carried_codec kept.carried.n carried
 
-    pub held_is : (i : ℕ) → i < n + m → get_or (held_by f g To Tc) i (g no_carried) ≡ held_by_at f g own n carried i
-    unfolding held_by held_by_at
-    held_is i h = go (ltb i n) refl
-      where
-        go : (b : Bool) → ltb i n ≡ b → get_or (map f To ++ map g Tc) i (g no_carried)
-            ≡ cond b (f (own_of (part own (i * 54) 54))) (g (carried_of (part carried ((i - n) * 57) 57)))
-        go true e =
-            let k : i < n = ltb-true i n e in
-            let l : length To ≡ n = sym (length-map To f) ∙ length_own in
-            get_or-append (map f To) (map g Tc) (g no_carried) i (omega (arith, length_own)) ∙ get_or-map f To i no_own (g no_carried) (omega arith)
-            ∙ ap f (get_d_table own_codec n own i no_own (omega (arith, length_table own_codec n own)))
-        go false e =
-            let k : n ≤ i = ltb-false i n e in
-            let z : i ≡ length (map f To) + (i - n) = omega (arith, length_own) in
-            ap (λ (j : ℕ). get_or (map f To ++ map g Tc) j (g no_carried)) z ∙ get_or-append-add (map f To) (map g Tc) (i - n) (g no_carried)
-            ∙ ListN.get_or-map g Tc (i - n) no_carried
-            ∙ ap g (get_d_table carried_codec m carried (i - n) no_carried (omega (arith, length_table carried_codec m carried, length_carried)))
+  length_own : length (map f To) ≡ n
+  length_own = length-map To f ∙ length_table own_codec n own ∙ held_all (length own) 54 n (omega arith) kept.own.in_bounds
 
-  -- the row at i, as it is read
-  module _ (i : ℕ) {k : HeldRow} where
-    by_kind_held : k ≡ held_by_at kind.Own kind.Carried own n carried i → by_kind f g k ≡ held_by_at f g own n carried i
-    unfolding held_by_at
-    by_kind_held e = ap (by_kind f g) e ∙ go (ltb i n)
-      where
-        go : (b : Bool) → by_kind f g (cond b (kind.Own (own_of (part own (i * 54) 54))) (kind.Carried (carried_of (part carried ((i - n) * 57) 57))))
-            ≡ cond b (f (own_of (part own (i * 54) 54))) (g (carried_of (part carried ((i - n) * 57) 57)))
-        go true = refl
-        go false = refl
+  length_carried : length Tc ≡ kept.carried.n
+  length_carried = length_table carried_codec kept.carried.n carried ∙ held_all (length carried) 57 kept.carried.n (omega arith) kept.carried.in_bounds
 
-    pub of_own : {o : Own} → k ≡ kind.Own o → k ≡ held_by_at kind.Own kind.Carried own n carried i → f o ≡ held_by_at f g own n carried i
-    of_own h e = sym (ap (by_kind f g) h) ∙ by_kind_held e
+  pub length_held : length (held_by f g To Tc) ≡ how_many kept
+  unfolding held_by
+  length_held = omega (arith, length-append (map f To) (map g Tc), length-map Tc g, length_own, length_carried)
 
-    pub of_carried : {r : Carried} → k ≡ kind.Carried r → k ≡ held_by_at kind.Own kind.Carried own n carried i → g r ≡ held_by_at f g own n carried i
-    of_carried h e = sym (ap (by_kind f g) h) ∙ by_kind_held e
+  pub held_is : (i : ℕ) → i < how_many kept → get_or (held_by f g To Tc) i (g no_carried) ≡ held_by_at f g own n carried i
+  unfolding held_by held_by_at
+  held_is i h = go (ltb i n) refl
+    where
+      go : (b : Bool) → ltb i n ≡ b → get_or (map f To ++ map g Tc) i (g no_carried)
+          ≡ cond b (f (own_of (part own (i * 54) 54))) (g (carried_of (part carried ((i - n) * 57) 57)))
+      go true e =
+          let k : i < n = ltb-true i n e in
+          let l : length To ≡ n = sym (length-map To f) ∙ length_own in
+          get_or-append (map f To) (map g Tc) (g no_carried) i (omega (arith, length_own)) ∙ get_or-map f To i no_own (g no_carried) (omega arith)
+          ∙ ap f (get_d_table own_codec n own i no_own (omega (arith, length_table own_codec n own)))
+      go false e =
+          let k : n ≤ i = ltb-false i n e in
+          let z : i ≡ length (map f To) + (i - n) = omega (arith, length_own) in
+          ap (λ (j : ℕ). get_or (map f To ++ map g Tc) j (g no_carried)) z ∙ get_or-append-add (map f To) (map g Tc) (i - n) (g no_carried)
+          ∙ ListN.get_or-map g Tc (i - n) no_carried
+          ∙ ap g (get_d_table carried_codec kept.carried.n carried (i - n) no_carried (omega (arith, length_table carried_codec kept.carried.n carried, length_carried)))
+
+-- the row at i, as it is read
+module _ {X : Type 0} (f : Own → X) (g : Carried → X) (own carried : List ℕ) (n i : ℕ) {k : HeldRow} where
+  by_kind_held : k ≡ held_by_at kind.Own kind.Carried own n carried i → by_kind f g k ≡ held_by_at f g own n carried i
+  unfolding held_by_at
+  by_kind_held e = ap (by_kind f g) e ∙ go (ltb i n)
+    where
+      go : (b : Bool) → by_kind f g (cond b (kind.Own (own_of (part own (i * 54) 54))) (kind.Carried (carried_of (part carried ((i - n) * 57) 57))))
+          ≡ cond b (f (own_of (part own (i * 54) 54))) (g (carried_of (part carried ((i - n) * 57) 57)))
+      go true = refl
+      go false = refl
+
+  pub of_own : {o : Own} → k ≡ kind.Own o → k ≡ held_by_at kind.Own kind.Carried own n carried i → f o ≡ held_by_at f g own n carried i
+  of_own h e = sym (ap (by_kind f g) h) ∙ by_kind_held e
+
+  pub of_carried : {r : Carried} → k ≡ kind.Carried r → k ≡ held_by_at kind.Own kind.Carried own n carried i → g r ≡ held_by_at f g own n carried i
+  of_carried h e = sym (ap (by_kind f g) h) ∙ by_kind_held e
 
 -- ---- the model's envelopes are those of the rows that may go
 

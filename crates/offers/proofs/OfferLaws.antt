@@ -2,7 +2,6 @@
 -- Assumes nothing.
 use Rattle.std.proofs.Common.{◌≡◌, ℕ, ◌+◌, ◌*◌, ◌<◌, ◌≤◌, Bool, true, false, cond, not, ◌&&◌, ltb, List, [], ◌∷◌, ◌++◌, length, take, sym, refl, ap, ◌∙◌, subst, ap₂, arith, length-append, Option, Some, None}
 use Rattle.octets.specs.Bytes.{splice, same_bytes}
-use Rattle.octets.proofs.Numbers.{length_be}
 use Rattle.table.specs.Lists.{any, position, replace_at}
 use Rattle.table.specs.Rows.{held, rows, has_key, RowsNow}
 use Rattle.table.specs.Codec.{table_of, TableNow}
@@ -14,7 +13,7 @@ use Rattle.rows.specs.Proper.{ProperOffer}
 use Rattle.rows.specs.Rows.{offer_codec, offer_of, offer_bytes, reply_bytes}
 use Rattle.rows.proofs.Laws.{offer_laws}
 use Rattle.courier.specs.declared.Header.{Header}
-use Rattle.courier.specs.Courier.{header_bytes}
+use Rattle.courier.proofs.HeaderLaws.{length_header}
 use Rattle.rows.specs.declared.Tombstone.{Tombstone}
 use Rattle.model.specs.Custody.{tombstone_of_tag}
 use Rattle.model.specs.Calls.{reply_cell, envelope_row}
@@ -127,10 +126,6 @@ module _ (a x : List ℕ) (k : ℕ) (o : Offer) (p : ProperOffer o) (room : k * 
 
 -- ---- its reply and its offer
 
-length_head : (h : Header) → length h.tag ≡ 16 → length h.c ≡ 16 → length (header_bytes h) ≡ 37
-unfolding header_bytes
-length_head h t c = simp length-append (omega (arith, length_be 4 h.expiry_min))
-
 module _ (env : Envelope) (it : Offered) (is : it ≡ offered_of env) where
   pub handed : (lent x offers y : List ℕ) (k c m : ℕ) → length it.head.tag ≡ 16 → length it.head.c ≡ 16
       → x ≡ splice lent (k * 40) (reply_bytes (envelope_row it.cell it.head))
@@ -139,7 +134,7 @@ module _ (env : Envelope) (it : Offered) (is : it ≡ offered_of env) where
   handed lent x offers y k c m lt lc ex I = record {
     reply = ex ∙ ap (λ (z : Offered). splice lent (k * 40) (reply_bytes (envelope_row z.cell z.head))) is;
     wide = length_reply (reply_for (halved env))
-        (length_head (halved env).head (ap (λ (z : Offered). length z.head.tag) (sym is) ∙ lt) (ap (λ (z : Offered). length z.head.c) (sym is) ∙ lc));
+        (length_header (halved env).head (ap (λ (z : Offered). length z.head.tag) (sym is) ∙ lt) (ap (λ (z : Offered). length z.head.c) (sym is) ∙ lc));
     table = subst (λ (z : Offered). TableNow offer_codec offers (insert_offer (as_envelope (record { tag = z.head.tag; copies = z.head.copies })) (table_of offer_codec c offers)) m y) is I.table;
     proper = subst (λ (z : Offered). ProperOffer (record { tag = z.head.tag; copies = z.head.copies })) is I.proper;
     bytes = I.bytes;

@@ -5,18 +5,20 @@ use mathlib.Core.List.{map-append}
 use native.Mathlib.Nat.{zero-min}
 use Rattle.table.specs.Lists.{All, position, replace_at, filter}
 use Rattle.table.specs.Rows.{held}
-use Rattle.table.specs.Codec.{table_of, with_table, TableNow}
+use Rattle.table.specs.Codec.{with_table, TableNow}
 use Rattle.table.proofs.ListLaws.{all_push, all_replace_at}
 use Rattle.table.proofs.RowLaws.{written_none}
 use Rattle.table.proofs.TableLaws.{table_none, table_then}
 use Rattle.rows.specs.declared.Offer.{Offer}
 use Rattle.rows.specs.Proper.{ProperOffer}
-use Rattle.rows.specs.Rows.{own_codec, carried_codec, offer_codec, reply_bytes}
+use Rattle.rows.specs.Rows.{offer_codec, reply_bytes}
 use Rattle.rows.proofs.Laws.{offer_laws}
 use Rattle.model.specs.Basics.{match_found}
 use Rattle.model.specs.Exchange.{Envelope, own_envelope_of, carried_envelope_of, no_carried, reply_for, halved, offer_of_tag, insert_offer, insert_offers}
 use Rattle.offers.specs.Appended.{Appended}
-use Rattle.offers.specs.Entries.{held_envelopes, envelope_at}
+use Rattle.offers.specs.declared.Held.{Held}
+use Rattle.offers.specs.Areas.{how_many, own_of, carried_of, held_envelope}
+use Rattle.offers.specs.Entries.{held_envelopes}
 use Rattle.offers.specs.Offers.{flagged_of, halves_of, Handed, WritesOffers}
 use Rattle.offers.proofs.AppendLaws.{append_none, append_one, append_then}
 use Rattle.offers.proofs.EntryLaws.{length_held, held_is}
@@ -85,15 +87,15 @@ no_offers a = record { count = refl; area = sym (written_none a); table = table_
 
 -- ---- the walk: i rows seen, k replies and c offers there
 
-module _ (own carried : List ℕ) (n m : ℕ) (flags : List Bool) (lent : List ℕ) (first : ℕ) (offers : List ℕ) where
+module _ (kept : Held) (flags : List Bool) (lent : List ℕ) (first : ℕ) (offers : List ℕ) where
   abbrev E : List Envelope
-  E = held_envelopes (table_of own_codec n own) (table_of carried_codec m carried)
+  E = held_envelopes (own_of kept) (carried_of kept)
 
   abbrev sent : ℕ → List Envelope
   sent i = halves_of (take i flags) (take i E)
 
   pub record Offering (i k c : ℕ) (x y : List ℕ) : Type 0 where
-    pub within : i ≤ n + m
+    pub within : i ≤ how_many kept
     pub few : c ≤ i
     pub below : k ≤ first + i
     pub rows : Appended 40 lent first (map reply_bytes (map reply_for (sent i))) k x
@@ -111,20 +113,20 @@ module _ (own carried : List ℕ) (n m : ℕ) (flags : List Bool) (lent : List �
     size = refl;
   }
 
-  module _ (fits_own : n * 54 ≤ length own) (fits_carried : m * 57 ≤ length carried) (fits : n + m ≤ length flags) {i k c : ℕ} {x y : List ℕ} (O : Offering i k c x y) where
-    total : length E ≡ n + m
-    total = length_held own_envelope_of carried_envelope_of own carried n m fits_own fits_carried
+  module _ (fits : how_many kept ≤ length flags) {i k c : ℕ} {x y : List ℕ} (O : Offering i k c x y) where
+    total : length E ≡ how_many kept
+    total = length_held own_envelope_of carried_envelope_of kept
 
     abbrev here : Envelope
-    here = envelope_at own n carried i
+    here = held_envelope kept i
 
-    module _ (h : i < n + m) where
+    module _ (h : i < how_many kept) where
       one_more : (b : Bool) → get_or flags i false ≡ b → sent (i + 1) ≡ sent i ++ cond b (halved here ∷ []) []
       one_more b e =
           ap (λ (j : ℕ). sent j) (add-one i)
           ∙ ap (map halved) (flagged_next flags E i (carried_envelope_of no_carried) (omega arith) (omega (arith, total)))
           ∙ map-append halved (flagged_of (take i flags) (take i E)) (cond (get_or flags i false) (get_or E i (carried_envelope_of no_carried) ∷ []) [])
-          ∙ ap (λ (l : List Envelope). sent i ++ l) (rw (e, held_is own_envelope_of carried_envelope_of own carried n m fits_own fits_carried i h) (go b))
+          ∙ ap (λ (l : List Envelope). sent i ++ l) (rw (e, held_is own_envelope_of carried_envelope_of kept i h) (go b))
         where
           go : (b : Bool) → map halved (cond b (here ∷ []) []) ≡ cond b (halved here ∷ []) []
           go true = refl
@@ -161,7 +163,7 @@ module _ (own carried : List ℕ) (n m : ℕ) (flags : List Bool) (lent : List �
             size = H.size ∙ O.size;
           }
 
-    pub offering_end : n + m ≤ i → (first + (n + m)) * 40 ≤ length lent → WritesOffers (halves_of flags E) lent first offers k x c y
+    pub offering_end : how_many kept ≤ i → (first + how_many kept) * 40 ≤ length lent → WritesOffers (halves_of flags E) lent first offers k x c y
     offering_end h r =
         let s : sent i ≡ halves_of flags E = ap (map halved) (flagged_end flags E i (omega (arith, total))) in
         record { rows = rw s at O.rows; room = let b = O.below in let w = O.within in omega arith; table = rw s at O.table }

@@ -1,7 +1,7 @@
 // What is offered to a peer: of the rows held here, own rows first, those that are offered are flagged; then the flagged ones are written, as replies and as offers.
 #![tactic(auto)]
 
-ghost use Rattle.std.specs.Prelude.{◌≡◌, ◌+◌, ◌*◌, ◌<◌, ◌≤◌, ◌&&◌, length, nat_lt};
+ghost use Rattle.std.specs.Prelude.{◌≡◌, ◌+◌, ◌*◌, ◌<◌, ◌≤◌, length};
 ghost use Rattle.rows.specs.Rows.{offer_width, reply_width, tombstone_codec};
 ghost use Rattle.model.specs.Window.{prefix_codec};
 ghost use Rattle.model.specs.Exchange.{halved};
@@ -62,28 +62,20 @@ impl<'a> Held<'a> {
     }
 
     // The row at i, if it may go to the peer: an own row that is for the peer does not.
-    // (An array field goes into a literal through a local: put there straight, the borrow check does not cover it.)
+    // (An array field is taken out by a `let`: bound by an arm's pattern, the borrow check does not cover it.)
     pub fn row_at(&self, i: usize, peer: ContactId) -> Option<Row>
         requires { i < how_many self.now }
         ensures { result ≡ row_of (held_entry peer self.now i) }
     {
         match self.at(i) {
+            HeldRow::Own(row) if row.contact == peer => None,
             HeldRow::Own(row) => {
-                if row.contact == peer {
-                    return None;
-                }
-                let tag = row.tag;
-                Some(Row {
-                    tag,
-                    copies: row.copies,
-                })
+                let Own { tag, copies, .. } = row;
+                Some(Row { tag, copies })
             }
             HeldRow::Carried(row) => {
-                let tag = row.tag;
-                Some(Row {
-                    tag,
-                    copies: row.copies,
-                })
+                let Carried { tag, copies, .. } = row;
+                Some(Row { tag, copies })
             }
         }
     }
@@ -136,7 +128,7 @@ pub fn list_offers(
                 break 'row;
             }
             for j in 0..listed.n {
-                if octets::same(listed.area, j * PREFIX_WIDTH, &row.tag, 0, PREFIX_WIDTH) {
+                if octets::same(listed.area, j * PREFIX_WIDTH, &row.tag[..PREFIX_WIDTH]) {
                     break 'row;
                 }
             }
@@ -146,8 +138,6 @@ pub fn list_offers(
                     tombstones.area,
                     t * TOMBSTONE_WIDTH + Tombstone::TAG,
                     &row.tag,
-                    0,
-                    16,
                 ) {
                     break 'row;
                 }
@@ -211,14 +201,10 @@ fn offer_row(held: &Held, i: usize, replies: &mut [u8], offers: &mut [u8], sent:
 {
     let it = held.offered_at(i);
     answers::put_envelope(replies, sent.replies * REPLY_WIDTH, it.cell, it.head);
-    let tag = it.head.tag;
-    let offer = Offer {
-        tag,
-        copies: it.head.copies,
-    };
+    let Header { tag, copies, .. } = it.head;
     Counts {
         replies: sent.replies + 1,
-        offers: insert_offer(offers, sent.offers, offer),
+        offers: insert_offer(offers, sent.offers, Offer { tag, copies }),
     }
 }
 

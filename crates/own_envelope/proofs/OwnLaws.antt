@@ -1,8 +1,7 @@
 -- Laws of the tests of the own envelope call, and of the place of a new row.
 -- Assumes nothing.
-use Rattle.std.proofs.Common.{◌≡◌, ℕ, ◌+◌, ◌-◌, ◌*◌, ◌<◌, ◌≤◌, Bool, true, false, ◌&&◌, ◌||◌, eqb, ltb, leb, List, length, sym, refl, ap, ◌∙◌, subst, ap₂, zero-add, add-zero, arith, ltb-false, le-ltb, eq-eqb, ne_eqb, leb-false, Option, Some, None}
+use Rattle.std.proofs.Common.{◌≡◌, ℕ, ◌+◌, ◌-◌, ◌*◌, ◌<◌, ◌≤◌, Bool, true, false, ◌&&◌, ◌||◌, eqb, ltb, leb, List, length, sym, refl, ap, ◌∙◌, ap₂, zero-add, add-zero, arith, ltb-false, le-ltb, eq-eqb, ne_eqb, leb-false, Some, None}
 use mathlib.Core.Bool.{or-false}
-use Rattle.std.specs.Option.{MatchOption, unwrap_or as unwrap_or_of}
 use Rattle.octets.specs.Bytes.{part, num}
 use Rattle.octets.proofs.Parts.{part_part}
 use Rattle.table.specs.Lists.{position, unwrap_or, insert_at}
@@ -50,13 +49,6 @@ module _ (count : ℕ) (a : List ℕ) (id : ContactId) where
   pub first_inside : {n : ℕ} → n ≡ held (length a) 9 count → added_before (table_of contact_codec count a) id ≤ n
   unfolding added_before contact_place
   first_inside h = omega (arith, position_le (is_contact id) (table_of contact_codec count a), length_table contact_codec count a)
-
-  -- the place that a search finds, or the count
-  pub found_from : (r : Option ℕ) (n v start : ℕ) (No : ℕ → Type 0) → n ≡ held (length a) 9 count
-      → MatchOption r ((k : ℕ) → start ≤ k → k < n → No k) (λ (i : ℕ). (start ≤ i) × (i < n) × (num (part a (i * 9) 8) ≡ id.0) × ((k : ℕ) → start ≤ k → k < i → No k))
-      → v ≡ unwrap_or_of r n → added_before (table_of contact_codec count a) id ≤ v
-  found_from (Some i) n v start No h m e = rw e (first_by {k = i} (subst (λ (x : ℕ). i < x) h m.1) refl m.2)
-  found_from None n v start No h m e = rw e (first_inside h)
 
 -- does a row stand after the new one: its number decides if it is of the same contact, else its contact
 module _ (ps : List Contact) (id : ContactId) (msgno : ℕ) (row : Own) where

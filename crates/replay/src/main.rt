@@ -3,7 +3,7 @@
 
 ghost use Rattle.std.specs.Iterator.{IsFinite};
 
-use courier::{Custody, Header};
+use courier::Custody;
 use host_answers::{DONE, MALFORMED, MISSING, NO_ENVELOPE, OURS};
 use replay_calls::{Post, front};
 use replay_compare::{Difference, compare};
@@ -41,9 +41,6 @@ struct Tally {
     actions: Counts,
 }
 
-// Where the code stands in a custody reply's body: behind the tag. (As in an envelope's the commitment does: the number stands once, in `Header`.)
-const CODE: usize = Header::C;
-
 impl Tally {
     fn count(&mut self, r: &Record) {
         self.calls.add(r.kind.byte());
@@ -52,7 +49,7 @@ impl Tally {
             let reply = Reply::read(row, 0);
             self.replies.add(reply.kind);
             if reply.kind == Reply::CUSTODY {
-                self.codes.add(reply.body[CODE]);
+                self.codes.add(reply.body[Reply::BEHIND_TAG]);
             }
         }
         for row in r.actions {
@@ -114,7 +111,7 @@ fn make_call(rt: &(impl Print + Eprint), s: &mut State, p: &mut Post, r: &Record
 
 // Makes all calls of a sample of right shape, and says how many differ.
 fn replay(rt: &(impl Print + Eprint), sample: &[u8], tally: &mut Tally) -> Result<usize> {
-    let mut post = Post::fresh();
+    let mut post = Post::default();
     let mut s = State::default();
     for (_, entry) in replay_log::entries_of(sample) {
         match entry {

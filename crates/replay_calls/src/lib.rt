@@ -21,7 +21,8 @@ pub struct Lent {
     pub cells: usize,
 }
 
-// The first n bytes or rows, or all where there are fewer. (Two functions, as std has `get` and `get_mut`.)
+// The first n bytes or rows, or all where there are fewer. (Two functions, as std has `get` and `get_mut`. vectors has the same of bytes, and courier_post
+// the first of them: the crates below all three are the library's, which has no use for them.)
 pub fn front<T>(area: &[T], n: usize) -> &[T] {
     &area[..n.min(area.len())]
 }
@@ -48,27 +49,17 @@ const MOST_REPLIES: usize = 600_000;
 const MOST_ACTIONS: usize = 22_000;
 
 // An exchange, with prefixes and offers of its own.
-#[derive(Clone, Copy)]
+#[derive(Clone, Copy, Default)]
 pub struct Session {
     exchange: Exchange,
     prefixes: [u8; MOST_PREFIXES],
     offers: [u8; MOST_OFFERS],
 }
 
-impl Session {
-    fn closed() -> Session {
-        Session {
-            exchange: Exchange::closed(),
-            prefixes: [0; MOST_PREFIXES],
-            offers: [0; MOST_OFFERS],
-        }
-    }
-}
-
 // A post of any list: areas of the greatest sizes, and the exchanges.
 // (The drill's, courier_post's and screen_page's posts have areas of other sizes, which their calls or their contracts name, and no exchanges or one.
 // One struct for all would have a parameter for each size.)
-#[derive(Drop)]
+#[derive(Default, Drop)]
 pub struct Post {
     pub device: Device,
     pub lent: Lent,
@@ -85,23 +76,6 @@ pub struct Post {
 }
 
 impl Post {
-    pub fn fresh() -> Post {
-        Post {
-            device: Device::fresh(),
-            lent: Lent::default(),
-            sessions: [Session::closed(); EXCHANGES],
-            contacts: [0; CONTACT_AREA],
-            own: [0; OWN_AREA],
-            carried: [0; CARRIED_AREA],
-            tombstones: [0; TOMBSTONE_AREA],
-            bad_tags: [0; BAD_TAG_AREA],
-            own_cells: [0; CELL_AREA],
-            cells: [0; CELL_AREA],
-            replies: [0; MOST_REPLIES],
-            actions: [0; MOST_ACTIONS],
-        }
-    }
-
     // A list begins with a fresh device. What the areas hold stays: a fresh device has no row of it.
     pub fn begin(&mut self, list: List) {
         self.device = Device::fresh();
@@ -365,7 +339,7 @@ pub fn call_custody_code(p: &mut Post, r: &Record) -> Result<Answer, Refusal> {
     Ok(Answer::listed(actions))
 }
 
-// The listed prefixes go to the front of `replies`: these calls list no reply.
+// The listed prefixes go to the front of `replies`: this call lists no reply.
 pub fn call_inventory_of_ours(p: &mut Post, r: &Record) -> Result<Answer, Refusal> {
     let count = inventory::inventory(
         p.device,

@@ -75,7 +75,7 @@ const FRONT: usize = 80;
 
 const REST: usize = 84;
 
-// What must be answered: a number of those below, or of a refusal.
+// What must be answered: the number of a `Said`, or of a refusal.
 const SAID: usize = 88;
 
 const SAID_GENERATION: usize = 89;
@@ -251,8 +251,8 @@ pub struct List {
 const LIST_HEAD: usize = 11;
 
 impl List {
-    // The list with which the bytes begin, and those behind it; none where the program has no areas for it, or it has no call. (Each place of a list's head and of the end
-    // stands once, as the first lines of this file give them: they have no names.)
+    // The list with which the bytes begin, and those behind it; none where no whole one does, the program has no areas for it, or it has no call.
+    // (Each place of a list's head and of the end stands once, as the first lines of this file give them: they have no names.)
     fn first_of(bytes: &[u8]) -> Option<(List, &[u8])>
         ensures { IfSome result (λ p. length p.1.now < length bytes.now) }
     {
@@ -581,10 +581,10 @@ pub fn walked(sample: &[u8]) -> Result<Walk, usize> {
     let mut walk = Walk::default();
     let mut whole = entries_of(sample);
     for (at, entry) in &mut whole {
-        if let Entry::End { lists, calls } = entry {
-            if walk.ends(lists, calls) {
-                return Ok(walk);
-            }
+        if let Entry::End { lists, calls } = entry
+            && walk.ends(lists, calls)
+        {
+            return Ok(walk);
         }
         walk = walk.past(entry).ok_or(at)?;
     }

@@ -1,4 +1,4 @@
-// The calls of a sample that end rows, and those that read and write rows and files; and the call of any record.
+// The calls of a sample that end rows, those of blobs, files, the window and pages, and the call of any record.
 #![tactic(auto)]
 
 use courier_core::Refusal;

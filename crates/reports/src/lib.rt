@@ -75,8 +75,7 @@ pub fn report_failed(
     if custody::is_bad(table, peer, tag) {
         return Ok(Said::Malformed);
     }
-    let count = table.len();
-    if bad_tags.len() / BAD_TAG_WIDTH <= count {
+    if bad_tags.len() / BAD_TAG_WIDTH <= device.bad_tags {
         return Err(Refusal::NoBadTagRow);
     }
     device.bad_tags = BadTag::push(bad_tags, device.bad_tags, BadTag { peer, tag });

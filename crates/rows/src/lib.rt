@@ -165,7 +165,7 @@ pub const ACTION_WIDTH: usize = 13;
 pub const REACHABLE_WIDTH: usize = 30;
 
 // The bytes of a reply behind its kind and cell: an envelope's header, or a tag and what follows it.
-pub const REPLY_BODY: usize = 37;
+pub const REPLY_BODY: usize = courier::ENVELOPE_HEADER;
 
 // A prefix is the first bytes of a tag.
 pub const PREFIX_WIDTH: usize = 8;
@@ -206,6 +206,11 @@ impl BadTag {
 
 impl Offer {
     pub const TAG: usize = 0;
+}
+
+impl Reply {
+    // Where a custody's code stands in the body, and a tomb's secret: behind the tag. (An envelope's body is its header.)
+    pub const BEHIND_TAG: usize = 16;
 }
 
 impl Reachable {

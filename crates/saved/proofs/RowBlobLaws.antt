@@ -1,10 +1,10 @@
 -- Laws of the row blob call: each way out as the model's step, and what it leaves.
 -- Assumes nothing.
-use Rattle.std.proofs.Common.{◌≡◌, ℕ, ◌+◌, ◌*◌, ◌<◌, ◌≤◌, Bool, true, eqb, List, [], ◌++◌, map, length, get_or, sym, refl, ap, ◌∙◌, append-nil, arith, le-ltb, lt-ltb, Option, Some, None, Result, Ok, Err}
+use Rattle.std.proofs.Common.{◌≡◌, ℕ, ◌+◌, ◌*◌, ◌<◌, ◌≤◌, Bool, eqb, List, [], ◌++◌, map, length, get_or, sym, refl, ap, ◌∙◌, append-nil, arith, le-ltb, lt-ltb, Option, Some, None, Result, Ok, Err}
 use Rattle.octets.specs.Bytes.{part}
 use Rattle.courier_core.specs.declared.Refusal.{Refusal}
 use Rattle.courier_core.specs.declared.Refusal.TheVariants as refusal
-use Rattle.table.specs.Lists.{position, filter}
+use Rattle.table.specs.Lists.{position}
 use Rattle.table.specs.Rows.{held}
 use Rattle.table.specs.Codec.{Codec, table_of}
 use Rattle.table.proofs.RowLaws.{row_in, held_inside}
@@ -24,22 +24,11 @@ use Rattle.model.specs.Tombs.{no_tombstone}
 use Rattle.model.specs.Step.{tests, perform, step}
 use Rattle.model.specs.Areas.{Areas, Written, view, store, store_device, store_session}
 use Rattle.model.proofs.CallLaws.{refused_here, not_here, no_test, quiet_call, refused_call, bytes_call}
-use Rattle.model.proofs.SearchLaws.{find_at, find_past, filter_all}
+use Rattle.model.proofs.SearchLaws.{found_in, found_behind}
 use Rattle.model.specs.Lent.{bytes_lent}
 use Rattle.saved.specs.Blobs.{carried_in_slot, tombstone_in_slot, Blobbed, blob_says, held_in}
 
 -- ---- a search
-
--- among rows that are each made into something else, with more behind
-module _ {A E : Type 0} (f : A → E) (p : E → Bool) (ys : List E) (xs : List A) where
-  whole : find p (map f xs ++ ys) ≡ find p (map f (filter (λ (x : A). true) xs) ++ ys)
-  whole = ap (λ (l : List A). find p (map f l ++ ys)) (sym (filter_all xs))
-
-  found_in : (d : A) (i : ℕ) → Some i ≡ position (λ (x : A). p (f x)) xs → find p (map f xs ++ ys) ≡ Some (f (get_or xs i d))
-  found_in d i e = whole ∙ find_at f p (λ (x : A). true) ys d xs i (sym e)
-
-  found_behind : None ≡ position (λ (x : A). p (f x)) xs → find p (map f xs ++ ys) ≡ find p ys
-  found_behind e = whole ∙ find_past f p (λ (x : A). true) ys xs 0 (sym e)
 
 -- the row that is found is in the table
 module _ {A : Type 0} (c : Codec A) (d : A) (count : ℕ) (a : List ℕ) (p : A → Bool) {i : ℕ} (e : Some i ≡ position p (table_of c count a)) where

@@ -7,9 +7,9 @@ use Rattle.courier_core.specs.declared.Refusal.{Refusal}
 use Rattle.courier_core.specs.declared.Refusal.TheVariants as refusal
 use Rattle.table.specs.Rows.{held, rows}
 use Rattle.table.specs.Codec.{Codec, table_of}
-use Rattle.table.proofs.ListLaws.{map_take}
+use Rattle.std.proofs.lemmas.List.{take-map}
 use Rattle.table.proofs.RowLaws.{length_rows, take_rows}
-use Rattle.table.specs.declared.Table.{Table}
+use Rattle.table.specs.declared.lent.Table.{Table}
 use Rattle.rows.specs.declared.Device.{Device}
 use Rattle.rows.specs.declared.Carried.{Carried}
 use Rattle.rows.specs.declared.Tombstone.{Tombstone}
@@ -49,7 +49,7 @@ unfolding table_of held
 table_capped c count cap a =
     let m : ℕ = min count (length a / c.width) in
     let k : min m cap ≡ min (min count cap) (length a / c.width) = omega arith in
-    sym (map_take c.decode cap (rows c.width m a)) ∙ ap (map c.decode) (rows_capped c.width m cap a ∙ ap (λ (i : ℕ). rows c.width i a) k)
+    take-map c.decode cap (rows c.width m a) ∙ ap (map c.decode) (rows_capped c.width m cap a ∙ ap (λ (i : ℕ). rows c.width i a) k)
 
 -- a file that is not too short has room for every record
 pub rooms : {T : Table 57} {U : Table 44} {h : Held} → Fitted T U h → (file count : ℕ) → T.count ≤ count

@@ -1,6 +1,6 @@
 -- The saved file, record by record, and what the save call says.
 -- Assumes nothing.
-use Rattle.std.specs.Prelude.{◌≡◌, ℕ, ◌+◌, ◌*◌, ◌≤◌, List, [], ◌∷◌, ◌++◌, map, length, Result, Ok, Err}
+use Rattle.std.specs.Prelude.{◌≡◌, ℕ, ◌+◌, ◌*◌, ◌≤◌, List, ◌∷◌, ◌++◌, map, length, Result, Ok, Err}
 use Rattle.courier_core.specs.declared.Refusal.{Refusal}
 use Rattle.octets.specs.Bytes.{splice, be}
 use Rattle.table.specs.Rows.{join}
@@ -14,14 +14,14 @@ use Rattle.saved.specs.declared.Progress.{Progress}
 
 -- ---- a record
 
--- `saved_record` by its parts: the mark's letter, the slot, the row's bytes
-unfoldable pub record_bytes : ℕ → ℕ → List ℕ → List ℕ
-record_bytes letter slot row = (72 ∷ letter ∷ []) ++ be 8 slot ++ be 2 (length row) ++ row
+-- `saved_record` by its parts: the mark, the slot, the row's bytes
+unfoldable pub record_bytes : List ℕ → ℕ → List ℕ → List ℕ
+record_bytes mark slot row = mark ++ be 8 slot ++ be 2 (length row) ++ row
 
 -- a record stands at a place of a file that was before and is now after, and ends at r
-pub record RecordPut (letter slot : ℕ) (row : List ℕ) (at : ℕ) (before : List ℕ) (r : ℕ) (after : List ℕ) : Type 0 where
+pub record RecordPut (mark : List ℕ) (slot : ℕ) (row : List ℕ) (at : ℕ) (before : List ℕ) (r : ℕ) (after : List ℕ) : Type 0 where
   pub end : r ≡ at + 12 + length row
-  pub area : after ≡ splice before at (record_bytes letter slot row)
+  pub area : after ≡ splice before at (record_bytes mark slot row)
 
 -- the same of a held row, whose record has at most so many bytes
 pub record Recorded (most : ℕ) (h : Slotted) (at : ℕ) (before : List ℕ) (r : ℕ) (after : List ℕ) : Type 0 where

@@ -1,12 +1,12 @@
 // Held rows as blobs: the row blob call, and the saved file.
 #![tactic(auto)]
 
-ghost use Rattle.std.specs.Prelude.{◌≡◌, ℕ, ◌+◌, ◌*◌, ◌<◌, ◌≤◌, true, List, [], ◌∷◌, ◌++◌, length, nat_le, nat_lt, refl};
+ghost use Rattle.std.specs.Prelude.{◌≡◌, ℕ, ◌+◌, ◌*◌, ◌<◌, ◌≤◌, true, List, ◌++◌, length, nat_le, nat_lt, refl};
 ghost use Rattle.octets.specs.Bytes.{be};
 ghost use Rattle.table.specs.Lists.{position};
 ghost use Rattle.table.specs.Rows.{rows, held};
 ghost use Rattle.model.specs.Calls.{row_blob, save as save_call};
-ghost use Rattle.model.specs.Cells.{cell_count};
+ghost use Rattle.model.specs.Cells.{max_cells};
 ghost use Rattle.model.specs.Lent.{Does, bytes_lent};
 ghost use Rattle.model.specs.Saved.{Slotted, carried_held, tombstone_held, held_mark, saved_file};
 ghost use Rattle.saved.specs.Blobs.{has_slot, Blobbed, blob_says, held_in};
@@ -18,7 +18,7 @@ use courier_core::Refusal;
 use rows::{
     CARRIED_AREA, CARRIED_WIDTH, Carried, Device, MAX_CELLS, Row as _, TOMBSTONE_WIDTH, Tombstone,
 };
-use state::{CARRIED_LETTER, FILE_HEAD, LEN, NEXT_LETTER, RECORD_HEAD, SLOT, TOMBSTONE_LETTER};
+use state::{CARRIED_MARK, FILE_HEAD, FILE_MARK, LEN, MARK_LEN, RECORD_HEAD, SLOT, TOMBSTONE_MARK};
 use table::Table;
 
 // The held rows that are saved, and the cells in which the ciphertexts of the carried ones lie.
@@ -37,7 +37,7 @@ struct Progress {
 
 // ---- rows by slot
 
-// The first row of a table that has the slot, which is the first 8 bytes of every row.
+// The first row of a table that has the slot, which is the first 8 bytes of a carried row and of a tombstone.
 fn slot_place<const W: usize>(table: Table<W>, slot: u64) -> Option<usize>
     requires { 8 ≤ W }
     ensures { result ≡ position (has_slot slot) (rows W (held (length table.entry.area.now) W table.entry.count) table.entry.area.now) }
@@ -47,7 +47,7 @@ fn slot_place<const W: usize>(table: Table<W>, slot: u64) -> Option<usize>
 
 // ---- a row, written to a blob area
 
-// A held row that is saved: its bytes are those of `Held::row`, and its record's mark has its kind's letter.
+// A held row that is saved: its bytes are those of `Held::row`, and its record's mark is its kind's.
 trait Saved: Copy {
     ghost slotted: { List ℕ → Self → Slotted };
 
@@ -56,8 +56,8 @@ trait Saved: Copy {
     fn slot(self) -> u64
         ensures { (cells : List ℕ) → (slotted cells self).slot ≡ result };
 
-    fn letter(self) -> u8
-        ensures { (cells : List ℕ) → held_mark (slotted cells self).held ≡ 72 ∷ result ∷ [] };
+    fn mark(self) -> [u8; MARK_LEN]
+        ensures { (cells : List ℕ) → held_mark (slotted cells self).held ≡ result };
 
     // The row's bytes go to the front of the area, and how many they are is answered.
     fn blob(self, cells: &[u8], blob: &mut [u8]) -> usize
@@ -72,7 +72,7 @@ trait Saved: Copy {
         // (An array and a length: a row is written where any row has room, which the last record of a file need not have, and there is no heap.)
         let mut blob = [0; state::BLOB];
         let n = self.blob(cells, &mut blob);
-        put_record(file, at, self.letter(), self.slot(), &blob[0..n])
+        put_record(file, at, self.mark(), self.slot(), &blob[0..n])
     }
 
     ghost fits: { nat_le most 2110 ≡ true };
@@ -89,8 +89,8 @@ impl Saved for Carried {
     }
 
     #[tactic(auto, unfolding(model::specs::Saved::carried_held))]
-    fn letter(self) -> u8 {
-        CARRIED_LETTER
+    fn mark(self) -> [u8; MARK_LEN] {
+        CARRIED_MARK
     }
 
     fn blob(self, cells: &[u8], blob: &mut [u8]) -> usize {
@@ -117,19 +117,19 @@ impl Saved for Tombstone {
     }
 
     #[tactic(auto, unfolding(model::specs::Saved::tombstone_held))]
-    fn letter(self) -> u8 {
-        TOMBSTONE_LETTER
+    fn mark(self) -> [u8; MARK_LEN] {
+        TOMBSTONE_MARK
     }
 
     fn blob(self, cells: &[u8], blob: &mut [u8]) -> usize {
         // (An array field goes into a literal through a local: put there straight, the borrow check does not cover it.)
-        let tag = self.tag;
-        let s = self.s;
-        let row = state::Tombstone {
+        let Tombstone {
             tag,
             s,
-            expiry_min: self.expiry_min,
-        };
+            expiry_min,
+            ..
+        } = self;
+        let row = state::Tombstone { tag, s, expiry_min };
         state::tombstone_row(row, blob).unwrap()
     }
 
@@ -187,22 +187,22 @@ const CARRIED_RECORD: usize = RECORD_HEAD + state::BLOB;
 // The bytes of a tombstone's record.
 const TOMBSTONE_RECORD: usize = RECORD_HEAD + state::TOMBSTONE_ROW;
 
-// A mark, which is `H` and a letter, and a number. (The letter is the byte that the file has; an enum would only be turned into it.)
-fn marked(letter: u8, number: u64) -> [u8; FILE_HEAD]
-    ensures { result ≡ (72 ∷ letter ∷ []) ++ be 8 number }
+// A mark and a number.
+fn marked(mark: [u8; MARK_LEN], number: u64) -> [u8; FILE_HEAD]
+    ensures { result ≡ mark ++ be 8 number }
 {
-    let mut b = [b'H'; FILE_HEAD];
-    b[1] = letter;
+    let mut b = [0; FILE_HEAD];
+    octets::put_array(&mut b, 0, mark);
     octets::put_u64(&mut b, SLOT, number);
     b
 }
 
-// Writes a record at a place, and answers where it ends. (The letter is that of its mark, as `marked` takes it.)
-fn put_record(file: &mut [u8], at: usize, letter: u8, slot: u64, row: &[u8]) -> usize
+// Writes a record at a place, and answers where it ends.
+fn put_record(file: &mut [u8], at: usize, mark: [u8; MARK_LEN], slot: u64, row: &[u8]) -> usize
     requires { (at + 12 + length row.now ≤ length file.old) × (length row.now < 65536) }
-    ensures { RecordPut letter slot row.now at file.old result file.new }
+    ensures { RecordPut mark slot row.now at file.old result file.new }
 {
-    let head = marked(letter, slot);
+    let head = marked(mark, slot);
     octets::copy_in(file, at, &head);
     octets::put_u16(file, at + LEN, row.len() as u16);
     octets::copy_in(file, at + RECORD_HEAD, row);
@@ -212,7 +212,7 @@ fn put_record(file: &mut [u8], at: usize, letter: u8, slot: u64, row: &[u8]) -> 
 // ---- the records, by slot
 
 impl<'a> HeldRows<'a> {
-    // Writes the record of the next row.
+    // Writes the record of the next row. (Each branch makes its own step: behind both, `Cursor::past` would have the proof ask again which it was.)
     fn save_next(self, progress: &mut Progress, file: &mut [u8])
         requires { Reached self.rows progress.old.next × RoomFor self.rows progress.old (length file.old) }
         ensures { More self.entry progress.old file.old progress.new file.new }
@@ -245,12 +245,12 @@ impl<'a> HeldRows<'a> {
         progress.at
     }
 
-    // Writes the file: `HN` and the next slot, then the records.
+    // Writes the file: its mark and the next slot, then the records.
     fn save_file(self, next: u64, file: &mut [u8]) -> usize
         requires { Rooms self.rows (length file.old) }
         ensures { Filled (saved_file next (left self.entry 0 0)) file.old result file.new }
     {
-        let head = marked(NEXT_LETTER, next);
+        let head = marked(FILE_MARK, next);
         octets::copy_in(file, 0, &head);
         self.save_rows(file)
     }
@@ -258,17 +258,9 @@ impl<'a> HeldRows<'a> {
 
 // ---- the save call
 
-// The cells of an area of so many bytes: up to MAX_CELLS count. (custody and load_tests have this within another expression, each; here its bound is ensured too.)
-#[tactic(auto, unfolding(model::specs::Cells::cell_count))]
-fn cell_count(size: usize) -> usize
-    ensures { (result ≡ cell_count size) × (result ≤ 256) }
-{
-    (size / state::CELL).min(MAX_CELLS)
-}
-
 // Is the area for a file too short, with so many cells and tombstone rows? The product of the rows may be past what a usize holds.
 fn short_file(file: usize, cells: usize, room: usize) -> bool
-    requires { cells ≤ 256 }
+    requires { cells ≤ max_cells }
     ensures { result ≡ nat_lt file (10 + 2122 * cells + 49 * room) }
 {
     let base = FILE_HEAD + CARRIED_RECORD * cells;
@@ -292,7 +284,7 @@ pub fn save(
         (held_in device carried.now tombstones.now carried_cells.now)
         (bytes_lent file.old) (bytes_lent file.new) }
 {
-    let cells = cell_count(carried_cells.len());
+    let cells = table::fit(carried_cells.len(), state::CELL, MAX_CELLS);
     let room = tombstones.len() / TOMBSTONE_WIDTH;
     if short_file(file.len(), cells, room) {
         return Err(Refusal::ShortArea);

@@ -1,13 +1,14 @@
 -- Laws of the page call: each way out as the model's step, and what it leaves.
 -- Assumes nothing.
-use Rattle.std.proofs.Common.{◌≡◌, ℕ, ◌+◌, ◌-◌, ◌*◌, ◌<◌, min, Bool, true, false, ltb, leb, List, ◌++◌, map, length, take, drop, sym, refl, ap, ◌∙◌, ap₂, arith, length-append, length-drop, drop_of_length-le, take_all, ltb-false, leb-false, leb-true, Result, Ok, Err}
+use Rattle.std.proofs.Common.{◌≡◌, ℕ, ◌+◌, ◌-◌, ◌*◌, min, true, false, ltb, List, ◌++◌, map, length, take, drop, sym, refl, ap, ◌∙◌, ap₂, arith, length-append, length-drop, ltb-false, Result, Ok, Err}
+use Rattle.std.proofs.lemmas.List.{drop_min, take_min}
 use Rattle.octets.specs.Bytes.{splice}
 use Rattle.octets.proofs.Parts.{splice_then}
 use Rattle.courier_core.specs.declared.Refusal.{Refusal}
 use Rattle.courier_core.specs.declared.Refusal.TheVariants as refusal
 use Rattle.table.specs.Rows.{join}
 use Rattle.table.specs.Codec.{table_of}
-use Rattle.table.specs.declared.Table.{Table}
+use Rattle.table.specs.declared.lent.Table.{Table}
 use Rattle.rows.specs.declared.Device.{Device}
 use Rattle.rows.specs.declared.Carried.{Carried}
 use Rattle.rows.specs.declared.Tombstone.{Tombstone}
@@ -30,20 +31,10 @@ use Rattle.screen.specs.Page.{left, Passed, RowsPut, page_says, held_in}
 
 module _ {A : Type 0} (l : List A) where
   drop_short : (n k : ℕ) → k ≡ min (length l) n → drop k l ≡ drop n l
-  drop_short n k e = go (leb n (length l)) refl
-    where
-      go : (b : Bool) → leb n (length l) ≡ b → drop k l ≡ drop n l
-      go true t = let same : k ≡ n = omega (arith, leb-true n (length l) t) in ap (λ (i : ℕ). drop i l) same
-      go false t =
-          let h : length l < n = leb-false n (length l) t in
-          drop_of_length-le l {i = k} (omega arith) ∙ sym (drop_of_length-le l {i = n} (omega arith))
+  drop_short n k e = let m : k ≡ min n (length l) = omega arith in rw m (drop_min n l)
 
   take_short : (n k : ℕ) → k ≡ min n (length l) → take k l ≡ take n l
-  take_short n k e = go (leb n (length l)) refl
-    where
-      go : (b : Bool) → leb n (length l) ≡ b → take k l ≡ take n l
-      go true t = let same : k ≡ n = omega (arith, leb-true n (length l) t) in ap (λ (i : ℕ). take i l) same
-      go false t = let h : length l < n = leb-false n (length l) t in take_all k l (omega arith) ∙ sym (take_all n l (omega arith))
+  take_short n k e = rw e (take_min n l)
 
 -- ---- the call
 

@@ -1,6 +1,6 @@
 -- Laws of the rows of a page: those that are passed, and the lines of those that follow.
 -- Assumes nothing.
-use Rattle.std.proofs.Common.{◌≡◌, ℕ, ◌+◌, ◌*◌, ◌<◌, ◌≤◌, List, [], ◌∷◌, ◌++◌, map, length, take, drop, sym, refl, ap, ◌∙◌, arith, length-append, drop-drop, take-add}
+use Rattle.std.proofs.Common.{◌≡◌, ℕ, ◌+◌, ◌*◌, ◌<◌, ◌≤◌, Bool, true, false, List, [], ◌∷◌, ◌++◌, map, length, take, drop, sym, refl, ap, ◌∙◌, arith, length-append, drop-drop, take-add}
 use mathlib.Core.List.{map-append}
 use Rattle.octets.specs.Bytes.{part, splice, num}
 use Rattle.octets.proofs.Parts.{splice_nil, splice_then, length_splice}
@@ -12,6 +12,7 @@ use Rattle.rows.specs.Rows.{carried_of, tombstone_of}
 use Rattle.model.specs.Screen.{HeldRow, carried_row, tombstone_row, slot_of, screen_line}
 use Rattle.model.proofs.ScreenLaws.{length_line}
 use Rattle.by_slot.proofs.SlotLaws.{next_carried, next_tombstone}
+use Rattle.by_slot.specs.BySlot.{TombstoneFirst, past}
 use Rattle.by_slot.specs.declared.held.Held.{Held}
 use Rattle.by_slot.specs.declared.Cursor.{Cursor}
 use Rattle.screen.specs.Page.{left, Passed, RowPut, Showing}
@@ -44,7 +45,7 @@ module _ (h : Held) where
   behind_next k all x y r e f = sym (ap (drop 1) (sym e ∙ f)) ∙ drop-drop 1 k all
 
   module _ (k : ℕ) (t : Cursor) (P : Passed h k t) where
-    pub passed_carried : t.carried < h.carried.count → (t.tombstones < h.tombstones.count → slot_c t.carried ≤ slot_t t.tombstones)
+    passed_carried : t.carried < h.carried.count → (t.tombstones < h.tombstones.count → slot_c t.carried ≤ slot_t t.tombstones)
         → Passed h (k + 1) (cursor (t.carried + 1) t.tombstones)
     passed_carried l g = record {
       rest = behind_next k (L 0 0) (L t.carried t.tombstones) _ _ P.rest (next_c t.carried t.tombstones l g);
@@ -53,7 +54,7 @@ module _ (h : Held) where
       below = P.below;
     }
 
-    pub passed_tombstone : t.tombstones < h.tombstones.count → (t.carried < h.carried.count → slot_t t.tombstones < slot_c t.carried)
+    passed_tombstone : t.tombstones < h.tombstones.count → (t.carried < h.carried.count → slot_t t.tombstones < slot_c t.carried)
         → Passed h (k + 1) (cursor t.carried (t.tombstones + 1))
     passed_tombstone l g = record {
       rest = behind_next k (L 0 0) (L t.carried t.tombstones) _ _ P.rest (next_t t.carried t.tombstones l g);
@@ -61,6 +62,10 @@ module _ (h : Held) where
       within = P.within;
       below = omega arith;
     }
+
+    pub passed_next : (b : Bool) → TombstoneFirst h t (slot_c t.carried) (slot_t t.tombstones) b → Passed h (k + 1) (past b t)
+    passed_next true f = let y = f.tombstone refl in passed_tombstone y.0 y.1
+    passed_next false f = let y = f.carried refl in passed_carried y.0 y.1
 
   -- ---- lines
 

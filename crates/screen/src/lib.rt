@@ -5,7 +5,7 @@ ghost use Rattle.std.specs.Prelude.{◌≡◌, ◌+◌, ◌*◌, ◌≤◌, min,
 ghost use Rattle.octets.specs.Bytes.{splice};
 ghost use Rattle.model.specs.Calls.{page as page_call};
 ghost use Rattle.model.specs.Lent.{Does, bytes_lent};
-ghost use Rattle.model.specs.Screen.{carried_row, tombstone_row, line_front, minutes_left, carried_end, screen_line, heading};
+ghost use Rattle.model.specs.Screen.{page_size, carried_row, tombstone_row, line_front, minutes_left, carried_end, screen_line, heading};
 ghost use Rattle.by_slot.specs.BySlot.{Reached};
 ghost use Rattle.screen.specs.Page.{Passed, RowPut, RowsFit, RowsPut, page_says, held_in};
 
@@ -18,6 +18,7 @@ use rows::{
 };
 use table::Table;
 
+// (Each function that writes a line at a place asks for the room of a line: a line of its own would be copied into the area.)
 // A line, its end among its bytes; the most rows of a page; the area that is asked for: heading and rows.
 pub const LINE: usize = 81;
 
@@ -73,30 +74,16 @@ fn put_minutes(area: &mut [u8], at: usize, minute: u32, expiry: u32)
     octets::copy_in(area, at, b"      past");
 }
 
-// A carried row's copies and depositor, a blank before each, and the line end.
+// A carried row's copies and depositor, a blank before each, and the line end, behind its minutes.
 fn put_carried_end(area: &mut [u8], at: usize, copies: u8, depositor: ContactId)
-    requires { at + 31 ≤ length area.old }
-    ensures { area.new ≡ splice area.old at (carried_end copies depositor.0) }
+    requires { at + 81 ≤ length area.old }
+    ensures { area.new ≡ splice area.old (at + 50) (carried_end copies depositor.0) }
 {
-    put_blanks(area, at, 1);
-    put_column(
-        area,
-        at + (COPIES - COPIES_FROM),
-        COPIES_WIDTH,
-        u64::from(copies),
-    );
-    put_blanks(area, at + (DEPOSITOR - 1 - COPIES_FROM), 1);
-    put_column(
-        area,
-        at + (DEPOSITOR - COPIES_FROM),
-        NUMBER_WIDTH,
-        depositor.0,
-    );
-    octets::copy_in(
-        area,
-        at + (DEPOSITOR + NUMBER_WIDTH - COPIES_FROM),
-        b"     \n",
-    );
+    put_blanks(area, at + COPIES_FROM, 1);
+    put_column(area, at + COPIES, COPIES_WIDTH, u64::from(copies));
+    put_blanks(area, at + (DEPOSITOR - 1), 1);
+    put_column(area, at + DEPOSITOR, NUMBER_WIDTH, depositor.0);
+    octets::copy_in(area, at + (DEPOSITOR + NUMBER_WIDTH), b"     \n");
 }
 
 // (A function for each kind of row: its letter and what stands behind the minutes differ, and what is the same is two calls.)
@@ -106,7 +93,7 @@ fn put_carried(area: &mut [u8], at: usize, row: Carried, minute: u32)
 {
     put_front(area, at, row.slot, b'C', row.tag);
     put_minutes(area, at + MINUTES, minute, row.expiry_min);
-    put_carried_end(area, at + COPIES_FROM, row.copies, row.depositor);
+    put_carried_end(area, at, row.copies, row.depositor);
 }
 
 // A tombstone has no copies and no depositor.
@@ -124,7 +111,7 @@ fn put_tombstone(area: &mut [u8], at: usize, row: Tombstone, minute: u32)
 
 // How many rows stand on the pages before a page, of so many in all; past the last page all do.
 fn rows_before(total: usize, page: u64) -> usize
-    ensures { result ≡ min total (19 * page) }
+    ensures { result ≡ min total (page_size * page) }
 {
     (PAGE_ROWS as u64).saturating_mul(page).min(total as u64) as usize
 }
@@ -136,16 +123,12 @@ fn pass_rows(rows: Held, k: usize) -> Cursor
 {
     let mut next = Cursor::default();
     for _row in 0..k {
-        if rows.tombstone_first(next) {
-            next.tombstones += 1;
-        } else {
-            next.carried += 1;
-        }
+        next = next.past(rows.tombstone_first(next));
     }
     next
 }
 
-// Writes the line of the next row.
+// Writes the line of the next row. (Each branch makes its own step: behind both, `Cursor::past` would have the proof ask again which it was.)
 fn put_next(rows: Held, next: &mut Cursor, minute: u32, area: &mut [u8], at: usize)
     requires { Reached rows next.old × (at + 81 ≤ length area.old) }
     ensures { RowPut rows.entry minute next.old at area.old next.new area.new }

@@ -14,7 +14,7 @@ const TOMBSTONE_AREA: usize = MAX_TOMBSTONES * TOMBSTONE_WIDTH;
 
 // What a post shows: its device and its two tables of held rows.
 // (Its own struct: the other programs' posts have areas of other sizes, and more of them, and one for all would have a parameter for each size.)
-#[derive(Clone, Copy)]
+#[derive(Clone, Copy, Default)]
 struct Post {
     device: Device,
     carried: [u8; CARRIED_AREA],
@@ -30,14 +30,6 @@ const AREA: usize = 2_000;
 // ---- posts
 
 impl Post {
-    fn fresh() -> Post {
-        Post {
-            device: Device::fresh(),
-            carried: [0; CARRIED_AREA],
-            tombstones: [0; TOMBSTONE_AREA],
-        }
-    }
-
     // One carried row more; the last one's place is taken where there is no room.
     fn carry(&mut self, row: Carried) {
         let n = self.device.carried.min(MAX_CARRIED - 1);
@@ -80,7 +72,7 @@ fn carried_row(slot: u64, depositor: u64, tag: u8, expiry: u32, copies: u8) -> C
 
 // Slots from 0 on: every third row is a tombstone.
 fn mixed(count: u8) -> Post {
-    let mut post = Post::fresh();
+    let mut post = Post::default();
     for i in 0..count {
         let slot = u64::from(i);
         let expiry = 90 + u32::from(i);
@@ -115,8 +107,8 @@ fn show(rt: &impl Print, what: &str, post: &Post, page: u64, size: usize) -> io:
 }
 
 fn counts(rt: &impl Print) -> io::Result<()> {
-    show(rt, "no row", &Post::fresh(), 0, PAGE)?;
-    show(rt, "no row", &Post::fresh(), 1, PAGE)?;
+    show(rt, "no row", &Post::default(), 0, PAGE)?;
+    show(rt, "no row", &Post::default(), 1, PAGE)?;
     show(rt, "1 row", &mixed(1), 0, PAGE)?;
     show(rt, "1 row", &mixed(1), 1, PAGE)?;
     show(rt, "19 rows", &mixed(19), 0, PAGE)?;
@@ -130,19 +122,19 @@ fn counts(rt: &impl Print) -> io::Result<()> {
 
 // The greatest numbers, and none.
 fn numbers(rt: &impl Print) -> io::Result<()> {
-    let mut post = Post::fresh();
+    let mut post = Post::default();
     post.carry(carried_row(0, 0, 0, 1, 0));
     post.carry(carried_row(u64::MAX - 1, u64::MAX, 0xFF, u32::MAX, 255));
     post.entomb(u64::MAX, 0xAB, u32::MAX);
     show(rt, "least and greatest numbers", &post, 0, PAGE)?;
-    let mut held = Post::fresh();
+    let mut held = Post::default();
     held.carry(carried_row(7, 12, 0x0A, u32::MAX, 1));
     show(rt, "the last minute", &held.at_clock(u64::MAX), 0, PAGE)
 }
 
 // A carried row and a tombstone that expire at minute 10: a second before it, at it, and a minute later.
 fn clocks(rt: &impl Print) -> io::Result<()> {
-    let mut post = Post::fresh();
+    let mut post = Post::default();
     post.carry(carried_row(3, 5, 0x11, 10, 6));
     post.entomb(4, 0x22, 10);
     show(rt, "clock 599", &post.at_clock(599), 0, PAGE)?;
@@ -159,7 +151,7 @@ fn areas(rt: &impl Print) -> io::Result<()> {
 
 // Slots that no call leaves: one of both kinds, and one that falls.
 fn garbage(rt: &impl Print) -> io::Result<()> {
-    let mut post = Post::fresh();
+    let mut post = Post::default();
     post.carry(carried_row(9, 5, 0x11, 100, 6));
     post.carry(carried_row(2, 5, 0x33, 100, 6));
     post.entomb(9, 0x22, 100);

@@ -3,33 +3,23 @@
 use mathlib.Core.Path.{◌≡◌, refl, sym, ap, ap₂, ◌∙◌}
 use Rattle.std.proofs.lemmas.Grind.{common_steps}
 use mathlib.Core.List.{List, [], ◌∷◌, ◌++◌, append_assoc, append-nil}
-use Prim.Native.Nat.{ℕ, suc, ◌+◌, ◌-◌, ◌*◌, ◌/◌, ◌%◌, ◌^◌, ◌≤◌, ◌<◌}
+use Prim.Native.Nat.{ℕ, suc, ◌+◌, ◌-◌, ◌*◌, ◌/◌, ◌%◌, ◌≤◌, ◌<◌}
 use native.Mathlib.Numerals.{add-one}
 use native.Mathlib.Omega.{arith}
 use lib.ListN.{length, take, drop, set, get_or, replicate, length-append, length-drop, length-replicate, replicate-append-replicate}
 use lib.Seq.{take_at, set_at, take-suc, take_all}
 use Rattle.octets.specs.Bytes.{splice, be}
-use Rattle.octets.proofs.Parts.{splice_zeros, splice_then, take_written}
-use Rattle.octets.proofs.Numbers.{length_be, be_append, be_mod}
+use Rattle.octets.proofs.Parts.{splice_zeros, take_written}
+use Rattle.octets.proofs.Numbers.{length_be}
 use Rattle.sha384.specs.Padding.{zero_bits, padding}
 use Rattle.sha384.specs.Sha384.{bytes, digest}
-
--- ---- the length of the message in bits
-
--- its two words
-bits : (n : ℕ) → be 8 (n / 2 ^ 61) ++ be 8 (n * 2 ^ 3 % 2 ^ 64) ≡ be 16 (8 * n)
-bits n =
-    let hi : n / 2 ^ 61 ≡ 8 * n / 2 ^ 64 = omega arith in
-    let lo : n * 2 ^ 3 ≡ 8 * n = omega arith in
-    grind (arith, be_append 8 8 (8 * n), be_mod 8 0 (8 * n))
 
 -- ---- the padded end
 
 -- the rest v of a message, the byte 0x80, z zeros, and sixteen bytes more: e in all
-built : (v hi lo : List ℕ) (r z e : ℕ) {x y w : List ℕ} → length v ≡ r → e ≡ r + 17 + z → e ≤ 256 → length hi ≡ 8 → length lo ≡ 8
-    → x ≡ splice (replicate 256 0) 0 v → y ≡ splice (set x r 0x80) (e - 16) hi → w ≡ splice y (e - 8) lo
-    → take e w ≡ v ++ (0x80 ∷ replicate z 0 ++ (hi ++ lo))
-built v hi lo r z e {x} {y} {w} lv ee h lh ll ex ey ew =
+built : (v b : List ℕ) (r z e : ℕ) {x y : List ℕ} → length v ≡ r → e ≡ r + 17 + z → e ≤ 256 → length b ≡ 16
+    → x ≡ splice (replicate 256 0) 0 v → y ≡ splice (set x r 0x80) (e - 16) b → take e y ≡ v ++ (0x80 ∷ replicate z 0 ++ b)
+built v b r z e {x} {y} lv ee h lb ex ey =
     let k : ℕ = 255 - r - z in
     let front : List ℕ = v ++ (0x80 ∷ replicate z 0) in
     let room : 256 - length v ≡ suc (z + k) = omega arith in
@@ -41,25 +31,23 @@ built v hi lo r z e {x} {y} {w} lv ee h lh ll ex ey ew =
     ∙ sym (append_assoc v (0x80 ∷ replicate z 0) (replicate k 0)) in
     let lf : length front ≡ e - 16 = omega (arith, length-append v (0x80 ∷ replicate z 0), length-replicate {A = ℕ} z 0) in
     let lx : length (set x r 0x80) ≡ 256 = omega (arith, ap length marked, length-append front (replicate k 0), length-replicate {A = ℕ} k 0) in
-    let both : w ≡ splice (set x r 0x80) (e - 16) (hi ++ lo) =
-    splice_then (set x r 0x80) y w (e - 16) (e - 8) hi lo ey ew (omega arith) (omega arith) in
-    let end : e ≡ e - 16 + length (hi ++ lo) = omega (arith, length-append hi lo) in
-    ap₂ take end both
-    ∙ take_written (set x r 0x80) (e - 16) (hi ++ lo) (omega arith)
-    ∙ ap (λ (l : List ℕ). l ++ (hi ++ lo)) (ap (take (e - 16)) marked ∙ take_at front (replicate k 0) (e - 16) lf)
-    ∙ append_assoc v (0x80 ∷ replicate z 0) (hi ++ lo)
+    let end : e ≡ e - 16 + length b = omega arith in
+    ap₂ take end ey
+    ∙ take_written (set x r 0x80) (e - 16) b (omega arith)
+    ∙ ap (λ (l : List ℕ). l ++ b) (ap (take (e - 16)) marked ∙ take_at front (replicate k 0) (e - 16) lf)
+    ∙ append_assoc v (0x80 ∷ replicate z 0) b
 
-pub padded_end : (m : List ℕ) (n e : ℕ) {x y w : List ℕ} → length m % 128 ≡ n % 128 → e ≡ n % 128 + 17 + zero_bits (8 * n) / 8
+pub padded_end : (m b : List ℕ) (n e : ℕ) {x y : List ℕ} → length m % 128 ≡ n % 128 → e ≡ n % 128 + 17 + zero_bits (8 * n) / 8
     → x ≡ splice (replicate 256 0) 0 (take (length m - 128 * (length m / 128)) (drop (128 * (length m / 128)) m))
-    → y ≡ splice (set x (n % 128) 0x80) (e - 16) (be 8 (n / 2 ^ 61)) → w ≡ splice y (e - 8) (be 8 (n * 2 ^ 3 % 2 ^ 64)) → take e w ≡ drop (128 * (length m / 128)) m ++ padding n
+    → b ≡ be 16 (8 * n) → y ≡ splice (set x (n % 128) 0x80) (e - 16) b → take e y ≡ drop (128 * (length m / 128)) m ++ padding n
 unfolding padding
-padded_end m n e lm ee ex ey ew =
+padded_end m b n e lm ee ex eb ey =
     let v : List ℕ = drop (128 * (length m / 128)) m in
     let z : ℕ = zero_bits (8 * n) / 8 in
     let lv : length v ≡ length m - 128 * (length m / 128) = length-drop (128 * (length m / 128)) m in
-    built v (be 8 (n / 2 ^ 61)) (be 8 (n * 2 ^ 3 % 2 ^ 64)) (n % 128) z e (omega arith) ee (omega arith)
-    (length_be 8 _) (length_be 8 _) (ex ∙ ap (splice (replicate 256 0) 0) (take_all (length m - 128 * (length m / 128)) v (omega arith))) ey ew
-    ∙ ap (λ (l : List ℕ). v ++ (0x80 ∷ replicate z 0 ++ l)) (bits n)
+    built v b (n % 128) z e (omega arith) ee (omega arith) (ap length eb ∙ length_be 16 _)
+    (ex ∙ ap (splice (replicate 256 0) 0) (take_all (length m - 128 * (length m / 128)) v (omega arith))) ey
+    ∙ ap (λ (l : List ℕ). v ++ (0x80 ∷ replicate z 0 ++ l)) eb
 
 -- ---- the digest
 

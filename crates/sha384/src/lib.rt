@@ -5,7 +5,7 @@ ghost use Rattle.std.specs.Prelude.{◌≡◌, ◌++◌, ◌+◌, ◌*◌, ◌/�
 ghost use Rattle.sha384.specs.Padding.{zero_bits, padding};
 ghost use Rattle.sha384.specs.Sha384.{H0, hashed, digest, sha384};
 
-use octets::{copy_in, put_u64};
+use octets::{copy_in, put_array, put_u64};
 use sha_block::{BLOCK, block};
 
 // The bytes at the end of a padded message that say its length in bits.
@@ -65,8 +65,7 @@ fn padded_end(m: &[u8], n: usize, e: usize) -> [u8; 2 * BLOCK]
     let mut x = [0; 2 * BLOCK];
     copy_in(&mut x, 0, &m[from..]);
     x[n % BLOCK] = 0x80;
-    put_u64(&mut x, e - LENGTH, (n >> 61) as u64);
-    put_u64(&mut x, e - 8, (n << 3) as u64);
+    put_array(&mut x, e - LENGTH, ((n as u128) << 3).to_be_bytes());
     x
 }
 

@@ -1,7 +1,7 @@
 // One block of SHA-384: FIPS 180-4, 6.4.2.
 #![tactic(auto)]
 
-ghost use Rattle.std.specs.Prelude.{◌≡◌, ℕ, ◌+◌, ◌≤◌, ◌<◌, List, length, take, slice_index};
+ghost use Rattle.std.specs.Prelude.{◌≡◌, ℕ, ◌+◌, ◌≤◌, ◌<◌, List, length, take};
 ghost use Rattle.octets.specs.Bytes.{part};
 ghost use Rattle.sha_block.specs.Loop.{turns};
 ghost use Rattle.sha_block.specs.Constants.{K};
@@ -183,8 +183,8 @@ fn four(w: &[u64; 80], s: [u64; 8], t: usize) -> [u64; 8]
     one(w, c, t + 3)
 }
 
-// Step 3: the eighty rounds. (An array that a call answers is assigned through a local: assigned straight, the borrow check does not cover
-// it.)
+// Step 3: the eighty rounds. (Not `s = four(..)`: the borrow check does not cover a call's result that is assigned to a variable that holds an
+// array.)
 #[tactic(auto, using(crate::proofs::Loop::turns_none))]
 fn rounds(w: &[u64; 80], h: [u64; 8]) -> [u64; 8]
     ensures { result ≡ turns (round w.now) 80 0 h }

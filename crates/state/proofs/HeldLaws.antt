@@ -174,20 +174,20 @@ module _ (r : Carried) (p : ProperCarried r) where
 
   pub length_head : length (carried_head r) ≡ 46
   unfolding carried_head
-  length_head = length-append front (header_bytes r.header) ∙ omega (arith, length_front, length_header r.header p.header)
+  length_head = length-append front (header_bytes r.header) ∙ omega (arith, length_front, length_header r.header p.header.tag p.header.c)
 
   -- whatever stands after a head, its fields are read back
   pub head_back : (x : List ℕ) → carried_of (carried_head r ++ x) ≡ r
   unfolding carried_of carried_head
   head_back x =
       let h : List ℕ = front ++ header_bytes r.header in
-      let lh : length h ≡ 46 = length-append front (header_bytes r.header) ∙ omega (arith, length_front, length_header r.header p.header) in
+      let lh : length h ≡ 46 = length-append front (header_bytes r.header) ∙ omega (arith, length_front, length_header r.header p.header.tag p.header.c) in
       let d : num (part (h ++ x) 1 8) ≡ r.depositor.0 =
       ap num (part_left h x 1 8 (omega arith) ∙ part_left front (header_bytes r.header) 1 8 (omega (arith, length_front))
       ∙ part_hit (0 ∷ []) (be 8 r.depositor.0) 1 8 refl (length_be 8 r.depositor.0))
       ∙ num_be 8 r.depositor.0 p.depositor in
       let e : header_of (part (h ++ x) 9 37) ≡ r.header =
-      ap header_of (part_left h x 9 37 (omega arith) ∙ part_hit front (header_bytes r.header) 9 37 length_front (length_header r.header p.header))
+      ap header_of (part_left h x 9 37 (omega arith) ∙ part_hit front (header_bytes r.header) 9 37 length_front (length_header r.header p.header.tag p.header.c))
       ∙ header_of_bytes r.header p.header in
       λ i. record { depositor = record { 0 = d i }; header = e i }
 

@@ -1,7 +1,7 @@
 -- Laws of rows as they are written: their bytes, run by run, and a blob area.
 -- Assumes nothing.
-use Rattle.std.proofs.Common.{◌≡◌, ℕ, suc, ◌+◌, ◌-◌, ◌^◌, ◌<◌, ◌≤◌, min, true, false, ltb, List, [], ◌∷◌, ◌++◌, length, take, drop, replicate, sym, refl, ap, ◌∙◌, arith, length-append, take-append-drop, length-take, le-ltb, lt-ltb}
-use lib.Seq.{take-append_seam}
+use Rattle.std.proofs.Common.{◌≡◌, ℕ, suc, ◌+◌, ◌-◌, ◌^◌, ◌<◌, ◌≤◌, min, true, false, ltb, List, [], ◌∷◌, ◌++◌, length, take, replicate, sym, refl, ap, ◌∙◌, arith, length-append, length-take, le-ltb, lt-ltb}
+use Rattle.std.proofs.lemmas.List.{take_min}
 use Rattle.octets.specs.Bytes.{splice, be}
 use Rattle.octets.proofs.Parts.{splice_then, splice_all}
 use Rattle.octets.proofs.Numbers.{length_be}
@@ -67,12 +67,6 @@ module _ (row area : List ℕ) where
   row_written b n after h eb en ea =
       let e : ltb (length area) 2110 ≡ false = le-ltb (length area) 2110 h in
       record { answer = ap Ok (sym en ∙ ap length eb) ∙ rw e; number = rw e; area = ea ∙ ap (splice area 0) eb ∙ rw e }
-
--- what lies inside a cell, by its length
-take_min : (m : ℕ) (l : List ℕ) → take (min m (length l)) l ≡ take m l
-take_min m l =
-    ap (λ (k : ℕ). take k l) (sym (length-take m l)) ∙ ap (take (length (take m l))) (sym (take-append-drop m l))
-    ∙ take-append_seam (take m l) (drop m l)
 
 -- a carried row: its head, then what lies inside the cell
 pub carried_written : (r : Carried) (ct area h x after : List ℕ) (n : ℕ) → 2110 ≤ length area → h ≡ carried_head r → length h ≡ 46

@@ -1,7 +1,7 @@
 // state.rs: the courier configuration, and held rows as blobs, written and read.
 #![tactic(auto)]
 
-ghost use Rattle.std.specs.Prelude.{◌≡◌, ◌+◌, min, length, nat_le, OnSome};
+ghost use Rattle.std.specs.Prelude.{◌≡◌, ◌+◌, min, length, nat_le};
 ghost use Rattle.state.specs.Config.{IsConfigured, config_default};
 ghost use Rattle.state.specs.Held.{carried, tombstone, carried_head, held_row, RowWritten, carried_in, tombstone_in, held_decode, held_read};
 ghost use Rattle.state.specs.Reader.{byte_at, array_at, u32_at, u64_at, StandsAt, Steps};
@@ -79,14 +79,14 @@ pub struct Tombstone {
 // ---- the form of a row
 
 // The bytes of a ciphertext's cell, of a carried row before its ciphertext, and of the area for any row.
-pub const CELL: usize = 2_064;
+pub const CELL: usize = courier::COURIER_INNER_MAX + chain::TAG_LEN;
 
 pub const CARRIED_HEAD: usize = HEADER_AT + courier::ENVELOPE_HEADER;
 
 pub const BLOB: usize = CARRIED_HEAD + CELL;
 
 // The bytes of a tombstone's row.
-pub const TOMBSTONE_ROW: usize = 37;
+pub const TOMBSTONE_ROW: usize = EXPIRY_AT + 4;
 
 // A row's first byte.
 const CARRIED_KIND: u8 = 0;
@@ -104,7 +104,7 @@ const SECRET_AT: usize = 17;
 
 const EXPIRY_AT: usize = 33;
 
-// ---- the form of the saved file, which `saved` writes and `load_tests` reads
+// ---- the form of the saved file, which `saved` writes, and `load_tests` and `load` read
 
 // A file starts with its mark and the next slot; behind them stand its records.
 pub const FILE_HEAD: usize = MARK_LEN + 8;
@@ -118,14 +118,14 @@ pub const SLOT: usize = MARK_LEN;
 // Where a record has the length of its blob.
 pub const LEN: usize = SLOT + 8;
 
-const MARK_LEN: usize = 2;
+pub const MARK_LEN: usize = 2;
 
-// What a mark stands before, by its second letter: the next slot, a carried row's record, a tombstone's. The first letter is `H`.
-pub const NEXT_LETTER: u8 = b'N';
+// What a file starts with, the record of a carried row, and that of a tombstone.
+pub const FILE_MARK: [u8; MARK_LEN] = *b"HN";
 
-pub const CARRIED_LETTER: u8 = b'C';
+pub const CARRIED_MARK: [u8; MARK_LEN] = *b"HC";
 
-pub const TOMBSTONE_LETTER: u8 = b'T';
+pub const TOMBSTONE_MARK: [u8; MARK_LEN] = *b"HT";
 
 // ---- a row, written
 

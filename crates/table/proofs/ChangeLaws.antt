@@ -1,5 +1,6 @@
 -- Each change of a table as the write that makes it: a row behind the last, put in, taken out, put in another's place.
 -- Assumes nothing.
+use Rattle.std.proofs.Common.{mul-le-mul_right}
 use mathlib.Core.Path.{◌≡◌, ap, ap₂, ◌∙◌}
 use mathlib.Core.List.{List, [], ◌∷◌, ◌++◌}
 use Prim.Native.Nat.{ℕ, ◌+◌, ◌-◌, ◌*◌, ◌≤◌, ◌<◌}
@@ -10,7 +11,7 @@ use Rattle.octets.proofs.Parts.{length_part, splice_grow, splice_under}
 use Rattle.table.specs.Lists.{insert_at, remove_at, replace_at}
 use Rattle.table.specs.Rows.{rows, join, RowsNow}
 use Rattle.table.proofs.ListLaws.{length_insert_at, length_remove_at, length_replace_at, all_push, all_insert_at, all_remove_at, all_replace_at}
-use Rattle.table.proofs.RowLaws.{mul_le, row_in, next_row, length_rows, join_rows, join_take, join_drop, join_append, join_snoc, Wide, wide_rows, splice_written, rows_now}
+use Rattle.table.proofs.RowLaws.{row_in, next_row, length_rows, join_rows, join_take, join_drop, join_append, join_snoc, Wide, wide_rows, splice_written, rows_now}
 
 module _ (w n : ℕ) (a : List ℕ) (bytes : Bytes a) (fits : n * w ≤ length a) where
   abbrev R : List (List ℕ)
@@ -38,7 +39,7 @@ module _ (w n : ℕ) (a : List ℕ) (bytes : Bytes a) (fits : n * w ≤ length a
       → x ≡ splice a (i * w + w) (part a (i * w) (n * w - i * w)) → y ≡ splice x (i * w) r → RowsNow w a (insert_at i r R) m y
   unfolding join insert_at
   inserted x y r i m h k lr em ex ey =
-      let g = mul_le w h in
+      let g = mul-le-mul_right w h in
       let v : List ℕ = part a (i * w) (n * w - i * w) in
       let lv : length v ≡ n * w - i * w = length_part a (i * w) (n * w - i * w) (omega arith) in
       let e : join (insert_at i r R) ≡ take (i * w) a ++ (r ++ v) =
@@ -57,7 +58,7 @@ module _ (w n : ℕ) (a : List ℕ) (bytes : Bytes a) (fits : n * w ≤ length a
       let v : List ℕ = part a (i * w + w) (n * w - (i * w + w)) in
       let e : join (remove_at i R) ≡ take (i * w) a ++ v =
       join_append (take i R) (drop (i + 1) R) ∙ ap₂ (λ (p q : List ℕ). p ++ q) (join_take w i n a (omega arith)) (past i h) in
-      rows_now a x (remove_at i R) m bytes (all_remove_at i R wide) (omega (arith, mul_le {i = m} {n = n} w (omega arith)))
+      rows_now a x (remove_at i R) m bytes (all_remove_at i R wide) (omega (arith, mul-le-mul_right {m = m} {n = n} w (omega arith)))
       (omega (arith, length_remove_at R i (omega (arith, size)), size))
       (ex ∙ ap (λ (j : ℕ). splice a (i * w) (part a (i * w + w) j)) s ∙ splice_written a v (i * w) (remove_at i R) (omega arith) e)
 

@@ -8,7 +8,7 @@ use native.Mathlib.Numerals.{add-one}
 use native.Mathlib.Omega.{arith}
 use lib.ListN.{length, take, drop, get_or, drop_of_length-le}
 use Rattle.octets.specs.Bytes.{part, same_bytes}
-use Rattle.octets.proofs.Parts.{part_part, part_whole}
+use Rattle.octets.proofs.Parts.{part_part}
 use Rattle.std.specs.Prelude.{Option, Some, None}
 use Rattle.table.specs.Lists.{All, none, more, count_by, any, position_from, position, is_at, unwrap_or}
 use Rattle.table.specs.Rows.{rows, has_key}
@@ -134,9 +134,9 @@ key_run o n key b e = ap (λ (k : ℕ). same_bytes (part b o k) key) e
 
 module _ (w n : ℕ) (a key : List ℕ) (o : ℕ) (fits : o + length key ≤ w) where
   -- what a comparison at row i says of the rows from i on
-  pub find_next : (i : ℕ) → i < n → (b d : Bool) → d ≡ same_bytes (part a (i * w + o) (length key)) (part key 0 (length key)) → d ≡ b
+  pub find_next : (i : ℕ) → i < n → (b d : Bool) → d ≡ same_bytes (part a (i * w + o) (length key)) key → d ≡ b
       → position_from i (has_key o key) (drop i (rows w n a)) ≡ cond b (Some i) (position_from (i + 1) (has_key o key) (drop (i + 1) (rows w n a)))
   unfolding has_key
   find_next i h b d e t =
       position_next (has_key o key) (rows w n a) i (part a (i * w) w) b (rows_next w i n a h)
-      (ap₂ same_bytes (part_part a (i * w) w o (length key) fits) (sym (part_whole key (length key) refl)) ∙ sym e ∙ t)
+      (ap (λ (r : List ℕ). same_bytes r key) (part_part a (i * w) w o (length key) fits) ∙ sym e ∙ t)

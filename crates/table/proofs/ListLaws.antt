@@ -4,15 +4,11 @@ use mathlib.Core.Path.{◌≡◌, refl, sym, ap, ap₂, ◌∙◌}
 use mathlib.Core.Bool.{Bool, true, false, cond, ◌||◌, or_assoc}
 use mathlib.Core.List.{List, [], ◌∷◌, ◌++◌, append_assoc, map, map-append, flat_map}
 use Prim.Native.Nat.{ℕ, zero, suc, ◌+◌, ◌-◌, ◌≤◌, ◌<◌}
-use native.Mathlib.Numerals.{add-one}
 use native.Mathlib.Omega.{arith}
 use lib.ListN.{length, take, drop, get_or, length-append, length-drop}
-use lib.Seq.{drop-cons, length-take-le}
+use lib.Seq.{length-take-le}
+use Rattle.std.proofs.lemmas.List.{take-map, drop-map}
 use Rattle.table.specs.Lists.{All, none, more, insert_at, remove_at, replace_at, filter, count_by, any}
-
--- the element at an index, and those after it
-pub drop_next : {A : Type 0} (xs : List A) (i : ℕ) (d : A) → i < length xs → drop i xs ≡ get_or xs i d ∷ drop (i + 1) xs
-drop_next xs i d h = rw (add-one, drop-cons xs i d)
 
 -- of two lists, what is taken of the second is what the first leaves
 pub take_append : {A : Type 0} (n : ℕ) (x y : List A) → take n (x ++ y) ≡ take n x ++ take (n - length (take n x)) y
@@ -161,27 +157,17 @@ module _ {A : Type 0} (p : A → Bool) where
 -- ---- a map
 
 module _ {A B : Type 0} (f : A → B) where
-  pub map_take : (i : ℕ) (x : List A) → map f (take i x) ≡ take i (map f x)
-  map_take zero x = refl
-  map_take (suc i) [] = refl
-  map_take (suc i) (r ∷ x) = ap (λ (l : List B). f r ∷ l) (map_take i x)
-
-  pub map_drop : (i : ℕ) (x : List A) → map f (drop i x) ≡ drop i (map f x)
-  map_drop zero x = refl
-  map_drop (suc i) [] = refl
-  map_drop (suc i) (r ∷ x) = map_drop i x
-
   pub map_insert_at : (i : ℕ) (r : A) (x : List A) → map f (insert_at i r x) ≡ insert_at i (f r) (map f x)
   unfolding insert_at
-  map_insert_at i r x = map-append f (take i x) (r ∷ drop i x) ∙ ap₂ (λ (p q : List B). p ++ (f r ∷ q)) (map_take i x) (map_drop i x)
+  map_insert_at i r x = map-append f (take i x) (r ∷ drop i x) ∙ ap₂ (λ (p q : List B). p ++ (f r ∷ q)) (sym (take-map f i x)) (sym (drop-map f i x))
 
   pub map_remove_at : (i : ℕ) (x : List A) → map f (remove_at i x) ≡ remove_at i (map f x)
   unfolding remove_at
-  map_remove_at i x = map-append f (take i x) (drop (i + 1) x) ∙ ap₂ (λ (p q : List B). p ++ q) (map_take i x) (map_drop (i + 1) x)
+  map_remove_at i x = map-append f (take i x) (drop (i + 1) x) ∙ ap₂ (λ (p q : List B). p ++ q) (sym (take-map f i x)) (sym (drop-map f (i + 1) x))
 
   pub map_replace_at : (i : ℕ) (r : A) (x : List A) → map f (replace_at i r x) ≡ replace_at i (f r) (map f x)
   unfolding replace_at
-  map_replace_at i r x = map-append f (take i x) (r ∷ drop (i + 1) x) ∙ ap₂ (λ (p q : List B). p ++ (f r ∷ q)) (map_take i x) (map_drop (i + 1) x)
+  map_replace_at i r x = map-append f (take i x) (r ∷ drop (i + 1) x) ∙ ap₂ (λ (p q : List B). p ++ (f r ∷ q)) (sym (take-map f i x)) (sym (drop-map f (i + 1) x))
 
   -- a test of what is mapped, and the same test before
   module _ (p : A → Bool) (q : B → Bool) (same : (r : A) → p r ≡ q (f r)) where
@@ -198,8 +184,3 @@ module _ {A B : Type 0} (f : A → B) where
     unfolding count_by
     count_map [] = refl
     count_map (r ∷ x) = ap₂ (λ (b : Bool) (n : ℕ). cond b (suc n) n) (same r) (count_map x)
-
-    pub any_map : (x : List A) → any p x ≡ any q (map f x)
-    unfolding any
-    any_map [] = refl
-    any_map (r ∷ x) = ap₂ ◌||◌ (same r) (any_map x)

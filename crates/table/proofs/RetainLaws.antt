@@ -5,7 +5,7 @@ use mathlib.Core.Path.{◌≡◌, refl, sym, ap, ◌∙◌}
 use mathlib.Core.Bool.{Bool, true, false, cond}
 use mathlib.Core.List.{List, [], ◌∷◌, ◌++◌, append-nil}
 use Prim.Native.Nat.{ℕ, ◌+◌, ◌*◌, ◌≤◌, ◌<◌}
-use native.Mathlib.Nat.{add-zero}
+use native.Mathlib.Nat.{mul-le-mul_right, add-zero}
 use native.Mathlib.Numerals.{add-one}
 use native.Mathlib.Omega.{arith}
 use lib.ListN.{length, take, length-append}
@@ -15,7 +15,7 @@ use Rattle.octets.proofs.Parts.{read_past, splice_next, length_part, length_spli
 use Rattle.table.specs.Lists.{filter}
 use Rattle.table.specs.Rows.{rows, written, join, RowsNow, Retaining}
 use Rattle.table.proofs.ListLaws.{all_take, all_filter, filter_append}
-use Rattle.table.proofs.RowLaws.{row_in, mul_le, length_rows, get_d_rows, wide_rows, length_join, join_append, splice_written, written_splice, written_none, rows_now}
+use Rattle.table.proofs.RowLaws.{row_in, length_rows, get_d_rows, wide_rows, length_join, join_append, splice_written, written_splice, written_none, rows_now}
 
 module _ (p : List ℕ → Bool) (w n : ℕ) (a : List ℕ) where
   abbrev R : List (List ℕ)
@@ -37,7 +37,7 @@ module _ (p : List ℕ → Bool) (w n : ℕ) (a : List ℕ) where
     pub retain_end : Bytes a → n ≤ i → RowsNow w a (filter p R) k x
     retain_end b h =
         let e : K i ≡ filter p R = ap (filter p) (take_all i R (omega (arith, length_rows w n a))) in
-        rows_now a x (filter p R) k b (all_filter p R (wide_rows w n a fits)) (omega (arith, mul_le {i = k} {n = n} w (omega (arith, I.below, I.within))))
+        rows_now a x (filter p R) k b (all_filter p R (wide_rows w n a fits)) (omega (arith, mul-le-mul_right {m = k} {n = n} w (omega (arith, I.below, I.within))))
         (I.count ∙ ap length e) (I.area ∙ ap (written a) e)
 
     module _ (h : i < n) where
@@ -45,7 +45,7 @@ module _ (p : List ℕ → Bool) (w n : ℕ) (a : List ℕ) where
       pub retain_field : (o m : ℕ) → o + m ≤ w → part x (i * w + o) m ≡ part a (i * w + o) m
       retain_field o m g =
           let l = length_kept in
-          let q = mul_le w I.below in
+          let q = mul-le-mul_right w I.below in
           let r = row_in i n w h in
           ap (λ (y : List ℕ). part y (i * w + o) m) (I.area ∙ written_splice a (K i))
           ∙ read_past a 0 (join (K i)) (i * w + o) m (omega arith) (omega arith)
@@ -83,7 +83,7 @@ module _ (p : List ℕ → Bool) (w n : ℕ) (a : List ℕ) where
           let r : List ℕ = part a (i * w) w in
           let d : K (i + 1) ≡ K i ++ (r ∷ []) = K-next true e in
           let l = length_kept in
-          let q = mul_le w I.below in
+          let q = mul-le-mul_right w I.below in
           let g = row_in i n w h in
           let lr : length r ≡ w = length_part a (i * w) w (omega arith) in
           let z : k * w ≡ 0 + length (join (K i)) = omega arith in

@@ -15,12 +15,9 @@ use Rattle.table.specs.Rows.{held, rows, all_rows, join, written, Fits, RowsNow}
 
 -- ---- products: `omega` takes i * w as an unknown, so these say what is known of it
 
-pub mul_le : {i n : ℕ} (w : ℕ) → i ≤ n → i * w ≤ n * w
-mul_le w h = mul-le-mul_right w h
-
 -- row i lies within n rows
 pub row_in : (i n w : ℕ) → i < n → i * w + w ≤ n * w
-row_in i n w h = omega (arith, suc-mul i w, mul_le {i = suc i} {n = n} w h)
+row_in i n w h = omega (arith, suc-mul i w, mul-le-mul_right {m = suc i} {n = n} w h)
 
 -- row i as the code takes it out of an area, and its length
 module _ (a : List ℕ) (w i n : ℕ) where
@@ -29,10 +26,6 @@ module _ (a : List ℕ) (w i n : ℕ) where
 
   pub length_row : i < n → n * w ≤ length a → length (part a (i * w) (i * w + w - i * w)) ≡ w
   length_row h f = ap length row_at ∙ length_part a (i * w) w (omega (arith, row_in i n w h))
-
--- and row i of those that fit within their area
-pub row_of_lem : (i w len : ℕ) → i < len / w → i * w + w ≤ len
-row_of_lem i w len h = omega (arith, row_in i (len / w) w h, div-mul-le_self len w)
 
 pub next_row : (i w : ℕ) → (i + 1) * w ≡ i * w + w
 next_row i w = add-mul i 1 w ∙ ap (λ (k : ℕ). i * w + k) (one-mul w)
@@ -44,7 +37,7 @@ sub_rows n i w = mul_comm (n - i) w ∙ mul-sub w n i ∙ ap₂ (λ (x y : ℕ).
 
 pub held_inside : (len w count : ℕ) → held len w count * w ≤ len
 unfolding held
-held_inside len w count = omega (arith, mul_le {i = min count (len / w)} {n = len / w} w (min-le_right count (len / w)), div-mul-le_self len w)
+held_inside len w count = omega (arith, mul-le-mul_right {m = min count (len / w)} {n = len / w} w (min-le_right count (len / w)), div-mul-le_self len w)
 
 -- it is at most the count, and at most what fits
 pub held_le : (len w count : ℕ) → (held len w count ≤ count) × (held len w count ≤ len / w)
@@ -62,7 +55,7 @@ held_held len w count n z e = sym (held_all len w n z (omega (arith, ap (λ (k :
 
 pub fits : (len w count : ℕ) → Fits len w count (min count (len / w))
 unfolding held
-fits len w count = record { is = refl; inside = omega (arith, mul_le {i = min count (len / w)} {n = len / w} w (min-le_right count (len / w)), div-mul-le_self len w) }
+fits len w count = record { is = refl; inside = omega (arith, mul-le-mul_right {m = min count (len / w)} {n = len / w} w (min-le_right count (len / w)), div-mul-le_self len w) }
 
 pub fits_at : {len w k m r : ℕ} → k ≡ m → Fits len w k r → Fits len w m r
 fits_at {len} {w} e f = record { is = f.is ∙ ap (held len w) e; inside = f.inside }

@@ -4,7 +4,7 @@ use mathlib.Core.Path.{◌≡◌, refl, sym, ap, ap₂, ◌∙◌, subst}
 use mathlib.Core.Bool.{Bool}
 use mathlib.Core.List.{List, [], ◌∷◌, ◌++◌, map, map-append, append-nil}
 use Prim.Native.Nat.{ℕ, zero, suc, ◌+◌, ◌*◌, ◌/◌, ◌≤◌, ◌<◌}
-use native.Mathlib.Nat.{zero-min}
+use native.Mathlib.Nat.{mul-le-mul_right, zero-min}
 use native.Mathlib.Omega.{arith}
 use lib.ListN.{length, drop, get_or, length-map}
 use Rattle.octets.specs.Bytes.{Bytes, part, splice}
@@ -12,8 +12,9 @@ use Rattle.std.specs.Prelude.{Option}
 use Rattle.table.specs.Lists.{All, none, more, insert_at, remove_at, replace_at, filter, any, position, is_at}
 use Rattle.table.specs.Rows.{held, rows, join, written, RowsNow}
 use Rattle.table.specs.Codec.{Codec, CodecLaws, table_of, with_table, TableNow}
-use Rattle.table.proofs.ListLaws.{all_push, all_insert_at, all_remove_at, all_replace_at, all_filter, all_map, map_drop, map_insert_at, map_remove_at, map_replace_at, filter_map}
-use Rattle.table.proofs.RowLaws.{mul_le, held_inside, held_all, held_held, length_rows, rows_next, Wide, all_rows_lem, length_join, rows_join, length_written, written_splice, written_over, written_push}
+use Rattle.std.proofs.lemmas.List.{drop-map}
+use Rattle.table.proofs.ListLaws.{all_push, all_insert_at, all_remove_at, all_replace_at, all_filter, all_map, map_insert_at, map_remove_at, map_replace_at, filter_map}
+use Rattle.table.proofs.RowLaws.{held_inside, held_all, held_held, length_rows, rows_next, Wide, all_rows_lem, length_join, rows_join, length_written, written_splice, written_over, written_push}
 use Rattle.table.proofs.FindLaws.{position_map, position_any}
 
 -- ---- what is read
@@ -33,8 +34,8 @@ module _ {A : Type 0} (c : Codec A) (count : ℕ) (a : List ℕ) where
   pub table_next : (i : ℕ) → i < n → drop i (table_of c count a) ≡ c.decode (part a (i * w) w) ∷ drop (i + 1) (table_of c count a)
   unfolding table_of
   table_next i h =
-      sym (map_drop c.decode i (rows w n a)) ∙ ap (map c.decode) (rows_next w i n a h)
-      ∙ ap (λ (l : List A). c.decode (part a (i * w) w) ∷ l) (map_drop c.decode (i + 1) (rows w n a))
+      drop-map c.decode i (rows w n a) ∙ ap (map c.decode) (rows_next w i n a h)
+      ∙ ap (λ (l : List A). c.decode (part a (i * w) w) ∷ l) (sym (drop-map c.decode (i + 1) (rows w n a)))
 
   pub get_d_table : (i : ℕ) (d : A) → i < n → get_or (table_of c count a) i d ≡ c.decode (part a (i * w) w)
   get_d_table i d h = go (table_of c count a) i (table_next i h)
@@ -144,7 +145,7 @@ module _ {A : Type 0} {c : Codec A} {P : A → Type 0} (laws : CodecLaws c P) wh
   pub with_over : (a : List ℕ) (ts us : List A) → All P ts → All P us → length ts ≤ length us → with_table c (with_table c a ts) us ≡ with_table c a us
   unfolding with_table
   with_over a ts us p q h =
-      written_over a (map c.encode ts) (map c.encode us) (omega (arith, length_encoded ts p, length_encoded us q, mul_le W h))
+      written_over a (map c.encode ts) (map c.encode us) (omega (arith, length_encoded ts p, length_encoded us q, mul-le-mul_right W h))
 
   -- a row behind those that stand at the front of an area
   pub with_push : (a x y b : List ℕ) (ts : List A) (t : A) (at : ℕ) → All P ts → at ≡ length ts * W → x ≡ with_table c a ts → b ≡ c.encode t

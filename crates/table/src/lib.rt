@@ -1,16 +1,20 @@
 // Tables of rows of any width in a lent area of bytes: one set of functions, and of proofs, for every width.
 // A table's rows stand at the front of its area, in the order in which they are read; n says how many there are.
-// (The functions take area, width and n, and the methods of Table stand over them: an area that changes is no Table, which is lent to be read. As a
-// const parameter the width would be written at each call all the same, where a Table has it from its type.)
+// (The functions take area, width and n, and the methods of Table stand over those that read: what changes an area is no method of a Table, which is
+// lent its area to be read. As a const parameter the width would be written at each call all the same, where a Table has it from its type.)
 #![tactic(auto)]
 
 ghost use Rattle.std.specs.Prelude.{◌≡◌, ℕ, Bool, List, [], ◌∷◌, ◌++◌, ◌+◌, ◌-◌, ◌*◌, ◌≤◌, ◌<◌, length};
 ghost use Rattle.octets.specs.Bytes.{splice, part};
 ghost use Rattle.table.specs.Lists.{insert_at, remove_at, replace_at, filter, count_by, position, any};
-ghost use Rattle.table.specs.Rows.{rows, held, has_key, Fits, RowsNow};
+ghost use Rattle.table.specs.Rows.{rows, has_key, Fits, RowsNow};
+ghost use Rattle.table.specs.Tables.{rows_held};
 ghost use Rattle.table.specs.Tests.{TakesRows, TestsRows};
 
+mod lent;
 pub mod typed;
+
+pub use lent::Table;
 
 // How many rows an area of len bytes has by a count that may be anything. (How many it has room for is `len / width`, written so where a call asks whether one
 // more fits.)
@@ -68,12 +72,7 @@ pub fn find(area: &[u8], width: usize, n: usize, offset: usize, key: &[u8]) -> O
     requires { (n * width ≤ length area.now) × (offset + length key.now ≤ width) }
     ensures { result ≡ position (has_key offset key.now) (rows width n area.now) }
 {
-    position(
-        area,
-        width,
-        n,
-        |row| octets::same(row, offset, key, 0, key.len()),
-    )
+    position(area, width, n, |row| octets::same(row, offset, key))
 }
 
 // The same, by a walk through every row, from the last to the first. It does not stop at a row that has the key, as `find` does, so its time does
@@ -82,28 +81,16 @@ pub fn scan(area: &[u8], width: usize, n: usize, offset: usize, key: &[u8]) -> O
     requires { (n * width ≤ length area.now) × (offset + length key.now ≤ width) }
     ensures { result ≡ position (has_key offset key.now) (rows width n area.now) }
 {
-    let len = key.len();
     let mut found = None;
     for i in (0..n).rev() {
-        if octets::same(area, i * width + offset, key, 0, len) {
+        if octets::same(area, i * width + offset, key) {
             found = Some(i);
         }
     }
     found
 }
 
-// A table that is read: rows of W bytes at the front of an area, by a count that may be anything.
-// (It is made by a literal of its two fields. With constructors, methods of Device in contacts, each of some twenty-five callers' proofs had to
-// rewrite by the constructor's equations; tried.)
-#[derive(Clone, Copy)]
-pub struct Table<'a, const W: usize> {
-    pub area: &'a [u8],
-    pub count: usize,
-    pub ghost wide: { 0 < W },
-}
-
-// (What its rows are is written out in each contract: a definition of it names the struct, and the file of a struct with a ghost field can't name that
-// definition; tried of another such struct.)
+// (Each but `len` and `has` is one call of the function over an area. What a test over rows asks stands at each that takes one: it is the caller's.)
 impl<'a, const W: usize> Table<'a, W> {
     // How many rows it has: those that fit.
     pub fn len(self) -> usize
@@ -115,7 +102,7 @@ impl<'a, const W: usize> Table<'a, W> {
     // The first row of which the test holds.
     pub fn position<F: Fn(&[u8]) -> bool>(self, test: F) -> Option<usize>
         requires { TakesRows F.Fn test W }
-        ensures { (p : List ℕ → Bool) → TestsRows F.Fn test W p → result ≡ position p (rows W (held (length self.entry.area.now) W self.entry.count) self.entry.area.now) }
+        ensures { (p : List ℕ → Bool) → TestsRows F.Fn test W p → result ≡ position p (rows_held self.entry) }
     {
         position(self.area, W, self.len(), test)
     }
@@ -123,15 +110,23 @@ impl<'a, const W: usize> Table<'a, W> {
     // Does the test hold of a row?
     pub fn any<F: Fn(&[u8]) -> bool>(self, test: F) -> bool
         requires { TakesRows F.Fn test W }
-        ensures { (p : List ℕ → Bool) → TestsRows F.Fn test W p → result ≡ any p (rows W (held (length self.entry.area.now) W self.entry.count) self.entry.area.now) }
+        ensures { (p : List ℕ → Bool) → TestsRows F.Fn test W p → result ≡ any p (rows_held self.entry) }
     {
         any(self.area, W, self.len(), test)
+    }
+
+    // Of how many rows does the test hold?
+    pub fn count_where<F: Fn(&[u8]) -> bool>(self, test: F) -> usize
+        requires { TakesRows F.Fn test W }
+        ensures { (p : List ℕ → Bool) → TestsRows F.Fn test W p → result ≡ count_by p (rows_held self.entry) }
+    {
+        count(self.area, W, self.len(), test)
     }
 
     // The first row that has the key at the offset.
     pub fn find(self, offset: usize, key: &[u8]) -> Option<usize>
         requires { offset + length key.now ≤ W }
-        ensures { result ≡ position (has_key offset key.now) (rows W (held (length self.entry.area.now) W self.entry.count) self.entry.area.now) }
+        ensures { result ≡ position (has_key offset key.now) (rows_held self.entry) }
     {
         find(self.area, W, self.len(), offset, key)
     }
@@ -139,7 +134,7 @@ impl<'a, const W: usize> Table<'a, W> {
     // Has a row the key at the offset?
     pub fn has(self, offset: usize, key: &[u8]) -> bool
         requires { offset + length key.now ≤ W }
-        ensures { result ≡ any (has_key offset key.now) (rows W (held (length self.entry.area.now) W self.entry.count) self.entry.area.now) }
+        ensures { result ≡ any (has_key offset key.now) (rows_held self.entry) }
     {
         self.find(offset, key).is_some()
     }

@@ -1,6 +1,7 @@
 // Text in an area: runs, numbers in decimal, tags in hexadecimal. Each function puts its text at a place and answers the place behind it.
-// (A String would need a heap, and the drill, which prints by these functions, has none. A struct of area and place would be lent to each, which then would say
-// of two fields what it says of a result: area and place stay apart, as in octets.)
+// (A String would need a heap, and the drill, which prints by these functions, has none. std's `InlineText<N>` needs none, but it is a text of its own: it goes by
+// value through each append, which cuts what has no room, and it would be copied from there to its place among the other answers of the area. A struct of area and
+// place would be lent to each, which then would say of two fields what it says of a result: area and place stay apart, as in octets.)
 #![tactic(auto)]
 
 ghost use Rattle.std.specs.Prelude.{◌++◌, ◌+◌, ◌≤◌, length};

@@ -5,7 +5,7 @@ use Rattle.std.proofs.Common.{◌≡◌, ℕ, ◌*◌, ◌<◌, ◌≤◌, Bool,
 use Rattle.octets.specs.Bytes.{part, num}
 use Rattle.table.specs.Lists.{position, unwrap_or}
 use Rattle.table.specs.Rows.{held, rows}
-use Rattle.table.specs.declared.Table.{Table}
+use Rattle.table.specs.declared.lent.Table.{Table}
 use Rattle.table.specs.Codec.{table_of}
 use Rattle.table.specs.Tables.{rows_in}
 use Rattle.table.proofs.TableLaws.{length_table, get_d_table, table_find}

@@ -131,8 +131,7 @@ fn end_carried(
     ensures { Ends tomb.tag tomb.s (carried_at i) result (held_lent device.old carried.old tombstones.old)
         (held_lent device.new carried.new tombstones.new) (actions_lent actions.old) (actions_lent actions.new) }
 {
-    let count = table::fit(tombstones.len(), TOMBSTONE_WIDTH, device.tombstones);
-    if tombstones.len() / TOMBSTONE_WIDTH <= count {
+    if tombstones.len() / TOMBSTONE_WIDTH <= device.tombstones {
         return Err(Refusal::NoTombstoneRow);
     }
     let row = Carried::read(carried, i * CARRIED_WIDTH);

@@ -1,6 +1,6 @@
 -- Laws of the choice: each test that the code makes is a test of the model.
 -- Assumes nothing.
-use Rattle.std.proofs.Common.{◌≡◌, ℕ, suc, ◌+◌, ◌-◌, ◌*◌, ◌/◌, ◌<◌, ◌≤◌, Bool, true, false, cond, not, Result, Ok, Err, ◌&&◌, eqb, ltb, leb, List, [], ◌∷◌, length, sym, refl, ap, ◌∙◌, arith, ltb-false}
+use Rattle.std.proofs.Common.{◌≡◌, ℕ, suc, ◌+◌, ◌-◌, ◌/◌, ◌<◌, ◌≤◌, Bool, true, false, cond, not, Result, Ok, Err, ◌&&◌, eqb, ltb, leb, List, [], ◌∷◌, length, sym, refl, ap, ◌∙◌, arith}
 use Rattle.std.proofs.lemmas.Bool.Decides.{nat_tests}
 use Rattle.courier_core.specs.declared.Refusal.{Refusal}
 use Rattle.courier_core.specs.declared.Refusal.TheVariants as refusal
@@ -18,10 +18,6 @@ use Rattle.model.specs.Tombs.{tombstoned, least_from, least_expiry, remaining, n
 use Rattle.tombstones.specs.declared.Storing.{Storing}
 use Rattle.tombstones.specs.declared.Storing.TheVariants as way
 use Rattle.tombstones.specs.Tombstones.{ChoiceOf, how_to_store, store_tests, store_choice}
-
--- an action area that is not too short has room for 512 rows
-pub rows_listed : (len to : ℕ) → false ≡ ltb len (13 * (512 + to / 44)) → 6656 ≤ len
-rows_listed len to e = omega (arith, ltb-false len (13 * (512 + to / 44)) (sym e))
 
 -- ---- the least expiry is that of a tombstone, if there is one
 

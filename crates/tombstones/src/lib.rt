@@ -1,15 +1,13 @@
 // Tombstones: `store_tombstone`, which the tomb and report calls use too, and the call "stored tombstone".
 #![tactic(auto)]
 
-ghost use Rattle.std.specs.Prelude.{◌≡◌, ◌+◌, ◌*◌, ◌/◌, ◌<◌, ◌≤◌, [], ◌∷◌, ◌++◌, length, nat_lt, slice_index_or};
-ghost use Rattle.octets.specs.Bytes.{part, num};
+ghost use Rattle.std.specs.Prelude.{◌≡◌, ◌+◌, ◌*◌, ◌/◌, ◌<◌, ◌≤◌, [], ◌∷◌, ◌++◌, length};
 ghost use Rattle.table.specs.Lists.{remove_at};
-ghost use Rattle.table.specs.Rows.{held};
 ghost use Rattle.table.specs.Codec.{table_of};
 ghost use Rattle.table.specs.Tables.{rows_in};
-ghost use Rattle.rows.specs.Rows.{action_width, tombstone_width, tombstone_codec};
+ghost use Rattle.rows.specs.Rows.{action_width, tombstone_codec};
 ghost use Rattle.model.specs.Calls.{stored_tombstone};
-ghost use Rattle.model.specs.Tombs.{tombstoned as some_tombstone, no_tombstone};
+ghost use Rattle.model.specs.Tombs.{tombstoned as some_tombstone};
 ghost use Rattle.model.specs.Lent.{Does, actions_lent};
 ghost use Rattle.tombstones.specs.Tombstones.{Least, ChoiceOf, RoomFor, Room, space_for, spare_at, Grown, Stores, says_stored, tombstones_lent};
 
@@ -58,7 +56,8 @@ pub fn tombstoned(tombstones: Table<TOMBSTONE_WIDTH>, tag: [u8; 16]) -> bool
     tombstones.has(Tombstone::TAG, &tag)
 }
 
-// The tombstone of least expiry, the first among equals, which has the lowest slot: the table has them by slot. Where there is none it is 0.
+// The tombstone of least expiry, the first among equals; where there is none it is 0.
+// (On areas that calls left slots ascend, and the first has the lowest. Nothing asks that of the table.)
 // The search begins at place 0 and the greatest expiry: where every row has that, none is below it, and the first is the answer.
 // (By `min_by_key` the proof did not close: its contract leaves it to a law over all calls of the closure that the first among equals is answered.)
 pub fn least_expiry(tombstones: Table<TOMBSTONE_WIDTH>) -> usize
@@ -78,6 +77,8 @@ pub fn least_expiry(tombstones: Table<TOMBSTONE_WIDTH>) -> usize
 
 // (Here and below, the tombstones' area and the device, which has their number, stand apart: a call is lent each by itself.)
 // How a tombstone is to be stored, or why it cannot be: `NoTombstoneRow`, `NoSlot`. It reads only.
+// (Apart from storing, which cannot fail: what is refused is known before a caller writes rows of its own. One function of both would have to come
+// before these in each, and hand the changed device on to them.)
 pub fn store_choice(device: Device, tag: [u8; 16], tombstones: &[u8]) -> Result<Storing, Refusal>
     ensures { ChoiceOf device tombstones.now tag result × RoomFor result device tombstones.now }
 {

@@ -6,7 +6,7 @@ use hasher::Hasher;
 use hmac::LONGEST;
 use kdf::{LONGEST_LABEL, Refused};
 use sha384::DIGEST;
-use std::{fmt, io};
+use std::{array, fmt, io};
 
 // What an area holds before it is lent.
 const BEFORE: u8 = 0xa5;
@@ -29,7 +29,8 @@ fn print_line(rt: &impl Print, name: impl fmt::Display + Drop, bytes: &[u8]) -> 
     println!(rt; "{name} {}", Hex(bytes))
 }
 
-// The first n bytes, or all where there are fewer. (Two functions, as std has `get` and `get_mut`.)
+// The first n bytes, or all where there are fewer. (Two functions, as std has `get` and `get_mut`. replay_calls has the same as `front` and `front_mut`, and
+// courier_post the first of them: the crates below all three are the library's, which has no use for them.)
 fn first(bytes: &[u8], n: usize) -> &[u8] {
     &bytes[..n.min(bytes.len())]
 }
@@ -41,13 +42,7 @@ fn first_mut(bytes: &mut [u8], n: usize) -> &mut [u8] {
 
 // N bytes that rise by a step, from a first one on, modulo 256.
 fn rising<const N: usize>(first: u8, step: u8) -> [u8; N] {
-    let mut bytes = [0; N];
-    let mut next = first;
-    for b in &mut bytes {
-        *b = next;
-        next = next.wrapping_add(step);
-    }
-    bytes
+    array::from_fn(|i| first.wrapping_add(step.wrapping_mul((i % 256) as u8)))
 }
 
 // ---- SHA-384

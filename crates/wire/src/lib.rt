@@ -2,9 +2,8 @@
 #![tactic(auto)]
 
 ghost use Rattle.std.specs.Prelude.{◌≡◌, ◌≤◌, true, length};
-ghost use Rattle.octets.specs.Bytes.{num, part};
 ghost use Rattle.wire.specs.declared.Mark.TheVariants as mark;
-ghost use Rattle.wire.specs.Log.{mark_of, shaped, fits, head_of, peer_in, values_of, body_of, enabled_of};
+ghost use Rattle.wire.specs.Log.{mark_of, shaped, fits, mark_at, size_at, head_of, peer_in, values_of, enabled_of};
 ghost use Rattle.wire.specs.Read.{read_as, Told};
 
 use courier::Custody;
@@ -89,6 +88,22 @@ fn is_fit(mark: Mark, n: usize) -> bool
     n <= BODY_MAX && is_shaped(mark, n)
 }
 
+// The mark and the body's length of the head at the front of some bytes, be it right or wrong.
+// (The bytes of a log, which go on behind the head, and not `&[u8; HEAD]`: each caller would cut it, and owe the same bound.)
+pub fn mark_at(s: &[u8]) -> Mark
+    requires { 4 ≤ length s.now }
+    ensures { result ≡ mark_at s.now }
+{
+    Mark::from(octets::get_u16(s, 0))
+}
+
+pub fn size_at(s: &[u8]) -> usize
+    requires { 4 ≤ length s.now }
+    ensures { result ≡ size_at s.now }
+{
+    octets::get_u16(s, 2) as usize
+}
+
 // The head at the front of some bytes, or None where they end before the record does. A wrong head is refused even if its body is not there.
 #[tactic(auto, unfolding(crate::specs::Log::head_of))]
 pub fn read_head(s: &[u8]) -> Result<Option<Head>, Refusal>
@@ -97,8 +112,8 @@ pub fn read_head(s: &[u8]) -> Result<Option<Head>, Refusal>
     if s.len() < HEAD {
         return Ok(None);
     }
-    let mark = Mark::from(octets::get_u16(s, 0));
-    let len = octets::get_u16(s, 2) as usize;
+    let mark = mark_at(s);
+    let len = size_at(s);
     if !is_fit(mark, len) {
         return Err(Refusal::LogRecord);
     }

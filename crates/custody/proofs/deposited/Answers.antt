@@ -4,4 +4,4 @@ use Rattle.custody.proofs.Laws.{deposits, deposit_all}
 use Rattle.custody.proofs.deposited.Goals as goal
 
 pub returns : goal.returns
-returns c = deposit_all _ _ _ _ _ c.len.ensures.is (c.count.ensures (deposits c.args.peer) (λ row b h e. search rules))
+returns c = deposit_all _ _ _ _ (c.count_where.ensures (deposits c.args.peer) (λ row b h e. search rules))

@@ -18,9 +18,6 @@ pub loop-preserved : goal.loop-preserved
 loop-preserved c =
     sending_on c.loop.invariant c.fill-filled.ensures c.advance-next.ensures c.emit-wrote.ensures (sym c.goes_on.ensures ∙ c.if-goes_on.true) c.if-wrote.true
 
-pub stop-requires : goal.stop-requires
-stop-requires c = c.advance-next.ensures.inside
-
 pub returns-in-loop : goal.returns-in-loop
 returns-in-loop c = written_stop c.loop.invariant c.fill-filled.ensures c.advance-next.ensures c.emit-wrote.ensures c.stop.ensures
 

@@ -1,8 +1,5 @@
-use Rattle.drill.proofs.WrittenLaws.{takes_none, takes_on}
+use Rattle.drill.proofs.WrittenLaws.{takes_on}
 use Rattle.drill.proofs.write_front.Goals as goal
-
-pub loop-done-init : goal.loop-done-init
-loop-done-init g c = takes_none _ _
 
 pub loop-done-preserved : goal.loop-done-preserved
 loop-done-preserved g c = takes_on _ _ c.loop-done.invariant c.write_once-took.ensures

@@ -1,30 +1,12 @@
 -- `ask`: by the record that the body is. Assumes nothing.
-use Rattle.std.proofs.Common.{rules, refl, sym, arith, Some}
+use Rattle.std.proofs.Common.{rules, refl, sym, Some}
 use Rattle.wire.specs.Log as log
 use Rattle.wire.specs.declared.Body.TheVariants as body
 use Rattle.drill_calls.specs.Asking.{told_with, done_said, tables_in}
 use Rattle.drill_calls.proofs.AskLaws.{asked, mapped, asks_of}
 use Rattle.drill_calls.proofs.StepLaws.{clock_told, contact_told, setting_told}
-use Rattle.drill_calls.proofs.DrillLaws.{bytes_read, asks_read, asks_wrong, on_none}
+use Rattle.drill_calls.proofs.DrillLaws.{asks_read, asks_wrong, on_none}
 use Rattle.drill_calls.proofs.ask.Goals as goal
-
-pub receive_envelope-requires : goal.receive_envelope-requires
-receive_envelope-requires c = bytes_read c.read_body.ensures (body.Envelope _) c.in-Some.is c.in-Envelope.is
-
-pub receive_inventory-requires : goal.receive_inventory-requires
-receive_inventory-requires c = bytes_read c.read_body.ensures (body.Inventory _) c.in-Some.is c.in-Inventory.is
-
-pub tag_in-requires : goal.tag_in-requires
-tag_in-requires c = bytes_read c.read_body.ensures (body.Fetch _) c.in-Some.is c.in-Fetch.is
-
-pub tag_in-requires-in-Custody : goal.tag_in-requires-in-Custody
-tag_in-requires-in-Custody c = omega (arith, bytes_read c.read_body.ensures (body.Custody _ _) c.in-Some.is c.in-Custody.is)
-
-pub get_array-s-requires : goal.get_array-s-requires
-get_array-s-requires c = (omega arith, omega (arith, bytes_read c.read_body.ensures (body.Tomb _) c.in-Some.is c.in-Tomb.is))
-
-pub tag_in-requires-in-Tomb : goal.tag_in-requires-in-Tomb
-tag_in-requires-in-Tomb c = omega (arith, bytes_read c.read_body.ensures (body.Tomb _) c.in-Some.is c.in-Tomb.is)
 
 pub returns-in_default : goal.returns-in_default
 returns-in_default c = asks_wrong c.read_body.ensures c.in_default.is _ _ refl

@@ -6,4 +6,4 @@ use Rattle.envelope.proofs.carry.Goals as goal
 
 pub returns : goal.returns
 unfolding device_after
-returns c = carries _ _ _ _ _ _ _ _ _ _ _ _ c.new_row-row.ensures c.push-n.ensures c.copy_in.ensures refl
+returns c = carries c.new_row-row.ensures c.push-n.ensures c.copy_in.ensures refl

@@ -14,24 +14,24 @@ returns-then-short_replies c = λ a L.
       | then-short_replies-via-then-short_replies w ↦
           tell L _ _ _ _ _ _ true _ _ _ _ (both (sym c.short_replies.ensures ∙ w.if-short_replies.true) refl) refl refl refl refl
       | then-short_replies-via-else-short_replies+then-short_actions w ↦
-          tell L _ _ _ _ _ _ true _ _ _ _ (both (sym c.short_replies.ensures ∙ w.if-short_replies.false) (sym w.short_actions.ensures ∙ w.if-short_actions.true)) refl refl refl refl
+          tell L _ _ _ _ _ _ true _ _ _ _ (both (sym c.short_replies.ensures ∙ w.if-short_replies.false) (sym w.if-short_actions.ensures)) refl refl refl refl
     ]
 
 pub returns-then-wrong_window : goal.returns-then-wrong_window
 returns-then-wrong_window c = λ a L.
-    tell L _ _ _ _ _ _ false true _ _ _ (both (sym c.short_replies.ensures ∙ c.if-short_replies.false) (sym c.short_actions.ensures ∙ c.if-short_actions.false)) (sym c.wrong_window.ensures ∙ c.if-wrong_window.true) refl refl refl
+    tell L _ _ _ _ _ _ false true _ _ _ (both (sym c.if-short_replies.ensures) (sym c.if-short_actions.ensures)) (sym c.if-wrong_window.ensures) refl refl refl
 
 pub returns-then-unknown : goal.returns-then-unknown
 returns-then-unknown c = λ a L.
-    tell L _ _ _ _ _ _ false false true _ _ (both (sym c.short_replies.ensures ∙ c.if-short_replies.false) (sym c.short_actions.ensures ∙ c.if-short_actions.false)) (sym c.wrong_window.ensures ∙ c.if-wrong_window.false)
-    (sym c.unknown.ensures ∙ c.if-unknown.true) refl refl
+    tell L _ _ _ _ _ _ false false true _ _ (both (sym c.if-short_replies.ensures) (sym c.if-short_actions.ensures)) (sym c.if-wrong_window.ensures)
+    (sym c.if-unknown.ensures) refl refl
 
 pub returns-in-Some : goal.returns-in-Some
 returns-in-Some c = λ a L.
-    tell L _ _ _ _ _ _ false false false (Some _) _ (both (sym c.short_replies.ensures ∙ c.if-short_replies.false) (sym c.short_actions.ensures ∙ c.if-short_actions.false)) (sym c.wrong_window.ensures ∙ c.if-wrong_window.false)
-    (sym c.unknown.ensures ∙ c.if-unknown.false) (sym c.lookup.ensures ∙ c.in-Some.is) refl
+    tell L _ _ _ _ _ _ false false false (Some _) _ (both (sym c.if-short_replies.ensures) (sym c.if-short_actions.ensures)) (sym c.if-wrong_window.ensures)
+    (sym c.if-unknown.ensures) (sym c.lookup.ensures ∙ c.in-Some.is) refl
 
 pub returns-in-None : goal.returns-in-None
 returns-in-None c = λ a L.
-    tell L _ _ _ _ _ _ false false false None _ (both (sym c.short_replies.ensures ∙ c.if-short_replies.false) (sym c.short_actions.ensures ∙ c.if-short_actions.false)) (sym c.wrong_window.ensures ∙ c.if-wrong_window.false)
-    (sym c.unknown.ensures ∙ c.if-unknown.false) (sym c.lookup.ensures ∙ c.in-None.is) (sym (c.custody_choice.ensures a L))
+    tell L _ _ _ _ _ _ false false false None _ (both (sym c.if-short_replies.ensures) (sym c.if-short_actions.ensures)) (sym c.if-wrong_window.ensures)
+    (sym c.if-unknown.ensures) (sym c.lookup.ensures ∙ c.in-None.is) (sym (c.custody_choice.ensures a L))

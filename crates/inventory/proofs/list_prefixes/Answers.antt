@@ -9,7 +9,7 @@ loop-i-init c = filling_start 8 prefix_of _ _ 0
 
 pub loop-i-preserved : goal.loop-i-preserved
 loop-i-preserved c =
-    listing_next _ _ _ _ _ _ c.args.held.now.own.in_bounds c.args.held.now.carried.in_bounds c.loop-i.invariant (omega arith) (omega arith) c.row_at.ensures c.push_prefix-k.ensures.0 c.push_prefix-k.ensures.1
+    listing_next _ c.args.held.now _ c.loop-i.invariant (omega arith) (omega arith) c.row_at.ensures c.push_prefix-k.ensures.0 c.push_prefix-k.ensures.1
 
 pub returns : goal.returns
-returns c = listing_end _ _ _ _ _ _ c.args.held.now.own.in_bounds c.args.held.now.carried.in_bounds c.loop-i.invariant (omega arith)
+returns c = listing_end _ c.args.held.now _ c.loop-i.invariant (omega arith)

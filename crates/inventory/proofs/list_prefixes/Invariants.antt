@@ -3,4 +3,4 @@ use Rattle.inventory.proofs.OursLaws.{Listing}
 use Rattle.inventory.proofs.list_prefixes.Given as goal
 
 abbrev pub invariant-loop-i : goal.invariant-loop-i
-invariant-loop-i l = Listing l.peer l.held.own.area.now l.held.carried.area.now l.held.own.n l.held.carried.n l.initial.prefixes l.i l.k l.prefixes
+invariant-loop-i l = Listing l.peer l.held l.initial.prefixes l.i l.k l.prefixes

@@ -5,4 +5,4 @@ use Rattle.octets.specs.Bytes.{part, same_bytes}
 use Rattle.octets.proofs.same_run.Given as goal
 
 abbrev pub invariant-loop-k : goal.invariant-loop-k
-invariant-loop-k l = eqb l.acc 0 ≡ same_bytes (part l.a l.at l.k) (part l.b l.bt l.k)
+invariant-loop-k l = eqb l.acc 0 ≡ same_bytes (part l.area l.at l.k) (part l.key 0 l.k)

@@ -5,11 +5,11 @@ use Rattle.offers.proofs.list_offers.Goals as goal
 use Rattle.offers.proofs.list_offers.Goals.{in_default, in-Some+then-row-le1, in-Some+else-row-le1+then-loop-j-test+then-same, in-Some+else-row-le1+else-loop-j-test+then-loop-t-test+then-same-2, in-Some+else-row-le1+else-loop-j-test+else-loop-t-test}
 
 pub loop-i-init : goal.loop-i-init
-loop-i-init c = listing_start _ _ _ _ _ _ _ _ _ _
+loop-i-init c = listing_start _ _ _ _ _ _ _
 
 pub loop-j-preserved : goal.loop-j-preserved
 loop-j-preserved c =
-    c.loop-j.invariant ∙ listed_next _ _ _ c.args.listed.in_bounds _ false c.loop-j-test.true c.same.ensures c.if-same.false
+    c.loop-j.invariant ∙ listed_next _ _ _ c.args.listed.in_bounds _ false (search rules) c.loop-j-test.true c.same.ensures c.if-same.false
 
 pub loop-t-preserved : goal.loop-t-preserved
 loop-t-preserved c =
@@ -17,16 +17,17 @@ loop-t-preserved c =
 
 pub loop-i-preserved : goal.loop-i-preserved
 loop-i-preserved c =
-    let next = listing_next _ _ _ _ _ _ _ _ _ _ c.args.held.now.own.in_bounds c.args.held.now.carried.in_bounds c.requires c.loop-i.invariant in
+    let next = listing_next _ _ _ _ _ _ _ c.requires c.loop-i.invariant in
     let more : c.loop-i.i < c.args.held.now.own.n + c.args.held.now.carried.n = omega arith in
     elim c.match-row.branch [
       | in_default w ↦ next false false more (stays _ _ _ (sym w.in_default.is ∙ c.row_at.ensures)) _ _ w.searched-is w.flags-is
       | in-Some+then-row-le1 w ↦
           next false false more (last_copy _ _ _ (sym w.in-Some.is ∙ c.row_at.ensures) (le-ltb _ _ w.if-row-le1.true)) _ _ w.searched-is w.flags-is
       | in-Some+else-row-le1+then-loop-j-test+then-same w ↦
+          let wide : length w.in-Some.row.tag ≡ 16 = search rules in
           next false false more
           (was_listed _ _ _ (sym w.in-Some.is ∙ c.row_at.ensures)
-          (w.loop-j.invariant ∙ listed_next _ _ _ c.args.listed.in_bounds _ true w.loop-j-test.true w.same.ensures w.if-same.true))
+          (w.loop-j.invariant ∙ listed_next _ _ _ c.args.listed.in_bounds _ true wide w.loop-j-test.true w.same.ensures w.if-same.true))
           _ _ w.searched-is w.flags-is
       | in-Some+else-row-le1+else-loop-j-test+then-loop-t-test+then-same-2 w ↦
           let wide : length w.in-Some.row.tag ≡ 16 = search rules in
@@ -43,4 +44,4 @@ loop-i-preserved c =
 
 pub returns : goal.returns
 returns c =
-    listing_end _ _ _ _ _ _ _ _ _ _ c.args.held.now.own.in_bounds c.args.held.now.carried.in_bounds c.requires c.loop-i.invariant (omega arith)
+    listing_end _ _ _ _ _ _ _ c.requires c.loop-i.invariant (omega arith)

@@ -11,5 +11,5 @@ invariant-loop-t l = is_tombstoned l.row.tag l.tombstones.area.now l.tombstones.
 
 abbrev pub invariant-loop-i : goal.invariant-loop-i
 invariant-loop-i l =
-    Listing l.peer l.held.own.area.now l.held.carried.area.now l.held.own.n l.held.carried.n l.listed.area.now l.listed.n
+    Listing l.peer l.held l.listed.area.now l.listed.n
     l.tombstones.area.now l.tombstones.n l.initial.flags l.i l.searched l.flags

@@ -4,7 +4,7 @@ use Rattle.offers.proofs.write_offers.Goals as goal
 use Rattle.offers.proofs.write_offers.Goals.{then-flags-i, else-flags-i}
 
 pub loop-i-init : goal.loop-i-init
-loop-i-init c = offering_start _ _ _ _ _ _ _ _
+loop-i-init c = offering_start _ _ _ _ _
 
 pub loop-i-preserved : goal.loop-i-preserved
 loop-i-preserved c =
@@ -14,13 +14,13 @@ loop-i-preserved c =
     elim c.if-flags-i.branch [
       | then-flags-i w ↦
           rw (w.replies-is, w.offers-is, w.sent-is, w.offer_row-sent.ensures.reply)
-          (offering_next _ _ _ _ _ _ _ _ c.args.held.now.own.in_bounds c.args.held.now.carried.in_bounds c.requires.in_bounds so_far more w.if-flags-i.true
+          (offering_next _ _ _ _ _ c.requires.in_bounds so_far more w.if-flags-i.true
           w.offer_row-sent.ensures.offer (omega arith))
       | else-flags-i w ↦
           rw (w.replies-is, w.offers-is, w.sent-is)
-          (offering_skip _ _ _ _ _ _ _ _ c.args.held.now.own.in_bounds c.args.held.now.carried.in_bounds c.requires.in_bounds so_far more w.if-flags-i.false)
+          (offering_skip _ _ _ _ _ c.requires.in_bounds so_far more w.if-flags-i.false)
     ]
 
 pub returns : goal.returns
 returns c =
-    offering_end _ _ _ _ _ _ _ _ c.args.held.now.own.in_bounds c.args.held.now.carried.in_bounds c.requires.in_bounds c.loop-i.invariant (omega arith) c.requires.room.0
+    offering_end _ _ _ _ _ c.requires.in_bounds c.loop-i.invariant (omega arith) c.requires.room.0

@@ -4,5 +4,5 @@ use Rattle.offers.proofs.write_offers.Given as goal
 
 abbrev pub invariant-loop-i : goal.invariant-loop-i
 invariant-loop-i l =
-    Offering l.held.own.area.now l.held.carried.area.now l.held.own.n l.held.carried.n l.flags l.initial.replies l.first l.initial.offers l.i
+    Offering l.held l.flags l.initial.replies l.first l.initial.offers l.i
     l.sent.replies l.sent.offers l.replies l.offers

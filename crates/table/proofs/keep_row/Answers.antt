@@ -2,12 +2,11 @@
 use mathlib.Core.Path.{◌≡◌, sym, ap, ◌∙◌}
 use mathlib.Core.List.{List, []}
 use Prim.Native.Nat.{ℕ, ◌+◌, ◌*◌, ◌≤◌}
-use native.Mathlib.Nat.{add-zero}
+use native.Mathlib.Nat.{mul-le-mul_right, add-zero}
 use native.Mathlib.Omega.{arith}
 use lib.ListN.{length}
 use Rattle.octets.specs.Bytes.{splice, part}
 use Rattle.octets.proofs.Parts.{splice_nil, splice_grow}
-use Rattle.table.proofs.RowLaws.{mul_le}
 use Rattle.table.proofs.keep_row.Goals as goal
 
 there : (a : List ℕ) (w k i : ℕ) → k ≡ i → i * w + w ≤ length a → a ≡ splice a (k * w) (part a (i * w) w)
@@ -19,7 +18,7 @@ returns-then-k-i c =
     there _ c.args.width _ _ c.if-k-i.true c.requires.1
 
 pub overflow_mul-k : goal.overflow_mul-k
-overflow_mul-k c = omega (arith, mul_le c.args.width c.requires.0)
+overflow_mul-k c = omega (arith, mul-le-mul_right c.args.width c.requires.0)
 
 pub move_down-requires : goal.move_down-requires
-move_down-requires c = omega (arith, mul_le c.args.width c.requires.0)
+move_down-requires c = omega (arith, mul-le-mul_right c.args.width c.requires.0)

@@ -1,7 +1,7 @@
-use Rattle.std.proofs.Common.{rules, length, refl, sym, ap, ◌∙◌, arith}
+use Rattle.std.proofs.Common.{mul-le-mul_right, rules, length, refl, sym, ap, ◌∙◌, arith}
 use Rattle.octets.specs.Bytes.{part}
 use Rattle.octets.proofs.Numbers.{bytes_of}
-use Rattle.table.proofs.RowLaws.{mul_le, row_in, row_at, length_row}
+use Rattle.table.proofs.RowLaws.{row_in, row_at, length_row}
 use Rattle.table.proofs.RetainLaws.{retain_start, retain_keep, retain_drop, retain_end}
 use Rattle.table.proofs.retain.Goals as goal
 use Rattle.table.proofs.retain.Goals.{then-test, else-test}
@@ -17,7 +17,7 @@ keep_row-requires g c = (
     c.loop-from.invariant.size,
     c.requires.fits.1,
     row_in c.loop-from.from c.args.n c.args.width c.loop-from-test.true,
-    mul_le c.args.width c.loop-from.invariant.below,
+    mul-le-mul_right c.args.width c.loop-from.invariant.below,
   ),
 )
 

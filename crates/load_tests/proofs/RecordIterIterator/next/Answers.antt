@@ -11,17 +11,18 @@ returns-then-self-lt-RECORD_HEAD-clause-steps c =
     let e = records_none (length b) b (omega (arith, size_least b, c.if-self-lt-RECORD_HEAD.true)) in
     (e, e)
 
-pub returns-then-self-n-clause-steps : goal.returns-then-self-n-clause-steps
+pub returns-in_err-record-clause-steps : goal.returns-in_err-record-clause-steps
 unfolding left
-returns-then-self-n-clause-steps c =
+returns-in_err-record-clause-steps c =
     let b = c.args.self.now.rest.now in
-    let e = records_none (length b) b (omega (arith, sized b c.get_u16.ensures, c.if-self-n.true)) in
-    (e, e)
+    let e = records_none (length b) b (omega (arith, sized b c.get_u16.ensures, c.in_err-record.ensures.cases)) in
+    rw c.from_residual.ensures (e, e)
 
 pub returns-clause-steps : goal.returns-clause-steps
 unfolding left
 returns-clause-steps c =
-    rw (c.split_at.ensures.front, c.split_at.ensures.back) (records_next _ _ (sized _ c.get_u16.ensures) c.if-self-n.false)
+    let s = c.in_ok-record.ensures.cases in
+    rw (s.1, s.2) (records_next _ _ (sized _ c.get_u16.ensures) s.0)
 
 pub returns-clause-goes : goal.returns-clause-goes
 returns-clause-goes c = record {

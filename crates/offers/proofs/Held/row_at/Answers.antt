@@ -5,13 +5,13 @@ use Rattle.offers.specs.Entries.{own_entry, carried_entry, row_of}
 use Rattle.offers.proofs.EntryLaws.{of_own, of_carried}
 use Rattle.offers.proofs.Held.row_at.Goals as goal
 
-pub returns-then-eq : goal.returns-then-eq
+pub returns-in-Own : goal.returns-in-Own
 unfolding row_of own_envelope_of
-returns-then-eq c = rw (sym c.if-eq.ensures) at (ap row_of (of_own (own_entry c.args.peer) carried_entry _ _ _ _ c.in-Own.is c.at.ensures))
+returns-in-Own c = rw (sym c.if-eq.ensures) at (ap row_of (of_own (own_entry c.args.peer) carried_entry _ _ _ _ c.in-Own.is c.at.ensures))
 
-pub returns-else-eq : goal.returns-else-eq
+pub returns-in-Own-2 : goal.returns-in-Own-2
 unfolding row_of own_envelope_of
-returns-else-eq c = rw (sym c.if-eq.ensures) at (ap row_of (of_own (own_entry c.args.peer) carried_entry _ _ _ _ c.in-Own.is c.at.ensures))
+returns-in-Own-2 c = rw (sym c.if-eq.ensures) at (ap row_of (of_own (own_entry c.args.peer) carried_entry _ _ _ _ c.in-Own.is c.at.ensures))
 
 pub returns-in-Carried : goal.returns-in-Carried
 unfolding row_of carried_envelope_of
