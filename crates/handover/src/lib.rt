@@ -33,6 +33,7 @@ fn offer_of_tag(offers: Table<OFFER_WIDTH>, tag: [u8; 16]) -> Option<usize>
 // Takes n copies off the carried row at i, and lists its put; answers how many rows there are.
 // (A table that changes is lent by `&mut`, and its count goes back to the device: two values, as the trait's functions have them.)
 // (One function for own rows too would take a trait over `Row`, with a row of fewer copies and its action, and an `impl` for each: no plainer.)
+#[tactic(auto, using(fetch::proofs::SearchLaws::row_within))]
 fn take_off(carried: &mut [u8], count: usize, i: usize, n: u8, actions: &mut [u8]) -> usize
     requires { (i < held (length carried.old) carried_width count) × (action_width ≤ length actions.old) }
     ensures { TakenOffCarried n count i carried.old actions.old result carried.new actions.new }
@@ -47,6 +48,7 @@ fn take_off(carried: &mut [u8], count: usize, i: usize, n: u8, actions: &mut [u8
 }
 
 // The same, of an own row.
+#[tactic(auto, using(fetch::proofs::SearchLaws::row_within))]
 fn take_off_own(own: &mut [u8], count: usize, i: usize, n: u8, actions: &mut [u8]) -> usize
     requires { (i < held (length own.old) own_width count) × (action_width ≤ length actions.old) }
     ensures { TakenOffOwn n count i own.old actions.old result own.new actions.new }
@@ -102,6 +104,7 @@ fn too_short(prefixes: &[u8], offers: &[u8], actions: &[u8], tombstones: &[u8]) 
 }
 
 // Clears the offer at i; answers how many copies were handed with it.
+#[tactic(auto, using(fetch::proofs::SearchLaws::row_within))]
 fn clear_offer(exchange: &mut Exchange, offers: &mut [u8], i: usize) -> u8
     requires { i < held (length offers.old) offer_width (min 512 exchange.old.offered) }
     ensures { Cleared i exchange.old offers.old result exchange.new offers.new }

@@ -122,7 +122,7 @@ impl Saved for Tombstone {
     }
 
     fn blob(self, cells: &[u8], blob: &mut [u8]) -> usize {
-        // (An array field goes into a literal through a local: put there straight, the borrow check does not cover it.)
+        // (An array field is taken out by a pattern: put into the literal straight, the borrow check does not cover it.)
         let Tombstone {
             tag,
             s,

@@ -119,6 +119,7 @@ fn tombstone_of(row: Carried, tomb: Tomb) -> Tombstone
 // ---- tomb
 
 // Ends the carried row at i: its tombstone takes its place in order of slots. It meets no limit of 1,024, but needs a row of the tombstones' area.
+#[tactic(auto, using(fetch::proofs::SearchLaws::row_within))]
 fn end_carried(
     device: &mut Device,
     i: usize,
@@ -142,6 +143,7 @@ fn end_carried(
 }
 
 // Ends the own row at i, and stores its tombstone as it was chosen; answers how many actions are listed.
+#[tactic(auto, using(fetch::proofs::SearchLaws::row_within))]
 fn end_row(
     device: &mut Device,
     i: usize,

@@ -1,19 +1,10 @@
 -- The row that is read is the one at i, and the one with fewer copies goes in its place.
-use Rattle.std.proofs.Common.{ℕ, length, ap, arith}
+use Rattle.std.proofs.Common.{ℕ, ap}
 use Rattle.rows.specs.Rows.{own_codec}
 use Rattle.model.specs.Exchange.{no_own, own_lowered}
-use Rattle.fetch.proofs.SearchLaws.{row_within}
 use Rattle.handover.specs.Handing.{put_of_own}
 use Rattle.handover.proofs.HandLaws.{takes_off}
 use Rattle.handover.proofs.take_off_own.Goals as goal
-
-pub overflow_mul-i : goal.overflow_mul-i
-overflow_mul-i c =
-    omega (arith, row_within (length c.args.own.now) 54 c.args.count c.args.i c.requires.0)
-
-pub read-row-requires : goal.read-row-requires
-read-row-requires c =
-    row_within (length c.args.own.now) 54 c.args.count c.args.i c.requires.0
 
 pub returns : goal.returns
 unfolding own_lowered

@@ -1,7 +1,6 @@
 -- One of the R rows is there or not; then the row changes its table.
-use Rattle.std.proofs.Common.{length, refl, arith}
+use Rattle.std.proofs.Common.{refl, arith}
 use Rattle.table.specs.Rows.{held}
-use Rattle.fetch.proofs.SearchLaws.{row_within}
 use Rattle.tombs.proofs.WriteLaws.{turns}
 use Rattle.tombs.proofs.CallLaws.{no_row, has_row}
 use Rattle.tombs.proofs.end_carried.Goals as goal
@@ -9,14 +8,6 @@ use Rattle.tombs.proofs.end_carried.Goals as goal
 pub returns-then-tombstones-device : goal.returns-then-tombstones-device
 unfolding held
 returns-then-tombstones-device c a = no_row _ _ _ _ _ _ _ refl a (omega arith)
-
-pub overflow_mul-i : goal.overflow_mul-i
-overflow_mul-i c =
-    omega (arith, row_within (length c.args.carried.now) 57 c.args.device.now.carried c.args.i c.requires.0)
-
-pub read-row-requires : goal.read-row-requires
-read-row-requires c =
-    row_within (length c.args.carried.now) 57 c.args.device.now.carried c.args.i c.requires.0
 
 pub insert_by_slot-device-requires : goal.insert_by_slot-device-requires
 unfolding held
