@@ -119,7 +119,7 @@ extern "C" {
 #define GOOSETABLE_ACTIONS_SIZE(r) (13 * (512 + (size_t)(r)))
 #define GOOSETABLE_FILE_SIZE(carried_cells, r) (10 + 2122 * (size_t)(carried_cells) + 49 * (size_t)(r))
 
-/* Areas with as many cells or rows as the host likes. */
+/* Areas with as many cells or rows as the host likes. With 1,024 tombstone rows or more no call but goosetable_load is refused by 5. */
 #define GOOSETABLE_CELLS_SIZE(cells) ((size_t)(cells) * GOOSETABLE_CELL_SIZE)
 #define GOOSETABLE_TOMBSTONES_SIZE(r) ((size_t)(r) * GOOSETABLE_TOMBSTONE_ROW)
 #define GOOSETABLE_BAD_TAGS_SIZE(rows) ((size_t)(rows) * GOOSETABLE_BAD_TAG_ROW)
@@ -458,11 +458,13 @@ goosetable_answer goosetable_stored_tombstone(
 
 /*
  * A tomb from a peer: a tag, and the secret s that its commitment is of. A carried row with the tag is looked for first; it turns into a
- * tombstone that retains its slot and expiry, and its put is listed. Else an own row is ended: an own put, and its tombstone is stored as by
- * goosetable_stored_tombstone. A wrong secret is MALFORMED; an unknown tag changes nothing, and is DONE.
+ * tombstone that retains its slot and expiry. At 1,024 or more one of the tombstones that were there is deleted first, as by
+ * goosetable_stored_tombstone, never the row that turns: actions are that delete, then the put of the row's slot. 5 for it is tested after the
+ * deletion, and 6 does not come. Else an own row is ended: an own put, and its tombstone is stored as by goosetable_stored_tombstone. A wrong
+ * secret is MALFORMED; an unknown tag changes nothing, and is DONE.
  * Writes: device, own, carried, tombstones, actions.
  * Refused by: 1 (actions), 2, 5, 6.
- * Stack: 4,376 bytes.
+ * Stack: 4,360 bytes.
  */
 goosetable_answer goosetable_tomb(
     uint8_t device[GOOSETABLE_DEVICE_SIZE],
@@ -482,7 +484,7 @@ goosetable_answer goosetable_tomb(
  * goosetable_stored_tombstone, with the expiry at most the lifetime's end, and the actions are that call's.
  * Writes: device, tombstones, replies, actions.
  * Refused by: 1 (replies, actions), 2, 5, 6.
- * Stack: 248 bytes.
+ * Stack: 232 bytes.
  */
 goosetable_answer goosetable_opened(
     uint8_t device[GOOSETABLE_DEVICE_SIZE],
@@ -678,10 +680,10 @@ goosetable_row goosetable_row_read(const uint8_t *blob, size_t blob_len);
 /* ---- the version */
 
 /* Of header and library alike. The first two numbers change whenever a struct, a size, what a number means or a function's parameters do. */
-#define GOOSETABLE_VERSION "0.2.3"
+#define GOOSETABLE_VERSION "0.2.4"
 #define GOOSETABLE_VERSION_MAJOR 0
 #define GOOSETABLE_VERSION_MINOR 2
-#define GOOSETABLE_VERSION_PATCH 3
+#define GOOSETABLE_VERSION_PATCH 4
 
 /*
  * The version of the library: major * 10,000 + minor * 100 + patch. Its name has the first two numbers.

@@ -1,5 +1,7 @@
 //! The source's calls, one by one, to be timed: `ready` makes what a call takes, `run` is the source's own function and nothing else,
-//! `answer` reads what it gave.
+//! `answer` reads what it gave. For one call the source's own function would answer otherwise, and that of `turned.rs` stands for it.
+
+mod turned;
 
 use super::convert::{
     action_out, dir_in, dir_out, envelope_in, held_in, held_out, own_out, reply_out, verification_in,
@@ -36,6 +38,8 @@ pub struct Timed {
     kept: Holdings,
     /// The lists that the exchange has had: an exchange can't be copied, and so it is made again.
     lists: Vec<Vec<Prefix>>,
+    /// Whether a tomb of a carried row is that of `turned.rs`.
+    limited: bool,
 }
 
 /// A call and what it takes, as the source has it.
@@ -49,8 +53,13 @@ pub enum Ready {
     Blob(u64),
     Blobs,
     Restore(Rows),
+    Turn(Turn),
 }
 
+pub struct Turn {
+    tag: Tag,
+    secret: [u8; 16],
+}
 pub struct Record(ContactId, CourierRecord, Opening);
 pub struct Stored(Tombstone);
 pub struct Own {
@@ -162,7 +171,7 @@ impl Default for Timed {
             current: 0,
             backend: PhantomData,
         };
-        Self { core, kept: Holdings::default(), lists: Vec::new() }
+        Self { core, kept: Holdings::default(), lists: Vec::new(), limited: false }
     }
 }
 
@@ -228,6 +237,11 @@ impl Timed {
     /// The exchange has had these lists before a call.
     pub fn exchange(&mut self, lists: Vec<Vec<Prefix>>) {
         self.lists = lists;
+    }
+
+    /// From now on a carried row that turns obeys the limit of 1,024 tombstones, which the source's own does not.
+    pub fn limit_turned(&mut self) {
+        self.limited = true;
     }
 
     /// What `restore` goes back to.
@@ -343,6 +357,7 @@ impl Timed {
                 let code = Custody::from_code(code.code()).expect("one of five");
                 Self::record(*peer, CourierRecord::Custody { tag: *tag, code })
             }
+            Call::Tomb { tag, secret, .. } if self.limited => Ready::Turn(Turn { tag: *tag, secret: *secret }),
             Call::Tomb { peer, tag, secret, .. } => Self::record(*peer, CourierRecord::Tomb { tag: *tag, s: *secret }),
             Call::Opened { peer, tag, secret, expiry, .. } => {
                 self.report(*peer, *tag, *expiry, Opening::Message(*secret))
@@ -388,6 +403,12 @@ impl Timed {
         Given::Actions(actions)
     }
 
+    fn turn(&mut self, Turn { tag, secret }: &Turn) -> Given {
+        let mut actions = Vec::new();
+        let malformed = turned::receive_tomb(self.device_mut(), tag, secret, &mut actions);
+        Given::Record(Ok(malformed), Vec::new(), actions, None)
+    }
+
     fn make_own(&mut self, own: Own) -> Given {
         let queued = &own.outgoing.queued;
         let inner = queued.ct.len() - TAG_LEN;
@@ -409,6 +430,7 @@ impl Timed {
             Ready::Restore(Rows { device, rows, one }) => {
                 Given::Restored(Device::restore(&device, &[], &[], &rows), one)
             }
+            Ready::Turn(turn) => self.turn(&turn),
         })
     }
 }

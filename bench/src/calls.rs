@@ -129,6 +129,12 @@ pub fn tomb_of_last(pair: &mut Pair) -> Call {
     tomb(pair, pair.carried().last().expect("a row").1.tag, sixteen(b'S', number))
 }
 
+/// That of the last row, beside plain Rust that obeys the limit of tombstones.
+pub fn tomb_at_limit(pair: &mut Pair) -> Call {
+    pair.source.limit_turned();
+    tomb_of_last(pair)
+}
+
 pub fn tomb_of_own(pair: &mut Pair) -> Call {
     let own = pair.last_own();
     tomb(pair, tag_of(own), own.secret)

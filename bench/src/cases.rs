@@ -27,7 +27,7 @@ use Expected::*;
 #[derive(Clone, Copy)]
 pub struct Case {
     pub name: &'static str,
-    /// What of the source is timed; empty where it has nothing of the kind.
+    /// What of the source is timed, or what stands for it; empty where it has nothing of the kind.
     pub beside: &'static str,
     pub call: fn(&mut Pair) -> Call,
     pub expected: Expected,
@@ -72,6 +72,11 @@ fn at_quota(rows: usize) -> Shape {
     Shape { carried: (rows - 1).max(16), at_quota: true, ..Shape::of(rows) }
 }
 
+/// One tombstone less than those at which a row that turns takes one out: there the source answers alike.
+fn below_limit(rows: usize) -> Shape {
+    Shape { tombstones: 4 * rows - 1, ..Shape::of(rows) }
+}
+
 // ---- the cases
 
 pub const RECORD: &str = "`courier_record`";
@@ -79,6 +84,7 @@ const OPENING: &str = "`courier_record`, its opening stubbed";
 const OWN: &str = "`own_envelope`";
 const MAINTAIN: &str = "`maintain_couriers`";
 const BLOB: &str = "`Held::row`";
+const TURNED: &str = "plain Rust, `source/turned.rs`";
 
 const FULL: usize = 256;
 
@@ -141,8 +147,9 @@ fn stored(rows: usize) -> usize {
 
 fn tombstones() -> Vec<Case> {
     vec![
-        changes("tomb: the last carried row", RECORD, calls::tomb_of_last, Actions(|_| 1)),
-        changes("tomb: the first carried row", RECORD, calls::tomb_of_first, Actions(|_| 1)),
+        changes("tomb: the last carried row", RECORD, calls::tomb_of_last, Actions(|_| 1)).on(below_limit),
+        changes("tomb: the first carried row", RECORD, calls::tomb_of_first, Actions(|_| 1)).on(below_limit),
+        changes("tomb: at 1,024, one goes", TURNED, calls::tomb_at_limit, Actions(stored)),
         changes("tomb: the last own row", RECORD, calls::tomb_of_own, Actions(|rows| 1 + stored(rows))),
         changes("stored tombstone: the first goes", "`store_tombstone`", calls::stored_tombstone, Actions(stored)),
         changes("report opened: the first goes", OPENING, calls::opened, Actions(stored)),

@@ -5,8 +5,8 @@ use post::{Action, Answer, Bytes, Call, Custody, Dir, Envelope, Held, NewOwn, Ow
 
 const CELL: usize = 2_064;
 const CELLS: usize = 256;
-/// R: 1,024 tombstones, and a place for every carried row that turns.
-const TOMBSTONES: usize = 1_024 + 256;
+/// R.
+const TOMBSTONES: usize = 1_024;
 const BAD_TAGS: usize = 512;
 const REPLY: usize = 40;
 const ACTION: usize = 13;

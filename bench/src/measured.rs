@@ -13,7 +13,7 @@ pub const PASSES: usize = 5;
 /// For the many rows, in one pass.
 pub const BUDGET: Duration = Duration::from_millis(200);
 
-/// Nanoseconds of the library and of the source.
+/// Nanoseconds of the library and of the source, or of what stands for it.
 pub type Times = [f64; 2];
 
 /// Of the few and the many rows of one case.
@@ -101,11 +101,11 @@ pub fn ratio(ratio: f64) -> String {
 
 fn print(case: &Case, measured: &Measured) {
     let (name, beside, time) = (case.name, case.beside, microseconds(measured.many[0]));
-    let (of_source, [growth, source_growth]) = (ratio(measured.ratio()), measured.growth());
+    let (of_its_time, [growth, its_growth]) = (ratio(measured.ratio()), measured.growth());
     if beside.is_empty() {
         println!("| {name} | – | {time} | – | {growth:.1} | – |");
     } else {
-        println!("| {name} | {beside} | {time} | {of_source} | {growth:.1} | {source_growth:.1} |");
+        println!("| {name} | {beside} | {time} | {of_its_time} | {growth:.1} | {its_growth:.1} |");
     }
 }
 
@@ -118,11 +118,11 @@ pub fn run() {
             *measured = measured.least(Measured::of(case));
         }
     }
-    println!("\n| call | beside | library, µs | of the source | growth | the source's |\n|---|---|---|---|---|---|");
+    println!("\n| call | beside | library, µs | of its time | growth | its growth |\n|---|---|---|---|---|---|");
     let all = || cases.iter().zip(&all);
     all().for_each(|(case, measured)| print(case, measured));
     let beside = || all().filter(|(case, _)| !case.beside.is_empty());
     let over = beside().filter(|(_, measured)| measured.ratio() > 1.0);
-    println!("\n{} of {} over 1.0 of the source's time", over.clone().count(), beside().count());
+    println!("\n{} of {} over 1.0 of the time beside", over.clone().count(), beside().count());
     over.for_each(|(case, _)| println!("- {}", case.name));
 }

@@ -178,7 +178,7 @@ pub fn new_own(contact: u64, number: usize, length: usize) -> NewOwn {
 impl Pair {
     pub fn new(shape: Shape) -> Self {
         let window = window_rows(&shape);
-        let sizes = Sizes { carried_cells: 256, own_cells: 256, tombstone_rows: 1_280, bad_rows: 512, exchanges: 1 };
+        let sizes = Sizes { carried_cells: 256, own_cells: 256, tombstone_rows: 1_024, bad_rows: 512, exchanges: 1 };
         let mut pair = Self {
             library: Library::new(),
             source: Timed::default(),

@@ -9,7 +9,7 @@
  * fewer there comes a refusal, 4, where a code should go back.
  */
 #define CELLS GOOSETABLE_MAX_ROWS
-/* How many tombstones: what docs/HOST.md asks for at least; and bad tags: few are enough here. */
+/* How many tombstones: with as many as docs/HOST.md says, 5 comes of no call but a load; and bad tags: few are enough here. */
 #define TOMBSTONES 1024
 #define BAD_TAGS 2
 

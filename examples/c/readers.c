@@ -1,7 +1,7 @@
 /*
  * Tests of the header's readers on what calls left: each value beside the one that the calls were given, or that the call itself says; of tags,
- * secrets and commitments; of screen pages; of how a window is made; and of how many rows an inventory's end searches the tombstones for. It prints
- * how many were compared, or the first that differs.
+ * secrets and commitments; of screen pages; of how a window is made; of how many rows an inventory's end searches the tombstones for; and of which
+ * tombstone goes for another. It prints how many were compared, or the first that differs.
  */
 #include "post.h"
 
@@ -425,6 +425,51 @@ static void renew(void)
     read_counts(2, 4, 0, 0, 1);
 }
 
+/* As many tombstones as there are rows for them, from a slot on. The third expires before the others. */
+static void fill_tombstones(uint64_t slot)
+{
+    uint8_t *tag = memcpy(area(GOOSETABLE_TAG_SIZE), tags[0], GOOSETABLE_TAG_SIZE);
+    size_t i;
+    for (i = 0; i < TOMBSTONES; i++) {
+        tag[0] = (uint8_t)(i >> 8);
+        tag[1] = (uint8_t)i;
+        said("stored", goosetable_stored_tombstone(post.device, tag, secret, i == 2 ? 4000 : 5000, post.tombstones, TOMBSTONES_LEN, post.actions,
+                                                   GOOSETABLE_ACTIONS_SIZE(TOMBSTONES)), GOOSETABLE_DONE);
+        is("in its slot", goosetable_action_number(post.actions, 0), slot + i);
+    }
+    free(tag);
+}
+
+static void is_action(size_t i, enum goosetable_action kind, uint64_t slot)
+{
+    is("an action", goosetable_action_kind(post.actions, i), kind);
+    is("its slot", goosetable_action_number(post.actions, i), slot);
+}
+
+/* A carried row turns where all tombstone rows are used: one goes first, not the row itself, though it expires before them all. */
+static void turn(void)
+{
+    uint64_t first = goosetable_device_next_slot(post.device), slot = first + TOMBSTONES;
+    struct envelope e = {.ct = carried_ct, .ct_len = 48};
+    goosetable_answer a;
+    fill_tombstones(first);
+    memcpy(e.header, tags[1], GOOSETABLE_TAG_SIZE);
+    goosetable_commitment(secret, e.header + 16);
+    /* One copy; the expiry lies beyond the lifetime's end, which the row gets. */
+    memset(e.header + 32, 1, 5);
+    said("an envelope", post_envelope(&post, PEER, &e), GOOSETABLE_DONE);
+    is_action(0, GOOSETABLE_ACTION_PUT, slot);
+    said("a wrong secret", post_tomb(&post, PEER, tags[1], commitment), GOOSETABLE_MALFORMED);
+    read_counts(2, 4, 1, TOMBSTONES, 1);
+    a = post_tomb(&post, PEER, tags[1], secret);
+    said("its tomb", a, GOOSETABLE_DONE);
+    is("actions", a.actions, 2);
+    is_action(0, GOOSETABLE_ACTION_DELETE, first + 2);
+    is_action(1, GOOSETABLE_ACTION_PUT, slot);
+    read_counts(2, 4, 0, TOMBSTONES, 1);
+    is("the last tombstone", goosetable_tombstone_slot(post.tombstones + TOMBSTONES_LEN - GOOSETABLE_TOMBSTONE_ROW), slot);
+}
+
 /* Counts and cells that no call left: what fits is read. */
 static void spoil(void)
 {
@@ -481,6 +526,7 @@ int main(void)
     search();
     renew();
     read_pages(0);
+    turn();
     spoil();
     read_pages(GOOSETABLE_MAX_ROWS + TOMBSTONES);
     exchange_close(&exchange);

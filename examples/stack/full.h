@@ -4,8 +4,9 @@
 
 #include "goosetable.h"
 
-#define R 1025
+/* All rows are used: a tombstone is stored, and a carried row turns, only if one goes. */
 #define TOMBSTONES 1024
+#define R TOMBSTONES
 #define WINDOW_ROWS 5000
 #define BAD_TAGS 256
 

@@ -220,13 +220,20 @@ static void tag_of_own(void)
     put_tag(full.secret, OF_OWN, GOOSETABLE_MAX_ROWS - 1);
 }
 
-/* The last carried row gets the commitment that a fetch of the last own row shows, so that the own row's secret opens it. */
+/* The last carried row gets the commitment that a fetch of the last own row shows, so that the own row's secret opens it. It turns, and one goes. */
 static void tomb_of_carried(void)
 {
     tag_of_own();
     call_fetch();
     memcpy(full.carried + (GOOSETABLE_MAX_ROWS - 1) * GOOSETABLE_CARRIED_ROW + 32, full.replies + 3 + 16, GOOSETABLE_TAG_SIZE);
     tag_of_carried();
+}
+
+/* The same with a row left for it, so that none goes. */
+static void tomb_below_limit(void)
+{
+    tomb_of_carried();
+    put(full.device + TOMBSTONES_AT, 8, TOMBSTONES - 1);
 }
 
 /* The exchange has listed nothing. */
@@ -292,6 +299,7 @@ static const struct run runs[] = {
     {"tomb", tag_of_own, call_tomb, GOOSETABLE_DONE},
     {"tomb", tag_of_carried, call_tomb, GOOSETABLE_MALFORMED},
     {"tomb", tomb_of_carried, call_tomb, GOOSETABLE_DONE},
+    {"tomb", tomb_below_limit, call_tomb, GOOSETABLE_DONE},
     {"opened", NULL, call_opened, GOOSETABLE_DONE},
     {"failed", NULL, call_failed, GOOSETABLE_MALFORMED},
     {"maintenance", NULL, call_maintenance, GOOSETABLE_DONE},

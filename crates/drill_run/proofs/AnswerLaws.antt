@@ -357,6 +357,13 @@ module _ (s : State) (g : Good s) where
       go true = (more (delete_proper slot small) none, omega arith)
       go false = (none, omega arith)
 
+  -- room made, and a put
+  put_few : (slot : ℕ) → slot < 2 ^ 64 → All ProperAction (evicted s.tombstones ++ (put_courier slot ∷ [])) × (length (evicted s.tombstones ++ (put_courier slot ∷ [])) ≤ 2)
+  put_few slot small = (
+    all_append (evicted s.tombstones) (put_courier slot ∷ []) evicted_few.0 (more (put_proper slot small) none),
+    omega (arith, length-append (evicted s.tombstones) (put_courier slot ∷ []), evicted_few.1),
+  )
+
   stored_few : (tag : List ℕ) → All ProperAction (store_actions s tag) × (length (store_actions s tag) ≤ 2)
   unfolding store_actions
   stored_few tag = go (tombstoned s.tombstones tag)
@@ -366,15 +373,12 @@ module _ (s : State) (g : Good s) where
 
       go : (b : Bool) → All ProperAction (cond b [] both) × (length (cond b [] both) ≤ 2)
       go true = (none, omega arith)
-      go false = (
-        all_append (evicted s.tombstones) (put_courier s.next_slot ∷ []) evicted_few.0 (more (put_proper s.next_slot g.next_slot) none),
-        omega (arith, length-append (evicted s.tombstones) (put_courier s.next_slot ∷ []), evicted_few.1),
-      )
+      go false = put_few s.next_slot g.next_slot
 
   tomb_answers : (tag secret : List ℕ) (met : Met) → Answers s (receive_tomb s tag secret met)
   unfolding receive_tomb turn end_own
   tomb_answers tag secret (carried_at i) =
-      acting s done (put_courier (get_or s.carried i no_carried).slot ∷ []) _ (more (put_proper (get_or s.carried i no_carried).slot (slot_at i)) none) (omega arith)
+      let few = put_few (get_or s.carried i no_carried).slot (slot_at i) in acting s done _ _ few.0 (omega (arith, few.1))
   tomb_answers tag secret (own_at i) =
       acting s done (put_queued (get_or s.own i no_own).contact (get_or s.own i no_own).msgno ∷ store_actions s tag) _ (more (own_put_at i) (stored_few tag).0)
       (omega (arith, (stored_few tag).1))

@@ -3,3 +3,4 @@ pub mod TellLaws
 pub mod CountLaws
 pub mod HostLaws
 pub mod QuietLaws
+pub mod NumberLaws

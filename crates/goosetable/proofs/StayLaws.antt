@@ -24,10 +24,11 @@ use Rattle.goosetable.specs.Hosts.{LeavesAll, RefusalNumber, IsRefused}
 
 -- ---- a number from 1 to 127 is said of a refusal alone
 
--- the result is a refusal
-pub record Refuses (a : Answer) : Type 0 where
+-- the result is a refusal, and n is its number
+pub record Refuses (a : Answer) (n : ℕ) : Type 0 where
   pub why : Refusal
   pub is : a ≡ refused why
+  pub number : n ≡ refusal_number why
 
 -- a number that is no refusal's
 abbrev pub is_other : ℕ → Bool
@@ -36,15 +37,16 @@ is_other n = not (leb 1 n && leb n 127)
 pub numbered : (why : Refusal) → is_other (refusal_number why) ≡ false
 numbered why = grind arith
 
--- what a call says, by the number alone, tells a refusal from everything else
+-- what a call says, by the number alone, tells a refusal from everything else, and which it is
 abbrev pub Tells : {A : Type 0} → (A → HostAnswer) → (Result → A) → Type 0
-Tells host says = (o : Result) → RefusalNumber (host (says o)).said → Refuses o.answer
+Tells host says = (o : Result) → RefusalNumber (host (says o)).said → Refuses o.answer (host (says o)).said
 
 other : {A : Type 0} (n : ℕ) → is_other n ≡ true → RefusalNumber n → A
 other n e h = absurd (false≢true (ap₂ (λ (a b : Bool). not (a && b)) (sym (le-leb 1 n h.0)) (sym (le-leb n 127 h.1)) ∙ e))
 
--- what f says of each answer but a refusal has another number
+-- what f says of a refusal has its number, and of each other answer another than a refusal's
 pub record Others (f : Answer → HostAnswer) : Type 0 where
+  pub refusing : (why : Refusal) → (f (refused why)).said ≡ refusal_number why
   pub malformed : is_other (f Calls.malformed).said ≡ true
   pub done : is_other (f Calls.done).said ≡ true
   pub ours : (c : ContactId) (g i : ℕ) → is_other (f (Calls.ours c g i)).said ≡ true
@@ -54,8 +56,8 @@ pub record Others (f : Answer → HostAnswer) : Type 0 where
   pub no_envelope : is_other (f Calls.no_envelope).said ≡ true
   pub wrote : (n : ℕ) → is_other (f (Calls.wrote n)).said ≡ true
 
-pub by_answers : (f : Answer → HostAnswer) → Others f → (a : Answer) → RefusalNumber (f a).said → Refuses a
-by_answers f o (refused why) h = record { why = why; is = refl }
+pub by_answers : (f : Answer → HostAnswer) → Others f → (a : Answer) → RefusalNumber (f a).said → Refuses a (f a).said
+by_answers f o (refused why) h = record { why = why; is = refl; number = o.refusing why }
 by_answers f o Calls.malformed h = other (f Calls.malformed).said o.malformed h
 by_answers f o Calls.done h = other (f Calls.done).said o.done h
 by_answers f o (Calls.ours c g i) h = other (f (Calls.ours c g i)).said (o.ours c g i) h
@@ -66,9 +68,9 @@ by_answers f o Calls.no_envelope h = other (f Calls.no_envelope).said o.no_envel
 by_answers f o (Calls.wrote n) h = other (f (Calls.wrote n)).said (o.wrote n) h
 
 -- the same where all else is said in one way
-pub by_refusal : {B : Type 0} (f : B → HostAnswer) (refusing : Refusal → B) (otherwise : B) → is_other (f otherwise).said ≡ true
-    → (a : Answer) → RefusalNumber (f (refused_or refusing otherwise a)).said → Refuses a
-by_refusal f refusing otherwise e =
+pub by_refusal : {B : Type 0} (f : B → HostAnswer) (refusing : Refusal → B) (otherwise : B) → ((why : Refusal) → (f (refusing why)).said ≡ refusal_number why)
+    → is_other (f otherwise).said ≡ true → (a : Answer) → RefusalNumber (f (refused_or refusing otherwise a)).said → Refuses a (f (refused_or refusing otherwise a)).said
+by_refusal f refusing otherwise n e =
     by_answers (λ a. f (refused_or refusing otherwise a)) (search rules)
 
 -- ---- nothing changes
@@ -84,7 +86,7 @@ pub load_answers : (file : List ℕ) → OnlyAnswers (λ s. load_step s file)
 load_answers file s = (load_refused_exactly s file).unchanged
 
 -- some areas, where a contract speaks of any
-abbrev some_areas : Areas
+abbrev pub some_areas : Areas
 some_areas = record {
   device = fresh_device;
   contacts = [];
@@ -123,7 +125,7 @@ module _ {D S A : Type 0} (k : Kept D S) (says : Result → A) (call : State →
   pub refused_all : (host : A → HostAnswer) → Tells host says → OnlyAnswers call → RefusalNumber (host r).said → (k.holds x ≡ k.holds d → x ≡ d) → (place : Areas → S)
       → Places place before after → IsRefused k says r d x before after lent back
   refused_all host tells answers h stays place p =
-      let told : (a : Areas) → Refuses (call (view (before (k.holds d) a))).answer = λ a.
+      let told : (a : Areas) → Refuses (call (view (before (k.holds d) a))).answer _ = λ a.
       tells (call (view (before (k.holds d) a))) (subst (λ (q : A). RefusalNumber (host q).said) (does a).answer h) in
       record {
         why = (told some_areas).why;

@@ -1,4 +1,4 @@
--- What each exported call says tells a refusal from everything else, by the number alone.
+-- What each exported call says tells a refusal from everything else, and which it is, by the number alone.
 -- Assumes nothing.
 use Rattle.std.proofs.Common.{ℕ, List, length, refl, rules}
 use Rattle.std.specs.Prelude.{Ok, Err}
@@ -18,13 +18,13 @@ use Rattle.goosetable.proofs.StayLaws.{Tells, by_answers, by_refusal}
 -- ---- a refusal, or one thing else, which several calls say alike
 
 pub done_tells : Tells alone (λ o. done_answer (said_of o))
-done_tells o = by_refusal done_answer Err (Ok tt) refl o.answer
+done_tells o = by_refusal done_answer Err (Ok tt) (λ why. refl) refl o.answer
 
 pub acted_tells : Tells alone (λ o. acted_answer (says_stored o))
-acted_tells o = by_refusal acted_answer Err (Ok (length o.actions)) refl o.answer
+acted_tells o = by_refusal acted_answer Err (Ok (length o.actions)) (λ why. refl) refl o.answer
 
 pub wrote_tells : Tells alone (λ o. wrote_answer (save_says o))
-wrote_tells o = by_refusal wrote_answer Err (Ok (length o.bytes)) refl o.answer
+wrote_tells o = by_refusal wrote_answer Err (Ok (length o.bytes)) (λ why. refl) refl o.answer
 
 -- ---- by the model's answers
 

@@ -55,7 +55,7 @@ pub data HeldStep (s : State) (o : Result) : Call → List Carried → List Tomb
   turns : (actions : ℕ) (peer : ContactId) (tag secret : List ℕ) (i : ℕ) → position (carried_of_tag tag) s.carried ≡ Some i
       → tombstone_matches (get_or s.carried i no_carried).c secret ≡ true → is_refused o.answer ≡ false
       → HeldStep s o (Calls.tomb actions peer tag secret) (remove_at i s.carried)
-      (insert_by_slot (turned (get_or s.carried i no_carried) tag secret) s.tombstones) s.next_slot s.carried_cells
+      (insert_by_slot (turned (get_or s.carried i no_carried) tag secret) (remaining s.tombstones)) s.next_slot s.carried_cells
   sweeps : (actions : ℕ) → is_refused o.answer ≡ false
       → HeldStep s o (Calls.maintenance actions) (filter (λ (r : Carried). not (carried_expired (minute_of s) r)) s.carried)
       (filter (λ (t : Tombstone). not (tombstone_expired (minute_of s) t)) s.tombstones) s.next_slot s.carried_cells

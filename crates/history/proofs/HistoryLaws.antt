@@ -30,6 +30,7 @@ use Rattle.history.specs.Share.{newest_says, quota_of, verified_after, others_wi
 use Rattle.history.specs.History.{Empty, held_bytes, CustodyHistory, CustodyOnAreas}
 use Rattle.history.proofs.LimitLaws.{Limits}
 use Rattle.history.proofs.KeptLaws.{Kept, kept_for, kept_run, verified_run, never_verified}
+use Rattle.history.proofs.TombstoneLaws.{few_run, never_5_run}
 use Rattle.history.proofs.LifeLaws.{size_run, life_of, origin_of, lives_later, swept_at}
 use Rattle.history.proofs.OfferLaws.{OffersDiffer}
 use Rattle.history.proofs.OfferSteps.{Sound, offered_at, offers_run}
@@ -156,6 +157,7 @@ pub custody_history : (p : Post) → Empty p → p.state.courier.copies < 2 ^ 8 
 custody_history p start copies ls proper =
     let k₀ : Kept p.state = kept_empty p start in
     let k : Kept (run p ls).state = kept_run p ls k₀ in
+    let none-there : length p.state.tombstones ≡ 0 = ap (λ (ts : List Tombstone). length ts) start.tombstones in
     record {
       tags_differ = k.limits.tags_differ;
       few = k.limits.few;
@@ -167,6 +169,8 @@ custody_history p start copies ls proper =
       );
       quota = k.limits.quota;
       quota_unverified = λ id e. never_verified id p ls k₀ e (none_verified p.state.contacts id start.contacts) (none_deposited p.state.carried id start.carried);
+      tombstones_few = few_run p ls 1024 (omega arith) (omega (arith, none-there));
+      never_5 = λ rows before l rest e. never_5_run p rows (omega (arith, none-there)) before l;
       life = λ before l rest e d. life_of (run p before) l d rest (kept_run p before k₀);
       origin = λ e m. origin_of p ls e k₀ start.carried m;
       fields_stay = λ q calls r e ct v. lives_later v;

@@ -8,6 +8,7 @@ pub mod CellLaws
 pub mod OrderLaws
 pub mod LimitLaws
 pub mod KeptLaws
+pub mod TombstoneLaws
 pub mod DepositLaws
 pub mod LifeLaws
 pub mod ShareLaws

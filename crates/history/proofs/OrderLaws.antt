@@ -114,19 +114,20 @@ module _ (s : State) (o : Result) (g : HeldOrder s.carried s.tombstones s.next_s
 
   -- a row that turns retains its slot
   turned_order : (tag secret : List ℕ) (i : ℕ) → i < length s.carried
-      → TombstoneOrder (remove_at i s.carried) (insert_by_slot (turned (get_or s.carried i no_carried) tag secret) s.tombstones) s.next_slot
+      → TombstoneOrder (remove_at i s.carried) (insert_by_slot (turned (get_or s.carried i no_carried) tag secret) (remaining s.tombstones)) s.next_slot
   unfolding insert_by_slot turned
   turned_order tag secret i h =
       let r : Carried = get_or s.carried i no_carried in
+      let ts : List Tombstone = remaining s.tombstones in
       let new : Tombstone = turned r tag secret in
-      let apart : All (λ (t : Tombstone). r.slot ≡ t.slot → ⊥) s.tombstones = all_get i s.carried no_carried g.apart h in
+      let apart : All (λ (t : Tombstone). r.slot ≡ t.slot → ⊥) ts = fewer_all remaining_fewer (all_get i s.carried no_carried g.apart h) in
       let after : Tombstone → Bool = λ t. ltb r.slot t.slot in
       record {
-        rise = sorted_insert after new s.tombstones (λ a b c p q. omega (arith, p, q))
-            (all_imp (λ t q e. lower t q (ltb-false r.slot t.slot e)) s.tombstones apart)
-            (all_each (λ t e. ltb-true r.slot t.slot e) s.tombstones) g.tombstones_rise;
-        below = all_insert_at _ new s.tombstones g.tombstones_below (all_get i s.carried no_carried g.carried_below h);
-        apart = all_imp (λ x q. all_insert_at _ new s.tombstones q.1 q.0) (remove_at i s.carried)
+        rise = sorted_insert after new ts (λ a b c p q. omega (arith, p, q))
+            (all_imp (λ t q e. lower t q (ltb-false r.slot t.slot e)) ts apart)
+            (all_each (λ t e. ltb-true r.slot t.slot e) ts) (fewer_rise remaining_fewer g.tombstones_rise);
+        below = all_insert_at _ new ts (fewer_all remaining_fewer g.tombstones_below) (all_get i s.carried no_carried g.carried_below h);
+        apart = all_imp (λ x q. all_insert_at _ new ts (fewer_all remaining_fewer q.1) q.0) (remove_at i s.carried)
             (all_both (remove_at i s.carried)
             (sorted_others (λ (x : Carried). x.slot ≡ r.slot → ⊥) s.carried i no_carried h g.carried_rise (λ y p z. omega (arith, p, z)) (λ y p z. omega (arith, p, z)))
             (all_remove_at i s.carried g.apart));

@@ -2,6 +2,7 @@
 -- Assumes nothing.
 use Rattle.std.specs.Prelude.{◌≡◌, ℕ, ◌+◌, ◌<◌, ◌≤◌, min, false, List, [], ◌∷◌, ◌++◌, length, ◌≢◌, slice_index_or}
 use Rattle.courier_core.specs.declared.ContactId.{ContactId}
+use Rattle.courier_core.specs.declared.Refusal.TheVariants as refusal
 use Rattle.table.specs.Lists.{All}
 use Rattle.courier.specs.declared.Header.{Header}
 use Rattle.courier.specs.declared.Custody.TheVariants as custody
@@ -94,6 +95,10 @@ pub record CustodyHistory (p : Post) (ls : List Lent) : Type 0 where
   -- no contact has over 32, nor over 16 if no contact call on it ever said 1
   pub quota : (id : ContactId) → deposited (run p ls).state.carried id ≤ 32
   pub quota_unverified : (id : ContactId) → ever_verified id ls ≡ false → deposited (run p ls).state.carried id ≤ 16
+  -- there are at most 1,024 tombstones, whatever R is; and with R at 1,024 or more no call is refused by number 5 (a load is none of these calls)
+  pub tombstones_few : length (run p ls).state.tombstones ≤ 1024
+  pub never_5 : 1024 ≤ p.state.tombstone_rows → (before : List Lent) (l : Lent) (rest : List Lent) → ls ≡ before ++ (l ∷ rest)
+      → (answer_to (run p before) l).answer ≢ Calls.refused refusal.NoTombstoneRow
   -- every envelope call answered with code 0 gave one carried row; it leaves only by maintenance at or after its expiry or by a tomb whose
   -- secret hashes to its commitment
   pub life : (before : List Lent) (l : Lent) (rest : List Lent) → ls ≡ before ++ (l ∷ rest) → (d : Deposit (run p before) l) → Life (run p before) l d rest

@@ -210,7 +210,7 @@ meeting secret p m =
 
 -- computed on rows
 turned_rows : (secret : List ℕ) → Turned secret (run (fresh_post (areas 1)) (offering (commitment_of secret) ++ ended secret))
-unfolding Turned ran offering accepting tomb ended meeting run after answer_to state_for Tombs.meets Tombs.tomb_tests Tombs.no_row_to_meet Tombs.no_slot_to_meet Tombs.receive_tomb Tombs.turn Tombs.turned Tombs.insert_by_slot
+unfolding Turned ran offering accepting tomb ended meeting run after answer_to state_for Tombs.meets Tombs.tomb_tests Tombs.no_row_to_meet Tombs.no_slot_to_meet Tombs.receive_tomb Tombs.turn Tombs.turned Tombs.insert_by_slot Tombs.remaining
 turned_rows secret =
     subst (λ (m : Met). Turned secret (meeting secret (run (fresh_post (areas 1)) (offering (commitment_of secret) ++ accepting)) m))
     (sym (ap (λ (b : Bool). cond b (carried_at 0) wrong) (opens secret))) (refl, refl)

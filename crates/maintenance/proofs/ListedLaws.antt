@@ -1,54 +1,33 @@
 -- Laws of actions listed one behind the other.
 -- Assumes nothing.
-use Rattle.std.proofs.Common.{◌≡◌, ℕ, ◌+◌, ◌*◌, ◌<◌, ◌≤◌, Bool, true, false, cond, List, [], ◌∷◌, ◌++◌, map, length, take, sym, ap, ◌∙◌, append-nil, arith, length-append}
-use mathlib.Core.List.{map-append}
-use lib.ListN.{length-map}
+use Rattle.std.proofs.Common.{◌≡◌, ℕ, ◌+◌, ◌*◌, ◌<◌, ◌≤◌, Bool, true, false, cond, List, [], ◌∷◌, ◌++◌, map, length, take, sym, ◌∙◌, append-nil, arith, length-append}
 use Rattle.octets.specs.Bytes.{splice, part}
-use Rattle.octets.proofs.Parts.{splice_nil, splice_then}
-use Rattle.octets.proofs.Numbers.{length_be}
-use Rattle.table.specs.Lists.{filter, none, more}
+use Rattle.octets.proofs.Parts.{splice_nil}
+use Rattle.table.specs.Lists.{filter}
 use Rattle.table.specs.Rows.{held, join}
 use Rattle.table.specs.Codec.{Codec, table_of, with_table}
-use Rattle.table.proofs.RowLaws.{Wide, length_join, join_append, written_splice}
+use Rattle.table.proofs.RowLaws.{written_splice}
 use Rattle.table.proofs.TableLaws.{length_table}
 use Rattle.rows.specs.declared.Action.{Action}
 use Rattle.rows.specs.Rows.{action_bytes, action_codec}
+use Rattle.model.proofs.Laws.{one_listed, listed_behind}
 use Rattle.maintenance.specs.Expiry.{Listed, Putting}
 use Rattle.maintenance.proofs.SiftLaws.{sift_next, sift_end}
-
-length_action : (t : Action) → length (action_bytes t) ≡ 13
-unfolding action_bytes
-length_action t = simp (length-append, length_be)
-
-wide_actions : (acts : List Action) → Wide 13 (map action_bytes acts)
-wide_actions [] = none
-wide_actions (t ∷ acts) = more (length_action t) (wide_actions acts)
-
-length_actions : (acts : List Action) → length (join (map action_bytes acts)) ≡ length acts * 13
-length_actions acts = length_join (map action_bytes acts) (wide_actions acts) ∙ ap (λ (n : ℕ). n * 13) (length-map acts action_bytes)
 
 pub listed_none : (ac : List ℕ) (k : ℕ) → Listed ac k [] k ac
 unfolding join
 listed_none ac k = record { count = omega arith; area = sym (splice_nil ac (k * 13)) }
 
 pub listed_then : {ac x y : List ℕ} {k m n : ℕ} (us vs : List Action) → Listed ac k us m x → Listed x m vs n y → n * 13 ≤ length ac → Listed ac k (us ++ vs) n y
-listed_then {ac} {x} {y} {k} {m} {n} us vs L M h =
-    let lu = length_actions us in
-    let lv = length_actions vs in
-    record {
-      count = omega (arith, L.count, M.count, length-append us vs);
-      area =
-          splice_then ac x y (k * 13) (m * 13) (join (map action_bytes us)) (join (map action_bytes vs)) L.area M.area
-          (omega (arith, L.count, lu)) (omega (arith, M.count, lv))
-          ∙ ap (splice ac (k * 13)) (sym (ap join (map-append action_bytes us vs) ∙ join_append (map action_bytes us) (map action_bytes vs)));
-    }
+listed_then {ac} {x} {y} {k} {m} us vs L M h = record {
+  count = omega (arith, L.count, M.count, length-append us vs);
+  area = listed_behind us vs ac x y (k * 13) (m * 13) L.area M.area (omega (arith, L.count)) (omega (arith, M.count, h));
+}
 
 -- one action more
 pub listed_push : {ac x y : List ℕ} {k m : ℕ} (us : List Action) (t : Action) (n : ℕ) → Listed ac k us m x → y ≡ splice x (m * 13) (action_bytes t) → n ≡ m + 1
     → n * 13 ≤ length ac → Listed ac k (us ++ (t ∷ [])) n y
-unfolding join
-listed_push {x = x} {m = m} us t n L e en h =
-    listed_then us (t ∷ []) L (record { count = en; area = e ∙ ap (splice x (m * 13)) (sym (append-nil (action_bytes t))) }) h
+listed_push {x = x} {y} {m = m} us t n L e en h = listed_then us (t ∷ []) L (record { count = en; area = one_listed t x y (m * 13) e }) h
 
 -- from the front of the area on
 pub listed_front : {ac x : List ℕ} {m : ℕ} (us : List Action) → Listed ac 0 us m x → x ≡ with_table action_codec ac us

@@ -357,7 +357,7 @@ pub least_lowest : (ts : List Tombstone) → 0 < length ts → All (λ (t : Tomb
 least_lowest [] h e rise = absurd (omega arith)
 least_lowest (t ∷ ts) h (more e rest) rise = first_lowest (t ∷ ts) (least_expiry (t ∷ ts)) rise (least_expiry_lem t ts e)
 
--- one more, and none goes
+-- one more than there were
 pub one_more : (t : Tombstone) (ts : List Tombstone) → Perm (insert_by_slot t ts) (t ∷ ts)
 unfolding insert_by_slot insert_at
 one_more t ts =

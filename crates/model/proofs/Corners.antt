@@ -1,6 +1,6 @@
 -- Document 01's marked corners of couriering.rs, about the definitions that the contracts cite.
 -- Assumes nothing.
-use Rattle.std.proofs.Common.{◌≡◌, ℕ, ◌+◌, ◌*◌, ◌/◌, ◌^◌, ◌<◌, ◌≤◌, true, false, ◌||◌, ltb, leb, ◌⊎◌, ◌↔◌, List, [], ◌∷◌, ◌++◌, length, refl, ap, subst, arith, le-ltb, lt-ltb, ne_eqb, le-leb, Option, Some, None}
+use Rattle.std.proofs.Common.{◌≡◌, ℕ, ◌+◌, ◌*◌, ◌/◌, ◌^◌, ◌<◌, ◌≤◌, min, Bool, true, false, cond, ◌||◌, ltb, leb, ◌⊎◌, ◌↔◌, List, [], ◌∷◌, ◌++◌, length, refl, ap, subst, arith, le-ltb, lt-ltb, ne_eqb, le-leb, Option, Some, None}
 use mathlib.Core.List.{Perm}
 use borrow.Author.Tests.{lt-leb}
 use Rattle.courier_core.specs.declared.ContactId.{ContactId}
@@ -9,20 +9,20 @@ use Rattle.courier.specs.declared.Header.{Header}
 use Rattle.courier.specs.declared.Custody.{Custody}
 use Rattle.courier.specs.declared.Custody.TheVariants as custody
 use Rattle.courier.specs.Courier.{carried_length, envelope_valid}
-use Rattle.courier.specs.Tags.{tombstone_matches}
+use Rattle.courier.specs.Tags.{commitment_of, tombstone_matches}
 use Rattle.rows.specs.declared.Own.{Own}
 use Rattle.rows.specs.declared.Carried.{Carried}
 use Rattle.rows.specs.declared.Tombstone.{Tombstone}
 use Rattle.rows.specs.declared.Offer.{Offer}
 use Rattle.rows.specs.declared.Reachable.{Reachable}
 use Rattle.model.specs.Basics.{match_found, trunc8}
-use Rattle.model.specs.State.{State, keep, now, nothing, apply, listed_now}
-use Rattle.model.specs.Calls.{Result, result, only, done, malformed, put_courier, delete_courier, custody_reply}
-use Rattle.model.specs.Contacts.{minute_of, is_verified}
-use Rattle.model.specs.Window.{lookup}
+use Rattle.model.specs.State.{State, keep, now, nothing, apply, own_now, carried_now, tombstones_now, bad_tags_now, listed_now, ◌and◌}
+use Rattle.model.specs.Calls.{Result, result, only, done, malformed, put_courier, delete_courier, put_queued, tomb_reply, custody_reply}
+use Rattle.model.specs.Contacts.{minute_of, end_of, is_verified}
+use Rattle.model.specs.Window.{lookup, is_bad}
 use Rattle.model.specs.Custody.{quota, carried_total, deposited, duplicate, full, custody_of, is_accepted, answer_custody, receive_envelope}
 use Rattle.model.specs.Exchange.{Envelope, no_carried, no_own, no_offer, envelopes, in_question, is_offered, answer_inventory, list_more, max_inventory, too_many, receive_inventory, lowered, own_lowered, offer_of_tag, handed_over, settle, receive_custody}
-use Rattle.model.specs.Tombs.{tombstoned, least_expiry, remaining, evicted, store_tombstone, store_actions, carried_at, meets, insert_by_slot, turned, turn, receive_tomb, no_row_to_meet, no_slot_to_meet}
+use Rattle.model.specs.Tombs.{tombstoned, least_expiry, remaining, evicted, store_tombstone, store_actions, stored, carried_at, own_at, wrong, unknown, meets, insert_by_slot, turned, turn, end_own, receive_tomb, no_row_to_meet, no_slot_to_meet, report_opened, report_failed}
 use Rattle.model.proofs.Examples.{ThreePeers, three_peers}
 use Rattle.model.proofs.Laws.{carried_total_lem}
 use Rattle.model.proofs.CornerLaws.{Has, here, has_right, has_any, has_none, OwnHas, CarriedHas, TombstonesHave, OffersHave}
@@ -60,6 +60,15 @@ tomb_result s tag secret = receive_tomb s tag secret (meets s.own s.carried tag 
 
 abbrev pub Turns : State → List ℕ → List ℕ → List Carried → Carried → List Carried → Type 0
 Turns s tag secret x r y = FirstCarried s tag x r y × (tombstone_matches r.c secret ≡ true)
+
+-- a tomb that needs no row for a tombstone, and no slot
+abbrev pub NeedsNone : State → List ℕ → List ℕ → Type 0
+NeedsNone s tag secret =
+    (no_row_to_meet s tag (meets s.own s.carried tag secret) ≡ false) × (no_slot_to_meet s tag (meets s.own s.carried tag secret) ≡ false)
+
+-- the tombstone that a carried row turns into, and one that is stored
+abbrev pub turned_into : Carried → List ℕ → List ℕ → Tombstone
+turned_into r tag secret = record { slot = r.slot; tag = tag; s = secret; expiry_min = r.expiry_min }
 
 abbrev pub new_tombstone : State → List ℕ → List ℕ → ℕ → Tombstone
 new_tombstone s tag secret expiry = record { slot = s.next_slot; tag = tag; s = secret; expiry_min = expiry }
@@ -134,18 +143,47 @@ pub record CourieringCorners : Type 0 where
       → full s peer len ≡ (leb 256 (length s.carried) || leb (quota (is_verified s.contacts peer)) (deposited s.carried peer))
   -- 256 × 2,101 = 537,856
   pub most_bytes : (256 * 2101 ≡ 537856) × ((size : ℕ) (rs : List Carried) → length rs ≤ 256 → carried_total size rs ≤ 537856)
-  -- a carried row turned tombstone retains its slot and expiry
+  -- a carried row turned tombstone retains its slot and expiry: it leaves the carried rows, is done, and replies nothing
   pub turned_retains : (s : State) (tag secret : List ℕ) (x y : List Carried) (r : Carried) → Turns s tag secret x r y
-      → ((tomb_result s tag secret).change.tombstones
-      ≡ now (insert_by_slot (record { slot = r.slot; tag = tag; s = secret; expiry_min = r.expiry_min }) s.tombstones))
-      × ((tomb_result s tag secret).change.carried ≡ now (x ++ y))
-  -- and passes no limit of 1,024: there is one tombstone more, nothing is deleted, and a free one of the R rows is all that is asked
+      → tomb_result s tag secret
+      ≡ result done [] (evicted s.tombstones ++ (put_courier r.slot ∷ []))
+      (carried_now (x ++ y) and tombstones_now (insert_by_slot (turned_into r tag secret) (remaining s.tombstones)))
+  -- at 1,024 or more it first deletes one of those stored before, whatever tags they have: of least expiry, lowest slot among equals (below)
+  pub turned_at_1024 : (s : State) (tag secret : List ℕ) (x y : List Carried) (r : Carried) → Turns s tag secret x r y → 1024 ≤ length s.tombstones
+      → ((tomb_result s tag secret).actions ≡ delete_courier (slot_at s.tombstones (least_expiry s.tombstones)) ∷ put_courier r.slot ∷ [])
+      × ((tomb_result s tag secret).change.tombstones
+      ≡ now (insert_by_slot (turned_into r tag secret) (remove_at (least_expiry s.tombstones) s.tombstones)))
+  -- below 1,024 none goes
+  pub turned_below_1024 : (s : State) (tag secret : List ℕ) (x y : List Carried) (r : Carried) → Turns s tag secret x r y → length s.tombstones < 1024
+      → ((tomb_result s tag secret).actions ≡ put_courier r.slot ∷ [])
+      × ((tomb_result s tag secret).change.tombstones ≡ now (insert_by_slot (turned_into r tag secret) s.tombstones))
+  -- it is one more than those that are left
   pub one_tombstone_more : (t : Tombstone) (ts : List Tombstone) → Perm (insert_by_slot t ts) (t ∷ ts)
-  pub turned_deletes_none : (s : State) (tag secret : List ℕ) (x y : List Carried) (r : Carried) → Turns s tag secret x r y
-      → (tomb_result s tag secret).actions ≡ put_courier r.slot ∷ []
+  -- number 5 is tested after that deletion, and a turned row takes no new slot
   pub turned_fits : (s : State) (tag secret : List ℕ) (x y : List Carried) (r : Carried) → Turns s tag secret x r y
-      → length s.tombstones < s.tombstone_rows
-      → (no_row_to_meet s tag (meets s.own s.carried tag secret) ≡ false) × (no_slot_to_meet s tag (meets s.own s.carried tag secret) ≡ false)
+      → (no_row_to_meet s tag (meets s.own s.carried tag secret) ≡ leb s.tombstone_rows (length (remaining s.tombstones)))
+      × (no_slot_to_meet s tag (meets s.own s.carried tag secret) ≡ false)
+  -- an own row, where no carried row has the tag, ends: its own put comes first, then its tombstone is stored
+  pub own_row_ends : (s : State) (tag secret : List ℕ) (x y : List Own) (o : Own) → (CarriedHas s.carried tag → ⊥) → FirstOwn s tag x o y
+      → tombstone_matches (commitment_of o.s) secret ≡ true
+      → tomb_result s tag secret
+      ≡ result done [] (put_queued o.contact o.msgno ∷ store_actions s tag) (own_now (x ++ y) and store_tombstone s tag secret o.expiry_min)
+  -- nothing goes for a wrong secret, even if an own row would match it, nor for a tag that is not held; neither meets 5 or 6
+  pub wrong_secret : (s : State) (tag secret : List ℕ) (x y : List Carried) (r : Carried) → FirstCarried s tag x r y
+      → tombstone_matches r.c secret ≡ false → (tomb_result s tag secret ≡ only malformed) × NeedsNone s tag secret
+  pub wrong_own_secret : (s : State) (tag secret : List ℕ) (x y : List Own) (o : Own) → (CarriedHas s.carried tag → ⊥) → FirstOwn s tag x o y
+      → tombstone_matches (commitment_of o.s) secret ≡ false → (tomb_result s tag secret ≡ only malformed) × NeedsNone s tag secret
+  pub unknown_tag : (s : State) (tag secret : List ℕ) → (CarriedHas s.carried tag → ⊥) → (OwnHas s.own tag → ⊥)
+      → (tomb_result s tag secret ≡ only done) × NeedsNone s tag secret
+  -- what a stored tombstone, "opened" and "failed" answer: "opened" its tomb, and "failed" that it is malformed
+  pub stored_answers : (s : State) (tag secret : List ℕ) (expiry : ℕ)
+      → stored s tag secret expiry ≡ result done [] (store_actions s tag) (store_tombstone s tag secret expiry)
+  pub opened_answers : (s : State) (tag secret : List ℕ) (expiry : ℕ)
+      → report_opened s tag secret expiry
+      ≡ result done (tomb_reply tag secret ∷ []) (store_actions s tag) (store_tombstone s tag secret (min expiry (end_of s)))
+  pub failed_answers : (s : State) (peer : ContactId) (tag : List ℕ)
+      → (is_bad s.bad_tags peer tag ≡ true → report_failed s peer tag ≡ only malformed)
+      × (is_bad s.bad_tags peer tag ≡ false → report_failed s peer tag ≡ result malformed [] [] (bad_tags_now (s.bad_tags ++ (record { peer = peer; tag = tag } ∷ []))))
   -- a stored tombstone at 1,024 or more first deletes one
   pub stored_at_1024 : (s : State) (tag secret : List ℕ) (expiry : ℕ) → (TombstonesHave s.tombstones tag → ⊥) → 1024 ≤ length s.tombstones
       → (store_actions s tag ≡ delete_courier (slot_at s.tombstones (least_expiry s.tombstones)) ∷ put_courier s.next_slot ∷ [])
@@ -197,6 +235,20 @@ turns_at : (s : State) (tag secret : List ℕ) (x y : List Carried) (r : Carried
 unfolding meets
 turns_at s tag secret x y r h = rw (first_place h.0, first_row h.0 no_carried, h.1)
 
+meets_own : (s : State) (tag secret : List ℕ) (x y : List Own) (o : Own) (b : Bool) → (CarriedHas s.carried tag → ⊥) → FirstOwn s tag x o y
+    → tombstone_matches (commitment_of o.s) secret ≡ b → meets s.own s.carried tag secret ≡ cond b (own_at (length x)) wrong
+unfolding meets
+meets_own s tag secret x y o b n h k = rw (no_place (λ (z : Carried). z.tag) tag s.carried n, first_place h, first_row h no_own, k)
+
+meets_wrong : (s : State) (tag secret : List ℕ) (x y : List Carried) (r : Carried) → FirstCarried s tag x r y → tombstone_matches r.c secret ≡ false
+    → meets s.own s.carried tag secret ≡ wrong
+unfolding meets
+meets_wrong s tag secret x y r h k = rw (first_place h, first_row h no_carried, k)
+
+meets_none : (s : State) (tag secret : List ℕ) → (CarriedHas s.carried tag → ⊥) → (OwnHas s.own tag → ⊥) → meets s.own s.carried tag secret ≡ unknown
+unfolding meets
+meets_none s tag secret n m = rw (no_place (λ (z : Carried). z.tag) tag s.carried n, no_place (λ (z : Own). z.tag) tag s.own m)
+
 -- half of the copies of an envelope
 half : (s : State) (window : List Reachable) (peer : ContactId) (x y : List Envelope) (e : Envelope) → Offerable s peer x e y → (n : ℕ) → 1 < n
     → e.head.copies ≡ n → OffersCopies s window peer e y (n / 2)
@@ -214,7 +266,7 @@ unfolding tombstoned
 one_of_tag ts tag = has_any (λ (t : Tombstone). t.tag) tag ts
 
 pub couriering_corners : CourieringCorners
-unfolding receive_inventory answer_inventory list_more too_many is_offered in_question receive_custody settle handed_over custody_of answer_custody receive_envelope turned turn receive_tomb no_row_to_meet no_slot_to_meet store_actions evicted store_tombstone remaining apply
+unfolding receive_inventory answer_inventory list_more too_many is_offered in_question receive_custody settle handed_over custody_of answer_custody receive_envelope turned turn receive_tomb no_row_to_meet no_slot_to_meet end_own stored report_opened report_failed store_actions evicted store_tombstone remaining apply
 couriering_corners = record {
   listed_512 = λ s window peer tags h k l.
       rw (h, le-ltb max_inventory (length s.session.exchange.listed + length tags) (omega arith), ne_eqb (length tags) 0 (omega arith));
@@ -248,12 +300,22 @@ couriering_corners = record {
   duplicate_exactly = duplicate_has;
   bytes_never_decide = never_decides;
   most_bytes = (refl, λ size rs h. omega (arith, carried_total_lem size rs));
-  turned_retains = λ s tag secret x y r h.
-      (rw (turns_at s tag secret x y r h, first_row h.0 no_carried), rw (turns_at s tag secret x y r h) (ap now (first_removed h.0)));
+  turned_retains = λ s tag secret x y r h. rw (turns_at s tag secret x y r h, first_row h.0 no_carried, first_removed h.0);
+  turned_at_1024 = λ s tag secret x y r h k.
+      let e = le-leb 1024 (length s.tombstones) k in
+      (rw (turns_at s tag secret x y r h, first_row h.0 no_carried, e), rw (turns_at s tag secret x y r h, first_row h.0 no_carried, e));
+  turned_below_1024 = λ s tag secret x y r h k.
+      let e = lt-leb 1024 (length s.tombstones) k in
+      (rw (turns_at s tag secret x y r h, first_row h.0 no_carried, e), rw (turns_at s tag secret x y r h, first_row h.0 no_carried, e));
   one_tombstone_more = one_more;
-  turned_deletes_none = λ s tag secret x y r h. rw (turns_at s tag secret x y r h, first_row h.0 no_carried);
-  turned_fits = λ s tag secret x y r h k.
-      (rw (turns_at s tag secret x y r h) (lt-leb s.tombstone_rows (length s.tombstones) k), rw (turns_at s tag secret x y r h));
+  turned_fits = λ s tag secret x y r h. (rw (turns_at s tag secret x y r h), rw (turns_at s tag secret x y r h));
+  own_row_ends = λ s tag secret x y o n h k. rw (meets_own s tag secret x y o true n h k, first_row h no_own, first_removed h);
+  wrong_secret = λ s tag secret x y r h k. let e = meets_wrong s tag secret x y r h k in (rw e, (rw e, rw e));
+  wrong_own_secret = λ s tag secret x y o n h k. let e = meets_own s tag secret x y o false n h k in (rw e, (rw e, rw e));
+  unknown_tag = λ s tag secret n m. let e = meets_none s tag secret n m in (rw e, (rw e, rw e));
+  stored_answers = λ s tag secret expiry. refl;
+  opened_answers = λ s tag secret expiry. refl;
+  failed_answers = λ s peer tag. (λ h. rw h, λ h. rw h);
   stored_at_1024 = λ s tag secret expiry h k.
       let e = none_of_tag s.tombstones tag h in
       (rw (e, le-leb 1024 (length s.tombstones) k), rw (e, le-leb 1024 (length s.tombstones) k));

@@ -1,6 +1,6 @@
 -- Runs of the model from a fresh post, computed: document 01's worked example, three peers accepting 2 of 4, and a row's end.
 -- Assumes nothing.
-use Rattle.std.proofs.Common.{◌≡◌, ℕ, zero, suc, Bool, true, false, List, [], ◌∷◌, ◌++◌, map, length, replicate, refl}
+use Rattle.std.proofs.Common.{◌≡◌, ℕ, zero, suc, Bool, true, false, List, [], ◌∷◌, ◌++◌, map, length, get_or, replicate, refl}
 use Rattle.octets.specs.Bytes.{splice, part, num, be, same_bytes}
 use Rattle.octets.proofs.Compare.{same_refl}
 use Rattle.courier_core.specs.declared.ContactId.{ContactId}
@@ -201,31 +201,41 @@ quotas = (refl, refl, refl, refl, refl, refl)
 
 -- ---- tombstones
 
--- tombstones of slots n − 1 down to 0 with one expiry
-tombs : ℕ → ℕ → List Tombstone
+-- so many tombstones with one expiry, in rising slots
+tombs : (slot expiry : ℕ) → ℕ → List Tombstone
 unfolding of_byte
-tombs expiry zero = []
-tombs expiry (suc n) = (record { slot = n; tag = []; s = []; expiry_min = expiry }) ∷ tombs expiry n
+tombs slot expiry zero = []
+tombs slot expiry (suc n) = (record { slot = slot; tag = []; s = []; expiry_min = expiry }) ∷ tombs (suc slot) expiry n
+
+-- a carried row that expires before all of them
+soon : Carried
+soon = record { slot = 8000; depositor = id 5; tag = of_byte 17; c = []; expiry_min = 10; copies = 1; len = 64; cell = 0 }
 
 -- 1,024 of them, two of least expiry; R = 2,000
 limit : State
-unfolding tombs
-limit = apply (empty_state 0 config_default [] [] 2000 4) (tombstones_now (tombs 100 500 ++ tombs 50 2 ++ tombs 70 522) and next_slot_now 9000)
+unfolding tombs soon
+limit =
+    apply (empty_state 0 config_default [] [] 2000 4) (carried_now (soon ∷ []) and tombstones_now (tombs 0 100 500 ++ tombs 500 50 2 ++ tombs 502 70 522) and next_slot_now 9000)
 
--- a tombstone stored there deletes the first of least expiry; a carried row that turns deletes none
+turned_there : List Tombstone
+unfolding limit
+turned_there = upd [] (Tombs.turn limit 0 (of_byte 17) []).change.tombstones
+
+-- a tombstone stored there deletes the lowest slot of least expiry, and so does the row that turns, though it would expire before it
 at_limit :
-    (Tombs.store_actions limit (of_byte 17) ≡ delete_courier 1 ∷ put_courier 9000 ∷ [])
+    (Tombs.store_actions limit (of_byte 17) ≡ delete_courier 500 ∷ put_courier 9000 ∷ [])
     × (length (upd [] (Tombs.store_tombstone limit (of_byte 17) [] 100).tombstones) ≡ 1024)
-    × (length (upd [] (Tombs.turn limit 0 (of_byte 17) []).change.tombstones) ≡ 1025)
-unfolding rows_of limit tombs Tombs.tombstoned Tombs.store_actions Tombs.evicted Tombs.least_from Tombs.store_tombstone Tombs.remaining Tombs.turn Tombs.turned Tombs.insert_by_slot
-at_limit = (refl, refl, refl)
+    × ((Tombs.turn limit 0 (of_byte 17) []).actions ≡ delete_courier 500 ∷ put_courier 8000 ∷ []) × (length turned_there ≡ 1024)
+    × (get_or turned_there 1023 Tombs.no_tombstone ≡ record { slot = 8000; tag = of_byte 17; s = []; expiry_min = 10 })
+unfolding rows_of limit soon tombs turned_there Tombs.tombstoned Tombs.store_actions Tombs.evicted Tombs.least_from Tombs.store_tombstone Tombs.remaining Tombs.turn Tombs.turned Tombs.insert_by_slot
+at_limit = (refl, refl, refl, refl, refl)
 
 -- a tag that has a tombstone, or is carried, is a Duplicate
 duplicates : List Carried → List Tombstone → Bool
 unfolding rows_of rows_from tombs
 duplicates rs ts = model.duplicate (apply (empty_state 0 config_default [] [] 4 4) (carried_now rs and tombstones_now ts)) []
 
-tombstone_duplicate : (duplicates [] (tombs 100 1) ≡ true) × (duplicates (rows_from 5 3) [] ≡ false)
+tombstone_duplicate : (duplicates [] (tombs 0 100 1) ≡ true) × (duplicates (rows_from 5 3) [] ≡ false)
 unfolding duplicates
 tombstone_duplicate = (refl, refl)
 

@@ -173,22 +173,22 @@ module _ (s : State) (g : Good s) where
           ))
           (fits_slot s (s.next_slot + 1) (next_small s.next_slot g.next_slot k))
 
-  fits_turn : (i : ℕ) (tag secret : List ℕ) → Run 16 tag → Run 16 secret → i < length s.carried → leb s.tombstone_rows (length s.tombstones) ≡ false
+  fits_turn : (i : ℕ) (tag secret : List ℕ) → Run 16 tag → Run 16 secret → i < length s.carried → leb s.tombstone_rows (length (remaining s.tombstones)) ≡ false
       → Fits s (turn s i tag secret).change
   unfolding turn insert_by_slot turned
   fits_turn i tag secret p q b t =
       let r : Carried = get_or s.carried i no_carried in
       let proper : ProperCarried r = all_get i s.carried no_carried g.carried b in
       let new : Tombstone = turned r tag secret in
-      let at : ℕ = unwrap_or (length s.tombstones) (position (λ (x : Tombstone). ltb r.slot x.slot) s.tombstones) in
-      fits_and s (carried_now (remove_at i s.carried)) (tombstones_now (insert_at at new s.tombstones))
+      let at : ℕ = unwrap_or (length (remaining s.tombstones)) (position (λ (x : Tombstone). ltb r.slot x.slot) (remaining s.tombstones)) in
+      fits_and s (carried_now (remove_at i s.carried)) (tombstones_now (insert_at at new (remaining s.tombstones)))
       (fits_carried s (remove_at i s.carried) (all_remove_at i s.carried g.carried, omega (arith, length_remove_at s.carried i b, g.carried_few)))
-      (fits_tombstones s (insert_at at new s.tombstones) (
-        all_insert_at at new s.tombstones g.tombstones (record { slot = proper.slot; tag = p; s = q; expiry_min = proper.expiry_min }),
+      (fits_tombstones s (insert_at at new (remaining s.tombstones)) (
+        all_insert_at at new (remaining s.tombstones) remaining_proper (record { slot = proper.slot; tag = p; s = q; expiry_min = proper.expiry_min }),
         omega (
           arith,
-          length_insert_at s.tombstones at new (position_le (λ (x : Tombstone). ltb r.slot x.slot) s.tombstones),
-          leb-false s.tombstone_rows (length s.tombstones) t,
+          length_insert_at (remaining s.tombstones) at new (position_le (λ (x : Tombstone). ltb r.slot x.slot) (remaining s.tombstones)),
+          leb-false s.tombstone_rows (length (remaining s.tombstones)) t,
         ),
       ))
 

@@ -1,14 +1,22 @@
--- Laws of the model's definitions: the bytes that carried rows can have, the place of the least expiry, the saved file, refusals.
+-- Laws of the model's definitions: the bytes that carried rows can have, the place of the least expiry, the saved file, refusals, the bytes of actions.
 -- Assumes nothing.
-use Rattle.std.proofs.Common.{◌≡◌, ℕ, suc, ◌+◌, ◌-◌, ◌*◌, ◌^◌, ◌<◌, ◌≤◌, min, Bool, true, false, cond, ltb, leb, List, [], ◌∷◌, ◌++◌, length, get_or, drop, sym, refl, ap, ◌∙◌, subst, ap₂, append-nil, add-zero, add-one, arith, length-drop, length-take, get_or-drop, drop-drop, ltb-false, ltb-true, le-ltb, lt-ltb}
+use Rattle.std.proofs.Common.{◌≡◌, ℕ, suc, ◌+◌, ◌-◌, ◌*◌, ◌^◌, ◌<◌, ◌≤◌, min, Bool, true, false, cond, ltb, leb, List, [], ◌∷◌, ◌++◌, map, length, get_or, drop, sym, refl, ap, ◌∙◌, subst, ap₂, append-nil, add-zero, add-one, arith, length-append, length-drop, length-take, get_or-drop, drop-drop, ltb-false, ltb-true, le-ltb, lt-ltb}
 use mathlib.Core.List.Perm
-use mathlib.Core.List.{Perm, perm_middle}
+use mathlib.Core.List.{Perm, perm_middle, map-append}
 use native.Mathlib.Nat.{min-le_left, min-le_right}
-use Rattle.octets.specs.Bytes.{part}
+use lib.ListN.{length-map}
+use Rattle.octets.specs.Bytes.{part, splice}
+use Rattle.octets.proofs.Numbers.{length_be}
+use Rattle.octets.proofs.Parts.{splice_then}
 use Rattle.table.specs.Lists.{All}
 use Rattle.table.specs.Lists as lists
+use Rattle.table.specs.Rows.{join}
+use Rattle.table.proofs.ListLaws.{all_each, all_map}
+use Rattle.table.proofs.RowLaws.{length_join, join_append}
 use Rattle.rows.specs.declared.Carried.{Carried}
 use Rattle.rows.specs.declared.Tombstone.{Tombstone}
+use Rattle.rows.specs.declared.Action.{Action}
+use Rattle.rows.specs.Rows.{action_bytes}
 use Rattle.model.specs.Basics.{merge}
 use Rattle.model.specs.State.{State}
 use Rattle.model.specs.Calls.{Cells, of_own, of_carried, no_cell, cell_from, first_cell, reply_cell}
@@ -201,3 +209,27 @@ all_merge {A} {P} key (x ∷ xs) (y ∷ ys) (lists.more h p) (lists.more k q) =
 pub saved : (s : State) → IsSaved s (save_held s).bytes
 unfolding save_held saved_rows
 saved s = record { rows = saved_rows s; once = perm_merge (λ (h : Slotted). h.slot) (saved_carried s) (saved_tombstones s); bytes = refl }
+
+-- ---- actions listed one behind the other
+
+-- a row of the action area has 13 bytes
+pub length_action : (r : Action) → length (action_bytes r) ≡ 13
+unfolding action_bytes
+length_action r = simp (length-append, length_be)
+
+pub length_actions : (acts : List Action) → length (join (map action_bytes acts)) ≡ length acts * 13
+length_actions acts =
+    length_join (map action_bytes acts) (all_map action_bytes acts (all_each length_action acts)) ∙ ap (λ (n : ℕ). n * 13) (length-map acts action_bytes)
+
+-- one action listed
+pub one_listed : (p : Action) (ac y : List ℕ) (at : ℕ) → y ≡ splice ac at (action_bytes p) → y ≡ splice ac at (join (map action_bytes (p ∷ [])))
+unfolding join
+one_listed p ac y at e = e ∙ ap (splice ac at) (sym (append-nil (action_bytes p)))
+
+-- actions behind others
+pub listed_behind : (first then : List Action) (ac z y : List ℕ) (at place : ℕ) → z ≡ splice ac at (join (map action_bytes first))
+    → y ≡ splice z place (join (map action_bytes then)) → place ≡ at + 13 * length first → place + 13 * length then ≤ length ac
+    → y ≡ splice ac at (join (map action_bytes (first ++ then)))
+listed_behind first then ac z y at place ez ey ep h =
+    splice_then ac z y at place (join (map action_bytes first)) (join (map action_bytes then)) ez ey (omega (arith, length_actions first, ep)) (omega (arith, length_actions then, h))
+    ∙ ap (splice ac at) (sym (ap join (map-append action_bytes first then) ∙ join_append (map action_bytes first) (map action_bytes then)))

@@ -13,6 +13,7 @@ pub mod CornerLaws
 pub mod BeforeLaws
 pub mod FetchLaws
 pub mod RefusalLaws
+pub mod RoomLaws
 pub mod TombstoneSearchLaws
 pub mod Corners
 pub mod Examples

@@ -1,21 +1,25 @@
 -- The rules as they were before a request of document 02 changed them. Theorems cite them to say what the request changes; no contract does.
 -- Assumes nothing.
-use Rattle.std.specs.Prelude.{ℕ, Bool, true, cond, not, ◌&&◌, List, [], ◌∷◌, ◌++◌, map, length, ◌==◌, nat_lt, slice_index_or, slice_set}
+use Rattle.std.specs.Prelude.{ℕ, Bool, true, cond, not, ◌&&◌, List, [], ◌∷◌, ◌++◌, map, length, ◌==◌, nat_le, nat_lt, slice_index_or, slice_set}
 use mathlib.Core.List.{flat_map}
 use Rattle.octets.specs.Bytes.{same_bytes}
 use Rattle.courier_core.specs.declared.ContactId.{ContactId}
-use Rattle.table.specs.Lists.{any, filter}
+use Rattle.courier_core.specs.declared.Refusal.TheVariants as refusal
+use Rattle.table.specs.Lists.{any, filter, remove_at}
 use Rattle.rows.specs.declared.BadTag.{BadTag}
+use Rattle.rows.specs.declared.Carried.{Carried}
 use Rattle.rows.specs.declared.Tombstone.{Tombstone}
 use Rattle.rows.specs.declared.Reply.{Reply}
 use Rattle.rows.specs.declared.Reachable.{Reachable}
 use Rattle.model.specs.Basics.{match_found, trunc8}
-use Rattle.model.specs.State.{State, complete_now, listed_now, offered_now, ◌and◌, apply}
+use Rattle.model.specs.State.{State, carried_now, tombstones_now, complete_now, listed_now, offered_now, ◌and◌, apply}
 use Rattle.model.specs.Calls
-use Rattle.model.specs.Calls.{Call, Result, result, only, done, malformed, fetch_reply, step_of}
+use Rattle.model.specs.Calls.{Call, Result, result, only, done, malformed, fetch_reply, put_courier, short_actions, step_of}
+use Rattle.model.specs.Contacts.{known}
 use Rattle.model.specs.Window.{no_reachable, window_rows, prefix_rows, lookup, is_bad}
 use Rattle.model.specs.Custody.{tombstone_of_tag}
-use Rattle.model.specs.Exchange.{Envelope, envelopes, reply_for, fetch_for, tomb_for, halved, insert_offers, answer_listed, list_more, too_many}
+use Rattle.model.specs.Exchange.{Envelope, no_carried, envelopes, reply_for, fetch_for, tomb_for, halved, insert_offers, answer_listed, list_more, too_many}
+use Rattle.model.specs.Tombs.{Met, carried_at, own_at, wrong, unknown, insert_by_slot, turned, receive_tomb, tomb_tests}
 use Rattle.model.specs.Step.{Post, Lent, tests, perform, state_for}
 
 -- ---- before Two: a tombstoned tag was fetched too
@@ -100,3 +104,24 @@ step_before_three = step_before answer_inventory_before_three
 
 abbrev pub run_before_three : Post → List Lent → Post
 run_before_three = run_before answer_inventory_before_three
+
+-- ---- before Four: a row that turned passed no limit of 1,024
+
+unfoldable pub turn_before_four : State → ℕ → List ℕ → List ℕ → Result
+turn_before_four s i tag secret =
+    let r : Carried = slice_index_or s.carried i no_carried in
+    result done [] (put_courier r.slot ∷ [])
+    (carried_now (remove_at i s.carried) and tombstones_now (insert_by_slot (turned r tag secret) s.tombstones))
+
+-- number 5 was held against the tombstones as they stood; a tomb that turns no row did what it does
+unfoldable pub tomb_before_four : State → ℕ → ContactId → List ℕ → List ℕ → Met → Result
+tomb_before_four s actions peer tag secret (carried_at i) =
+    step_of
+    ((short_actions s actions, refusal.ShortArea)
+    ∷ (not (known s.contacts peer), refusal.UnknownContact)
+    ∷ (nat_le s.tombstone_rows (length s.tombstones), refusal.NoTombstoneRow)
+    ∷ [])
+    (turn_before_four s i tag secret)
+tomb_before_four s actions peer tag secret (own_at i) = step_of (tomb_tests s actions peer tag (own_at i)) (receive_tomb s tag secret (own_at i))
+tomb_before_four s actions peer tag secret wrong = step_of (tomb_tests s actions peer tag wrong) (receive_tomb s tag secret wrong)
+tomb_before_four s actions peer tag secret unknown = step_of (tomb_tests s actions peer tag unknown) (receive_tomb s tag secret unknown)

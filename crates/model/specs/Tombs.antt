@@ -39,12 +39,16 @@ least_from i best low (t ∷ ts) =
 abbrev pub least_expiry : List Tombstone → ℕ
 least_expiry ts = least_from 0 0 (2 ^ 32) ts
 
--- at 1,024 or more, one of least expiry goes first: what is left, and its deletion
+-- room for one tombstone, stored or turned: at 1,024 or more, one of least expiry goes first. What is left, and its deletion
 unfoldable pub remaining : List Tombstone → List Tombstone
 remaining ts = cond (nat_le max_tombstones (length ts)) (remove_at (least_expiry ts) ts) ts
 
 unfoldable pub evicted : List Tombstone → List Action
 evicted ts = cond (nat_le max_tombstones (length ts)) (delete_courier (slice_index_or ts (least_expiry ts) no_tombstone).slot ∷ []) []
+
+-- after any deletion, all R rows are used
+abbrev pub all_rows_used : ℕ → List Tombstone → Bool
+all_rows_used rows ts = nat_le rows (length (remaining ts))
 
 -- nothing is stored if the tag has a tombstone
 unfoldable pub store_tombstone : State → List ℕ → List ℕ → ℕ → Change
@@ -58,7 +62,7 @@ store_actions s tag = cond (tombstoned s.tombstones tag) [] (evicted s.tombstone
 
 -- numbers 5 and 6 of a tombstone that is to be stored
 unfoldable pub no_row_to_store : State → List ℕ → Bool
-no_row_to_store s tag = not (tombstoned s.tombstones tag) && nat_le s.tombstone_rows (length (remaining s.tombstones))
+no_row_to_store s tag = not (tombstoned s.tombstones tag) && all_rows_used s.tombstone_rows s.tombstones
 
 unfoldable pub no_slot_to_store : State → List ℕ → Bool
 no_slot_to_store s tag = not (tombstoned s.tombstones tag) && last_slot s
@@ -91,15 +95,16 @@ meets own carried tag secret =
 unfoldable pub insert_by_slot : Tombstone → List Tombstone → List Tombstone
 insert_by_slot new ts = insert_at (unwrap_or (length ts) (position (λ (t : Tombstone). ltb new.slot t.slot) ts)) new ts
 
--- a carried row turned tombstone retains its slot and expiry and passes no limit of 1,024
+-- a carried row turned tombstone retains its slot and expiry
 unfoldable pub turned : Carried → List ℕ → List ℕ → Tombstone
 turned r tag secret = record { slot = r.slot; tag = tag; s = secret; expiry_min = r.expiry_min }
 
+-- one of the tombstones stored before may go, and never the row that turns; room is made also where its tag has a tombstone
 unfoldable pub turn : State → ℕ → List ℕ → List ℕ → Result
 turn s i tag secret =
     let r : Carried = slice_index_or s.carried i no_carried in
-    result done [] (put_courier r.slot ∷ [])
-    (carried_now (remove_at i s.carried) and tombstones_now (insert_by_slot (turned r tag secret) s.tombstones))
+    result done [] (evicted s.tombstones ++ (put_courier r.slot ∷ []))
+    (carried_now (remove_at i s.carried) and tombstones_now (insert_by_slot (turned r tag secret) (remaining s.tombstones)))
 
 -- an own row is ended, and its tombstone stored
 unfoldable pub end_own : State → ℕ → List ℕ → List ℕ → Result
@@ -116,7 +121,7 @@ receive_tomb s tag secret unknown = only done
 
 -- numbers 5 and 6: a row that turns needs one of the R rows and no new slot
 unfoldable pub no_row_to_meet : State → List ℕ → Met → Bool
-no_row_to_meet s tag (carried_at i) = nat_le s.tombstone_rows (length s.tombstones)
+no_row_to_meet s tag (carried_at i) = all_rows_used s.tombstone_rows s.tombstones
 no_row_to_meet s tag (own_at i) = no_row_to_store s tag
 no_row_to_meet s tag wrong = false
 no_row_to_meet s tag unknown = false

@@ -1,20 +1,17 @@
 -- Laws of the call tomb: each way out as the model's step, and what it leaves.
 -- Assumes nothing.
-use Rattle.std.proofs.Common.{◌≡◌, ℕ, ◌+◌, ◌*◌, ◌/◌, ◌<◌, ◌≤◌, Bool, true, false, not, ltb, leb, List, length, sym, refl, ap, ◌∙◌, le-leb, Result, Ok, Err}
-use borrow.Author.Tests.{lt-leb}
+use Rattle.std.proofs.Common.{◌≡◌, ℕ, ◌+◌, ◌*◌, ◌/◌, Bool, true, false, not, ltb, List, length, sym, refl, ap, ◌∙◌, Result, Ok, Err}
 use Rattle.courier_core.specs.declared.ContactId.{ContactId}
 use Rattle.courier_core.specs.declared.Refusal.{Refusal}
 use Rattle.courier_core.specs.declared.Refusal.TheVariants as refusal
-use Rattle.table.specs.Rows.{held}
 use Rattle.table.specs.Codec.{table_of}
-use Rattle.table.proofs.TableLaws.{length_table}
 use Rattle.rows.specs.declared.Device.{Device}
 use Rattle.rows.specs.Rows.{contact_codec, own_codec, carried_codec, tombstone_codec}
 use Rattle.model.specs.State.{nothing}
 use Rattle.model.specs.Calls.{Call, Result as Outcome, malformed, done, step_of, tomb}
 use Rattle.model.specs.Contacts.{known}
 use Rattle.model.specs.Tombs as model
-use Rattle.model.specs.Tombs.{meets, turn, no_row_to_meet, no_slot_to_meet, receive_tomb, tomb_tests}
+use Rattle.model.specs.Tombs.{remaining, meets, turn, no_row_to_meet, no_slot_to_meet, receive_tomb, tomb_tests}
 use Rattle.model.specs.Step.{tests, perform, step}
 use Rattle.model.specs.Areas.{Areas, AnswerAreas, Written, view, store, store_device, store_session}
 use Rattle.model.specs.Lent.{contacts_in, own_in, carried_in, actions_lent}
@@ -30,24 +27,23 @@ use Rattle.tombs.specs.Tombs.{says, met_tests, after_meeting, Ends, EndsBy, held
 pub as_step : {o p : Outcome} {r : Result Said Refusal} {before after : Areas} {lent back : AnswerAreas} → o ≡ p → Written says p r before after lent back → Written says o r before after lent back
 as_step e w = rw e w
 
--- ---- a row that turns needs one of the R rows, and no new slot
+-- ---- a row that turns needs one of the R rows once room is made, and no new slot
 
-module _ (d : Device) (i : ℕ) (tag secret carried to ac : List ℕ) {n : ℕ} (en : n ≡ held (length to) 44 d.tombstones) (a : Areas) where
+module _ (d : Device) (i : ℕ) (tag secret carried to ac : List ℕ) (a : Areas) where
   abbrev H : Areas
   H = held_lent d carried to a
 
-  count : length (table_of tombstone_codec d.tombstones to) ≡ n
-  count = length_table tombstone_codec d.tombstones to ∙ sym en
+  abbrev used : Bool
+  used = model.all_rows_used (length to / 44) (table_of tombstone_codec d.tombstones to)
 
-  pub no_row : length to / 44 ≤ n
-      → Written says (after_meeting (view H) tag secret (model.carried_at i)) (Err refusal.NoTombstoneRow) H H (actions_lent ac) (actions_lent ac)
+  pub no_row : true ≡ used → Written says (after_meeting (view H) tag secret (model.carried_at i)) (Err refusal.NoTombstoneRow) H H (actions_lent ac) (actions_lent ac)
   unfolding view after_meeting met_tests no_row_to_meet
-  no_row h = refused_call refusal.NoTombstoneRow (refused_here _ _ _ (ap (leb (length to / 44)) count ∙ le-leb (length to / 44) n h)) refl refl
+  no_row e = refused_call refusal.NoTombstoneRow (refused_here _ _ _ (sym e)) refl refl
 
-  pub has_row : n < length to / 44 → {r : Result Said Refusal} {after : Areas} {back : AnswerAreas} → Written says (turn (view H) i tag secret) r H after (actions_lent ac) back
+  pub has_row : false ≡ used → {r : Result Said Refusal} {after : Areas} {back : AnswerAreas} → Written says (turn (view H) i tag secret) r H after (actions_lent ac) back
       → Written says (after_meeting (view H) tag secret (model.carried_at i)) r H after (actions_lent ac) back
   unfolding view after_meeting met_tests no_row_to_meet no_slot_to_meet receive_tomb
-  has_row h w = as_step (not_here _ _ _ (ap (leb (length to / 44)) count ∙ lt-leb (length to / 44) n h) (not_here _ _ _ refl (no_test _))) w
+  has_row e w = as_step (not_here _ _ _ (sym e) (not_here _ _ _ refl (no_test _))) w
 
 -- ---- an own row that ends: its tombstone is stored, or that is refused
 

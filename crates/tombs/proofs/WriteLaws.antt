@@ -1,15 +1,11 @@
 -- Laws of the rows that are written: a carried row turned tombstone, an own row ended.
 -- Assumes nothing.
-use Rattle.std.proofs.Common.{◌≡◌, ℕ, ◌+◌, ◌*◌, ◌<◌, ◌≤◌, Bool, true, false, cond, List, [], ◌∷◌, ◌++◌, map, length, get_or, sym, refl, ap, ◌∙◌, subst, arith, Ok}
-use lib.ListN.{length-map}
-use Rattle.octets.specs.Bytes.{part, splice}
-use Rattle.octets.proofs.Parts.{splice_then}
+use Rattle.std.proofs.Common.{◌≡◌, ℕ, ◌+◌, ◌*◌, ◌<◌, ◌≤◌, Bool, true, false, cond, List, [], ◌∷◌, ◌++◌, length, get_or, sym, refl, ap, ◌∙◌, subst, arith, Ok}
+use Rattle.octets.specs.Bytes.{Bytes, part, splice}
 use Rattle.table.specs.Lists.{position, unwrap_or, insert_at, remove_at}
 use Rattle.table.specs.Rows.{held, join, written}
 use Rattle.table.specs.Codec.{table_of, with_table, TableNow}
-use Rattle.table.proofs.ListLaws.{all_each, all_map}
-use Rattle.table.proofs.RowLaws.{length_join}
-use Rattle.table.proofs.TableLaws.{length_table, get_d_table, with_one}
+use Rattle.table.proofs.TableLaws.{length_table, get_d_table}
 use Rattle.rows.specs.declared.Device.{Device}
 use Rattle.rows.specs.declared.Own.{Own}
 use Rattle.rows.specs.declared.Carried.{Carried}
@@ -19,13 +15,15 @@ use Rattle.rows.specs.Rows.{own_codec, own_of, carried_codec, carried_of, tombst
 use Rattle.model.specs.State.{Change, nothing, own_now, carried_now, tombstones_now, next_slot_now, ◌and◌}
 use Rattle.model.specs.Calls.{Answer, Result as Outcome, result, done, put_courier, put_queued}
 use Rattle.model.specs.Exchange.{no_carried, no_own}
-use Rattle.model.specs.Tombs.{tombstoned, remaining, insert_by_slot, turned, turn, end_own, store_tombstone, store_actions}
+use Rattle.model.specs.Tombs.{tombstoned, remaining, evicted, insert_by_slot, turned, turn, end_own, store_tombstone, store_actions}
 use Rattle.model.specs.Areas.{Areas, Written, view, store, store_device, store_session, bytes_after, answer_areas}
 use Rattle.model.proofs.CallLaws.{answering_call}
 use Rattle.model.specs.Lent.{actions_lent}
+use Rattle.model.proofs.Laws.{one_listed, listed_behind}
+use Rattle.model.proofs.RoomLaws.{length_by_slot}
 use Rattle.tombstones.specs.declared.Storing.{Storing}
-use Rattle.tombstones.specs.Tombstones.{Reads, how_to_store, Stores, StoredAs}
-use Rattle.tombstones.proofs.StoreLaws.{length_action}
+use Rattle.tombstones.specs.Tombstones.{Reads, how_to_store, RoomMade, Stores, StoredAs}
+use Rattle.tombstones.proofs.WriteLaws.{room_then, listed_then, number_then}
 use Rattle.tombstones.proofs.CallLaws.{with_actions}
 use Rattle.tombs.specs.declared.Said.TheVariants as said
 use Rattle.tombs.specs.Tombs.{higher, says, held_lent, own_lent}
@@ -60,23 +58,25 @@ module _ (d : Device) (i : ℕ) (tag secret carried to ac : List ℕ) (a : Areas
   abbrev B : Areas
   B = held_lent d carried to a
 
-  abbrev changed : Tombstone → Change
-  changed t = carried_now (remove_at i Tc) and tombstones_now (insert_by_slot t Tt)
+  abbrev turned_to : Carried → Tombstone → Outcome
+  turned_to r t =
+      result done [] (evicted Tt ++ (put_courier r.slot ∷ [])) (carried_now (remove_at i Tc) and tombstones_now (insert_by_slot t (remaining Tt)))
 
-  abbrev listed : Carried → List Action
-  listed r = put_courier r.slot ∷ []
-
-  pub turns : {row : Carried} {t : Tombstone} {n m : ℕ} {x y z : List ℕ} → row ≡ carried_of (part carried (i * 57) 57) → t ≡ turned row tag secret
-      → TableNow tombstone_codec to (insert_by_slot t Tt) m x → TableNow carried_codec carried (remove_at i Tc) n y
-      → z ≡ splice ac 0 (action_bytes (put_courier row.slot))
-      → Written says (turn (view B) i tag secret) (Ok (said.Done 1)) B (held_lent (record d { carried = n; tombstones = m }) y x a) (actions_lent ac) (actions_lent z)
+  pub turns : 26 ≤ length ac → {row : Carried} {t : Tombstone} {r : Device} {n m k : ℕ} {x y z v w : List ℕ} → row ≡ carried_of (part carried (i * 57) 57)
+      → t ≡ turned row tag secret → Bytes x → Bytes z → TableNow carried_codec carried (remove_at i Tc) k y → RoomMade (record d { carried = k }) 0 to ac r n x v
+      → TableNow tombstone_codec x (insert_by_slot t (table_of tombstone_codec r.tombstones x)) m z → w ≡ splice v (13 * n) (action_bytes (put_courier row.slot))
+      → Written says (turn (view B) i tag secret) (Ok (said.Done (n + 1))) B (held_lent (record r { tombstones = m }) y z a) (actions_lent ac) (actions_lent w)
   unfolding view turn store store_device store_session
-  turns {row} {t} er et N M ez =
+  turns long {row} {t} {m = m} er et bx bz M R N ew =
       let k : get_or Tc i no_carried ≡ row = get_d_table carried_codec d.carried carried i no_carried inside ∙ sym er in
-      answering_call (result done [] (listed row) (changed t))
-      ((λ j. result done [] (listed (k j)) (changed (turned (k j) tag secret))) ∙ ap (λ (u : Tombstone). result done [] (listed row) (changed u)) (sym et)) refl
-      (λ j. held_lent (record d { carried = M.count j; tombstones = N.count j }) (M.area j) (N.area j) a)
-      (acted done (listed row) (changed t) ac _ (with_one action_codec ac _ _ (put_courier row.slot) refl ez))
+      let put : Action = put_courier row.slot in
+      let G = room_then R bx (insert_by_slot t) (λ ts. omega (arith, length_by_slot t ts)) bz N in
+      let D = ap (λ (e : Device). record e { tombstones = m }) R.device ∙ (λ j. record d { carried = M.count j; tombstones = G.count j }) in
+      answering_call (turned_to row t)
+      ((λ j. turned_to (k j) (turned (k j) tag secret)) ∙ ap (turned_to row) (sym et))
+      (ap (λ (c : ℕ). Ok (said.Done c)) (number_then R put))
+      (λ j. held_lent (D j) (M.area j) (G.area j) a)
+      (acted done (evicted Tt ++ (put ∷ [])) _ ac _ (listed_then R put ew (omega arith) long ∙ with_actions ac (evicted Tt ++ (put ∷ []))))
 
 -- ---- an own row ended
 
@@ -123,13 +123,9 @@ module _ (d : Device) (i : ℕ) (how : Storing) (tag secret own to ac : List ℕ
   -- the action of the own row, and those of the tombstone behind it
   behind : {expiry k n : ℕ} {r : Device} {x z w : List ℕ} (p : Action) → z ≡ splice ac 0 (action_bytes p) → StoredAs (view O) (without n) tag secret expiry 13 to z r k x w → k ≤ 2
       → w ≡ with_table action_codec ac (p ∷ store_actions (view O) tag)
-  unfolding join
   behind {z = z} {w} p ez S few =
       let acts : List Action = store_actions (view O) tag in
-      let l : length (join (map action_bytes acts)) ≡ length acts * 13 =
-      length_join (map action_bytes acts) (all_map action_bytes acts (all_each length_action acts)) ∙ ap (λ (k : ℕ). k * 13) (length-map acts action_bytes) in
-      splice_then ac z w 0 13 (action_bytes p) (join (map action_bytes acts)) ez S.actions (omega (arith, length_action p))
-      (omega (arith, l, S.count, few)) ∙ with_actions ac (p ∷ acts)
+      listed_behind (p ∷ []) acts ac z w 0 13 (one_listed p ac z 0 ez) S.actions refl (omega (arith, S.count, few)) ∙ with_actions ac (p ∷ acts)
 
   pub row_ends : how ≡ how_to_store (view O) tag → {row : Own} {r : Device} {k n : ℕ} {x y z w : List ℕ} → row ≡ own_of (part own (i * 54) 54)
       → z ≡ splice ac 0 (action_bytes (put_queued row.contact row.msgno)) → TableNow own_codec own (remove_at i To) n y

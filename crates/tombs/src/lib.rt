@@ -23,7 +23,7 @@ use rows::{
     Own, Row, TOMBSTONE_WIDTH, Tombstone,
 };
 use table::Table;
-use tombstones::{Storing, Tomb, store_choice, store_tombstone};
+use tombstones::{Storing, Tomb, all_rows_used, make_room, store_choice, store_tombstone};
 
 // What the calls answer that are not refused: malformed, or how many actions are listed.
 // (Not `Option<usize>`: its `None` would not say malformed. Crate inventory says why its `Said` is another.)
@@ -118,7 +118,8 @@ fn tombstone_of(row: Carried, tomb: Tomb) -> Tombstone
 
 // ---- tomb
 
-// Ends the carried row at i: its tombstone takes its place in order of slots. It meets no limit of 1,024, but needs a row of the tombstones' area.
+// Ends the carried row at i: room is made among the tombstones stored before, and then its own takes its place in order of slots. It keeps the row's slot.
+// (Not by `store_tombstone`: that takes the next slot, and stores nothing where the tag has a tombstone. A row that turns is never the one that goes.)
 #[tactic(auto, using(fetch::proofs::SearchLaws::row_within))]
 fn end_carried(
     device: &mut Device,
@@ -128,18 +129,23 @@ fn end_carried(
     tombstones: &mut [u8],
     actions: &mut [u8],
 ) -> Result<Said, Refusal>
-    requires { (i < held (length carried.old) carried_width device.old.carried) × (action_width ≤ length actions.old) }
+    requires { (i < held (length carried.old) carried_width device.old.carried) × (2 * action_width ≤ length actions.old) }
     ensures { Ends tomb.tag tomb.s (carried_at i) result (held_lent device.old carried.old tombstones.old)
         (held_lent device.new carried.new tombstones.new) (actions_lent actions.old) (actions_lent actions.new) }
 {
-    if tombstones.len() / TOMBSTONE_WIDTH <= device.tombstones {
+    let table = Table {
+        area: tombstones,
+        count: device.tombstones,
+    };
+    if all_rows_used(table) {
         return Err(Refusal::NoTombstoneRow);
     }
     let row = Carried::read(carried, i * CARRIED_WIDTH);
-    device.tombstones = insert_by_slot(tombstones, device.tombstones, tombstone_of(row, tomb));
     device.carried = Carried::remove(carried, device.carried, i);
-    put_courier(actions, 0, row.slot);
-    Ok(Said::Done(1))
+    let listed = make_room(device, tombstones, actions, 0);
+    device.tombstones = insert_by_slot(tombstones, device.tombstones, tombstone_of(row, tomb));
+    put_courier(actions, ACTION_WIDTH * listed, row.slot);
+    Ok(Said::Done(listed + 1))
 }
 
 // Ends the own row at i, and stores its tombstone as it was chosen; answers how many actions are listed.

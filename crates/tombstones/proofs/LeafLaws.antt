@@ -1,6 +1,6 @@
 -- Laws of the searches through the tombstones.
 -- Assumes nothing.
-use Rattle.std.proofs.Common.{◌≡◌, ℕ, ◌+◌, ◌*◌, ◌^◌, ◌<◌, ◌≤◌, Bool, true, false, cond, eqb, eqb-true, ltb, List, length, drop, refl, sym, ap, ◌∙◌, ap₂, add-one, arith, drop_of_length-le, le-ltb, lt-ltb}
+use Rattle.std.proofs.Common.{◌≡◌, ℕ, ◌+◌, ◌-◌, ◌*◌, ◌^◌, ◌<◌, ◌≤◌, Bool, true, false, cond, eqb, eqb-true, ltb, List, length, drop, refl, sym, ap, ◌∙◌, ap₂, add-one, arith, drop_of_length-le, le-ltb, lt-ltb}
 use Rattle.std.proofs.lemmas.Bool.Decides.{nat_tests}
 use Rattle.octets.specs.Bytes.{part}
 use Rattle.table.specs.Rows.{held}
@@ -16,13 +16,13 @@ use Rattle.model.specs.Tombs.{least_from}
 abbrev pub bound : ℕ → ℕ → ℕ
 bound i low = cond (eqb i 0) (2 ^ 32) low
 
--- before the first row, the place is 0 and the least so far is the greatest expiry
+-- the place is one of the rows before, if there is one; before the first row it is 0, and the least so far is the greatest expiry
 pub record Leads (i best low : ℕ) : Type 0 where
-  pub place : i ≡ 0 → best ≡ 0
+  pub place : best ≤ i - 1
   pub start : i ≡ 0 → low ≡ 4294967295
 
-pub leads_on : (i best low : ℕ) → Leads (i + 1) best low
-leads_on i best low = record { place = λ z. absurd (omega (arith, z)); start = λ z. absurd (omega (arith, z)) }
+pub leads_on : (i best low : ℕ) → best ≤ i → Leads (i + 1) best low
+leads_on i best low h = record { place = omega arith; start = λ z. absurd (omega (arith, z)) }
 
 module _ (count : ℕ) (a : List ℕ) where
   abbrev T : List Tombstone
@@ -63,7 +63,7 @@ module _ (count : ℕ) (a : List ℕ) where
           go : (b : Bool) → eqb i 0 ≡ b → least_from (i + 1) best low rest ≡ m
           go true z =
               let first : i ≡ 0 = eqb-true i 0 z in
-              let x : best ≡ i = omega (arith, l.place first, first) in
+              let x : best ≡ i = omega (arith, l.place, first) in
               let y : low ≡ e = omega (arith, l.start first, p, q) in
               ap₂ (λ (j k : ℕ). least_from (i + 1) j k rest) x y ∙ sym (lower (2 ^ 32) q) ∙ (rw z at so)
           go false z = sym (step low h false (ap (λ (x : ℕ). ltb x low) (sym ee) ∙ le-ltb e low p)) ∙ (rw z at so)

@@ -1,38 +1,96 @@
--- Laws of the writes: a tombstone added, and one taken out before.
+-- Laws of the writes: room made for one tombstone, and a tombstone among those that are left.
 -- Assumes nothing.
-use Rattle.std.proofs.Common.{◌≡◌, ℕ, ◌+◌, ◌*◌, ◌<◌, List, [], ◌∷◌, ◌++◌, length, get_or, sym, ap, ◌∙◌, arith, length-append}
-use Rattle.octets.specs.Bytes.{Bytes, part}
-use Rattle.table.specs.Lists.{remove_at}
-use Rattle.table.specs.Rows.{held}
-use Rattle.table.specs.Codec.{table_of, TableNow}
-use Rattle.table.proofs.ListLaws.{all_push, length_remove_at}
-use Rattle.table.proofs.TableLaws.{get_d_table, length_table, table_then}
+use Rattle.std.proofs.Common.{◌≡◌, ℕ, ◌+◌, ◌*◌, ◌<◌, ◌≤◌, true, false, leb, List, [], ◌∷◌, ◌++◌, map, length, get_or, sym, refl, ap, ◌∙◌, subst, append-nil, arith, le-leb, length-append}
+use borrow.Author.Tests.{lt-leb}
+use Rattle.octets.specs.Bytes.{Bytes, part, splice}
+use Rattle.octets.proofs.Parts.{splice_nil}
+use Rattle.table.specs.Lists.{All, remove_at}
+use Rattle.table.specs.Rows.{held, join, written}
+use Rattle.table.specs.Codec.{table_of, with_table, TableNow}
+use Rattle.table.proofs.RowLaws.{held_inside, held_held, join_rows, splice_written}
+use Rattle.table.proofs.TableLaws.{length_table, get_d_table, encode_table, table_held, table_proper, table_then}
 use Rattle.rows.specs.declared.Device.{Device}
 use Rattle.rows.specs.declared.Tombstone.{Tombstone}
-use Rattle.rows.specs.Rows.{tombstone_of, tombstone_codec}
+use Rattle.rows.specs.declared.Action.{Action}
+use Rattle.rows.specs.Rows.{tombstone_of, tombstone_codec, action_bytes}
 use Rattle.rows.specs.Proper.{ProperTombstone}
 use Rattle.rows.proofs.Laws.{tombstone_laws}
-use Rattle.model.specs.Tombs.{no_tombstone}
-use Rattle.tombstones.specs.Tombstones.{Grown, device_after}
+use Rattle.model.specs.Calls.{delete_courier}
+use Rattle.model.specs.Tombs.{no_tombstone, least_expiry, remaining, evicted}
+use Rattle.model.proofs.RoomLaws.{all_left}
+use Rattle.model.proofs.Laws.{one_listed, listed_behind}
+use Rattle.tombstones.specs.Tombstones.{RoomMade}
 
--- one row less
-pub removed_one : (count i k : ℕ) (a x : List ℕ) → i < held (length a) 44 count
-    → TableNow tombstone_codec a (remove_at i (table_of tombstone_codec count a)) k x → k + 1 ≡ held (length a) 44 count
-removed_one count i k a x h T =
-    omega (arith, T.count, length_remove_at (table_of tombstone_codec count a) i (omega (arith, length_table tombstone_codec count a)), length_table tombstone_codec count a)
+-- ---- room made
 
--- one row taken out, and then one added
-pub grown_moved : (d r : Device) (a y x : List ℕ) (i k : ℕ) (t : Tombstone) → ProperTombstone t → Bytes y
-    → TableNow tombstone_codec a (remove_at i (table_of tombstone_codec d.tombstones a)) k y
-    → Grown (record d { tombstones = k }) r y x (table_of tombstone_codec k y ++ (t ∷ []))
-    → Grown d r a x (remove_at i (table_of tombstone_codec d.tombstones a) ++ (t ∷ []))
-unfolding device_after
-grown_moved d r a y x i k t p b T G = record {
-  table = table_then tombstone_laws (λ (ts : List Tombstone). ts ++ (t ∷ [])) (λ q. all_push _ t q p) b
-      (omega (arith, G.table.count, length-append (table_of tombstone_codec k y) (t ∷ []), T.count, ap length T.table)) T G.table;
-  device = G.device ∙ ap (λ (ts : List Tombstone). device_after d (length (ts ++ (t ∷ [])))) T.table;
-}
+module _ (d : Device) (at : ℕ) (to ac : List ℕ) {n : ℕ} (en : n ≡ held (length to) 44 d.tombstones) where
+  abbrev T : List Tombstone
+  T = table_of tombstone_codec d.tombstones to
 
-pub slot_read : (count i : ℕ) (a : List ℕ) → i < held (length a) 44 count
-    → (tombstone_of (part a (i * 44) 44)).slot ≡ (get_or (table_of tombstone_codec count a) i no_tombstone).slot
-slot_read count i a h = sym (ap (λ (t : Tombstone). t.slot) (get_d_table tombstone_codec count a i no_tombstone h))
+  size : length T ≡ n
+  size = length_table tombstone_codec d.tombstones to ∙ sym en
+
+  -- the table written where it stands
+  with_same : Bytes to → with_table tombstone_codec to T ≡ to
+  unfolding with_table
+  with_same b =
+      ap (written to) (encode_table tombstone_laws d.tombstones to b)
+      ∙ sym (splice_written to [] (held (length to) 44 d.tombstones * 44) _ (held_inside (length to) 44 d.tombstones) (join_rows 44 _ to ∙ sym (append-nil _)))
+      ∙ splice_nil to _
+
+  -- below the limit nothing goes
+  pub room_there : Bytes to → n < 1024 → RoomMade d at to ac (record d { tombstones = n }) 0 to ac
+  unfolding evicted join
+  room_there b h =
+      let k : leb 1024 (length T) ≡ false = lt-leb 1024 (length T) (omega (arith, size)) in
+      let left : remaining T ≡ T = all_left T (omega (arith, size)) in
+      record {
+        table = rw left (record {
+          count = sym size;
+          area = sym (with_same b);
+          table = table_held tombstone_codec d.tombstones n to (omega arith) en;
+          fits = held_held (length to) 44 d.tombstones n (omega arith) en;
+        });
+        device = refl;
+        listed = rw k (sym (splice_nil ac at));
+        number = rw k;
+        few = omega arith;
+      }
+
+  -- from it on the one of least expiry
+  pub room_by : 1024 ≤ n → {i k : ℕ} {gone : Tombstone} {x y : List ℕ} → i ≡ least_expiry T → i < n → gone ≡ tombstone_of (part to (i * 44) 44)
+      → TableNow tombstone_codec to (remove_at i T) k x → y ≡ splice ac at (action_bytes (delete_courier gone.slot)) → RoomMade d at to ac (record d { tombstones = k }) 1 x y
+  unfolding remaining evicted join
+  room_by h {i} {gone = gone} l inside eg N ey =
+      let e : leb 1024 (length T) ≡ true = le-leb 1024 (length T) (omega (arith, size)) in
+      let es : gone ≡ get_or T i no_tombstone = eg ∙ sym (get_d_table tombstone_codec d.tombstones to i no_tombstone (omega (arith, inside, en))) in
+      record {
+        table = rw (e, sym l) N;
+        device = refl;
+        listed = rw (e, sym l, sym es) (one_listed (delete_courier gone.slot) ac _ at ey);
+        number = rw e;
+        few = omega arith;
+      }
+
+-- ---- then a tombstone among those that are left, and its action
+
+module _ {d r : Device} {at n : ℕ} {to ac x y : List ℕ} (R : RoomMade d at to ac r n x y) where
+  abbrev left : List Tombstone
+  left = remaining (table_of tombstone_codec d.tombstones to)
+
+  abbrev gone : List Action
+  gone = evicted (table_of tombstone_codec d.tombstones to)
+
+  pub room_then : Bytes x → (f : List Tombstone → List Tombstone) → ((ts : List Tombstone) → length ts ≤ length (f ts)) → {m : ℕ} {z : List ℕ} → Bytes z
+      → TableNow tombstone_codec x (f (table_of tombstone_codec r.tombstones x)) m z → TableNow tombstone_codec to (f left) m z
+  room_then bx f grows bz N =
+      table_then tombstone_laws f (λ q. subst (All ProperTombstone) (N.table ∙ ap f R.table.table) (table_proper tombstone_laws _ _ bz)) bx
+      (omega (arith, R.table.count, N.count, grows left, ap (λ (ts : List Tombstone). length (f ts)) R.table.table)) R.table N
+
+  pub listed_then : (p : Action) {w : List ℕ} {place : ℕ} → w ≡ splice y place (action_bytes p) → place ≡ at + 13 * n → at + 26 ≤ length ac
+      → w ≡ splice ac at (join (map action_bytes (gone ++ (p ∷ []))))
+  listed_then p {w} {place} e q h =
+      listed_behind gone (p ∷ []) ac y w at place R.listed (one_listed p y w place e) (omega (arith, q, R.number)) (omega (arith, q, R.few, h))
+
+  pub number_then : (p : Action) → n + 1 ≡ length (gone ++ (p ∷ []))
+  number_then p = omega (arith, R.number, length-append gone (p ∷ []))

@@ -1,21 +1,19 @@
-// Tombstones: `store_tombstone`, which the tomb and report calls use too, and the call "stored tombstone".
+// Tombstones: room for one, which a carried row that turns needs too; `store_tombstone`, which the tomb and report calls use too; and the call "stored tombstone".
 #![tactic(auto)]
 
-ghost use Rattle.std.specs.Prelude.{◌≡◌, ◌+◌, ◌*◌, ◌/◌, ◌<◌, ◌≤◌, [], ◌∷◌, ◌++◌, length};
-ghost use Rattle.table.specs.Lists.{remove_at};
-ghost use Rattle.table.specs.Codec.{table_of};
+ghost use Rattle.std.specs.Prelude.{◌≡◌, ◌+◌, ◌*◌, ◌/◌, ◌<◌, ◌≤◌, length};
 ghost use Rattle.table.specs.Tables.{rows_in};
-ghost use Rattle.rows.specs.Rows.{action_width, tombstone_codec};
+ghost use Rattle.rows.specs.Rows.{action_width, tombstone_width, tombstone_codec};
 ghost use Rattle.model.specs.Calls.{stored_tombstone};
-ghost use Rattle.model.specs.Tombs.{tombstoned as some_tombstone};
+ghost use Rattle.model.specs.Tombs.{tombstoned as some_tombstone, all_rows_used as no_row_left};
 ghost use Rattle.model.specs.Lent.{Does, actions_lent};
-ghost use Rattle.tombstones.specs.Tombstones.{Least, ChoiceOf, RoomFor, Room, space_for, spare_at, Grown, Stores, says_stored, tombstones_lent};
+ghost use Rattle.tombstones.specs.Tombstones.{Least, RoomMade, ChoiceOf, RoomFor, Room, Stores, says_stored, tombstones_lent};
 
 use courier_core::Refusal;
 use rows::{ACTION_WIDTH, Device, Row, TOMBSTONE_WIDTH, Tombstone};
 use table::Table;
 
-// At so many tombstones, one goes before another is stored.
+// At so many tombstones or more, one goes before another comes.
 const MAX_TOMBSTONES: usize = 1024;
 
 // A tag, and the secret that opens the commitment of its envelope.
@@ -40,13 +38,11 @@ impl Tomb {
     }
 }
 
-// What storing a tombstone does: nothing if its tag has one, and the one at a place goes first if there are too many.
-// (Not `Option<Option<usize>>`: it would not say which of the three is meant.)
+// What storing a tombstone does: nothing if its tag has one.
 #[derive(Drop)]
 pub enum Storing {
     Nothing,
-    Append,
-    Evict(usize),
+    New,
 }
 
 // Has one of the tombstones the tag?
@@ -61,7 +57,7 @@ pub fn tombstoned(tombstones: Table<TOMBSTONE_WIDTH>, tag: [u8; 16]) -> bool
 // The search begins at place 0 and the greatest expiry: where every row has that, none is below it, and the first is the answer.
 // (By `min_by_key` the proof did not close: its contract leaves it to a law over all calls of the closure that the first among equals is answered.)
 pub fn least_expiry(tombstones: Table<TOMBSTONE_WIDTH>) -> usize
-    ensures { Least (rows_in tombstone_codec tombstones.entry) result }
+    ensures { Least tombstones.entry result }
 {
     let mut best = 0;
     let mut low = u32::MAX;
@@ -75,7 +71,41 @@ pub fn least_expiry(tombstones: Table<TOMBSTONE_WIDTH>) -> usize
     best
 }
 
+// ---- room for one tombstone, stored or turned
+
+// Number 5: after any deletion, are all rows of the area used? (At the limit one goes, and its row is free.)
+pub fn all_rows_used(tombstones: Table<TOMBSTONE_WIDTH>) -> bool
+    ensures { result ≡ no_row_left (length tombstones.entry.area.now / tombstone_width) (rows_in tombstone_codec tombstones.entry) }
+{
+    let n = tombstones.len();
+    n < MAX_TOMBSTONES && tombstones.area.len() / TOMBSTONE_WIDTH <= n
+}
+
 // (Here and below, the tombstones' area and the device, which has their number, stand apart: a call is lent each by itself.)
+// At the limit the tombstone of least expiry is taken out, and its deletion is listed at a place; answers how many actions are listed.
+// (Below the limit the count alone is set: it may have been more than fit, and is then how many there are.)
+pub fn make_room(device: &mut Device, tombstones: &mut [u8], actions: &mut [u8], at: usize) -> usize
+    requires { at + action_width ≤ length actions.old }
+    ensures { RoomMade device.old at tombstones.old actions.old device.new result tombstones.new actions.new }
+{
+    let table = Table {
+        area: tombstones,
+        count: device.tombstones,
+    };
+    let n = table.len();
+    if n < MAX_TOMBSTONES {
+        device.tombstones = n;
+        return 0;
+    }
+    let i = least_expiry(table);
+    let gone = Tombstone::read(tombstones, i * TOMBSTONE_WIDTH);
+    device.tombstones = Tombstone::remove(tombstones, device.tombstones, i);
+    answers::delete_courier(actions, at, gone.slot);
+    1
+}
+
+// ---- a tombstone that is stored
+
 // How a tombstone is to be stored, or why it cannot be: `NoTombstoneRow`, `NoSlot`. It reads only.
 // (Apart from storing, which cannot fail: what is refused is known before a caller writes rows of its own. One function of both would have to come
 // before these in each, and hand the changed device on to them.)
@@ -89,36 +119,13 @@ pub fn store_choice(device: Device, tag: [u8; 16], tombstones: &[u8]) -> Result<
     if tombstoned(table, tag) {
         return Ok(Storing::Nothing);
     }
-    let n = table.len();
-    let how = if MAX_TOMBSTONES <= n {
-        Storing::Evict(least_expiry(table))
-    } else if tombstones.len() / TOMBSTONE_WIDTH <= n {
+    if all_rows_used(table) {
         return Err(Refusal::NoTombstoneRow);
-    } else {
-        Storing::Append
-    };
+    }
     if device.next_slot == u64::MAX {
         return Err(Refusal::NoSlot);
     }
-    Ok(how)
-}
-
-// Adds a tombstone behind the others, and takes the next slot.
-fn append(device: &mut Device, row: Tombstone, tombstones: &mut [u8])
-    requires { space_for device.old tombstones.old }
-    ensures { Grown device.old device.new tombstones.old tombstones.new (table_of tombstone_codec device.old.tombstones tombstones.old ++ (row ∷ [])) }
-{
-    device.tombstones = Tombstone::push(tombstones, device.tombstones, row);
-    device.next_slot += 1;
-}
-
-// Takes the tombstone at i out, and adds one.
-fn evict(device: &mut Device, i: usize, row: Tombstone, tombstones: &mut [u8])
-    requires { spare_at i device.old tombstones.old }
-    ensures { Grown device.old device.new tombstones.old tombstones.new (remove_at i (table_of tombstone_codec device.old.tombstones tombstones.old) ++ (row ∷ [])) }
-{
-    device.tombstones = Tombstone::remove(tombstones, device.tombstones, i);
-    append(device, row, tombstones);
+    Ok(Storing::New)
 }
 
 // Stores a tombstone as it was chosen, at the next slot; its actions are listed from a place on, and how many is answered.
@@ -134,21 +141,16 @@ pub fn store_tombstone(
     requires { Room how device.old tombstones.old × (at + 2 * action_width ≤ length actions.old) }
     ensures { Stores how device.old tomb.tag tomb.s expiry at tombstones.old actions.old device.new result tombstones.new actions.new × (result ≤ 2) }
 {
-    let slot = device.next_slot;
-    let row = tomb.tombstone(slot, expiry);
     match how {
         Storing::Nothing => 0,
-        Storing::Append => {
-            append(device, row, tombstones);
-            answers::put_courier(actions, at, slot);
-            1
-        }
-        Storing::Evict(i) => {
-            let gone = Tombstone::read(tombstones, i * TOMBSTONE_WIDTH);
-            evict(device, i, row, tombstones);
-            answers::delete_courier(actions, at, gone.slot);
-            answers::put_courier(actions, at + ACTION_WIDTH, slot);
-            2
+        Storing::New => {
+            let slot = device.next_slot;
+            let row = tomb.tombstone(slot, expiry);
+            let listed = make_room(device, tombstones, actions, at);
+            device.tombstones = Tombstone::push(tombstones, device.tombstones, row);
+            device.next_slot += 1;
+            answers::put_courier(actions, at + ACTION_WIDTH * listed, slot);
+            listed + 1
         }
     }
 }

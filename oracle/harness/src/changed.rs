@@ -1,7 +1,8 @@
 //! What request Two changes: the same calls put to the source as it lies, to the source with the line, and to another post.
 
+use crate::compare::judge::{By, Judge, Seen};
 use crate::compare::maker;
-use crate::compare::pair::{Judge, Seen, caught, quiet};
+use crate::compare::pair::{caught, quiet};
 use crate::generate::{Generator, Profile};
 use crate::lost::Ending;
 use post::{Answer, Call, Post, Reply, Sizes, State};
@@ -17,6 +18,8 @@ struct Counts {
     lost: usize,
     /// Of these answers, those that count rows (request Three).
     counted: usize,
+    /// Lists that ended because they left the comparison with the source (request Four).
+    left: usize,
 }
 
 /// The answer of the source as it lies less the lost fetches, each in its place, and how many they are. Its count stays.
@@ -97,13 +100,19 @@ fn wanted(old: &mut before::Reference, seen: &Seen, counts: &mut Counts) -> Resu
 }
 
 impl Three {
-    fn step(&mut self, call: &Call, counts: &mut Counts) -> Result<(), String> {
+    /// Whether the list goes on: where it leaves the comparison with the source it ends, and neither of the two others is asked.
+    fn step(&mut self, call: &Call, counts: &mut Counts) -> Result<bool, String> {
         let (old, other) = (&mut self.old, &mut self.other);
         self.judge.take(call, |seen| {
+            if seen.by == By::Leaving {
+                counts.left += 1;
+                return Ok(false);
+            }
             let wanted = wanted(old, seen, counts)?;
             wanted.hold_against("the source with the line", seen.answer, seen.after)?;
             let answer = caught("the other post", || other.perform(call))?;
-            wanted.hold_against("the other post", &answer, &other.state())
+            wanted.hold_against("the other post", &answer, &other.state())?;
+            Ok(true)
         })?
     }
 
@@ -133,13 +142,16 @@ fn run_list(
         other: make(sizes),
     };
     for number in 1..=calls {
-        let call = generator.next(three.judge.state());
-        three.step(&call, counts).map_err(|what| (number, what))?;
+        let call = generator.next(three.judge.held());
+        if !three.step(&call, counts).map_err(|what| (number, what))? {
+            break;
+        }
     }
     three.finish().map_err(|what| (calls, what))
 }
 
-/// `FROM..TO CALLS [PARTY]`: at least so many calls, shared out among the seeds; the party is `rules` if none is named.
+/// `FROM..TO CALLS [PARTY]`: at least so many calls, shared out among the seeds, less those behind the end of a list that left; the party is `rules`
+/// if none is named.
 pub fn main(arguments: &[String]) -> Option<ExitCode> {
     let (seeds, calls, party) = match arguments {
         [seeds, calls] => (seeds, calls, "rules"),
@@ -163,8 +175,8 @@ pub fn main(arguments: &[String]) -> Option<ExitCode> {
     }
     println!(
         "request Two: {} calls, {} of them not the source's; {} answers changed, {} fetches lost, {} of these answers count rows; \
-         all else is the same",
-        counts.calls, counts.not_in_source, counts.changed, counts.lost, counts.counted
+         all else is the same; {} lists ended where a row turned with 1,024 tombstones or more there",
+        counts.calls, counts.not_in_source, counts.changed, counts.lost, counts.counted, counts.left
     );
     if counts.lost == 0 {
         println!("request Two: no fetch was lost, so that nothing was shown");

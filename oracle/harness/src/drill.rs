@@ -1,5 +1,6 @@
 //! The drill program of document 01 over any post: a log in, lines out.
 
+use crate::compare::judge::Judge;
 use post::{Action, Answer, Areas, Call, Custody, Envelope, Post, Reply, Sizes, Verification, array};
 use std::fmt::Write;
 
@@ -239,7 +240,7 @@ impl<P: Post> Drill<P> {
     }
 
     /// One record; what follows it, or nothing once the program has stopped.
-    fn record<'a>(&mut self, log: &'a [u8]) -> &'a [u8] {
+    pub fn record<'a>(&mut self, log: &'a [u8]) -> &'a [u8] {
         let read = split(log).and_then(|((mark, body), rest)| Ok((call_of(&mark, body)?, rest)));
         match read {
             Err(why) => {
@@ -258,6 +259,31 @@ impl<P: Post> Drill<P> {
         while !log.is_empty() && self.stopped.is_none() {
             log = self.record(log);
         }
+    }
+}
+
+/// What the drill program must print for a log; how many records it went through, and how many of them before the log left the comparison with
+/// the source.
+pub struct Judged {
+    pub lines: String,
+    pub stopped: Option<Stopped>,
+    pub records: usize,
+    pub of_the_source: usize,
+}
+
+pub fn judged(mut log: &[u8]) -> Judged {
+    let mut drill = Drill::new(Judge::new(Sizes::DRILL));
+    let (mut records, mut of_the_source) = (0, 0);
+    while !log.is_empty() && drill.stopped.is_none() {
+        log = drill.record(log);
+        records += 1;
+        of_the_source += usize::from(!drill.post.has_left());
+    }
+    Judged {
+        lines: drill.output,
+        stopped: drill.stopped,
+        records,
+        of_the_source,
     }
 }
 

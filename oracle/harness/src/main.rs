@@ -35,6 +35,9 @@ const USAGE: &str =
        oracle variants [LISTS]      the wrong variants of the second and the third statement";
 
 /// The option for a log without 13.
+/// At so many tombstones or more one goes before another comes.
+pub const TOMBSTONE_LIMIT: usize = 1024;
+
 const NO_13: &str = "--no-13";
 
 pub fn status(well: bool) -> ExitCode {
@@ -47,8 +50,18 @@ fn drill_from_input() -> ExitCode {
         eprintln!("drill: {error}");
         return ExitCode::FAILURE;
     }
-    let (lines, _) = drill::run(reference::Reference::new(post::Sizes::DRILL), &log);
-    print!("{lines}");
+    let judged = drill::judged(&log);
+    print!("{}", judged.lines);
+    let left = judged.records - judged.of_the_source;
+    if left > 0 {
+        eprintln!(
+            "drill: {} of {} records are the source's; with record {} a row turned with 1,024 tombstones there, and from it on the second statement \
+             answers, with which the third agrees",
+            judged.of_the_source,
+            judged.records,
+            judged.of_the_source + 1
+        );
+    }
     ExitCode::SUCCESS
 }
 

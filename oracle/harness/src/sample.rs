@@ -1,9 +1,10 @@
-//! A fixed sample of calls with the reference's answers, which the program crates/replay makes again. README.md has the format.
+//! A fixed sample of calls with their answers, which the program crates/replay makes again. README.md has the format.
 
+use crate::compare::judge::Seen;
 use crate::compare::maker;
-use crate::compare::pair::{self, Pair, Seen};
+use crate::compare::pair::{self, Pair};
 use crate::generate::{Generator, Profile};
-use crate::tally::{COUNTS, Corner, LOST_FETCHES};
+use crate::tally::{COUNTS, Corner, LOST_FETCHES, TURNS};
 use post::{Action, Answer, Areas, Call, Dir, Envelope, Held, Kind, NewOwn, Reply, Sizes, State, Verification, said};
 use std::collections::BTreeSet;
 use std::io::Write;
@@ -11,6 +12,9 @@ use std::process::ExitCode;
 
 /// What the program's buffer holds.
 const LONGEST: usize = 1_048_575;
+
+/// So many tombstone rows the program has.
+const MOST_TOMBSTONE_ROWS: usize = 1_100;
 
 /// Calls that bring more bytes than this are few in each list, so that the sample stays small.
 const SHORT: usize = 1_000;
@@ -406,9 +410,9 @@ fn page_of(expected: &Expected) -> &'static str {
     }
 }
 
-/// The corners of requests Two and Three, which the sample must have.
+/// The corners of requests Two, Three and Four, which the sample must have.
 fn corners() -> impl Iterator<Item = &'static Corner> {
-    LOST_FETCHES.iter().chain(COUNTS)
+    LOST_FETCHES.iter().chain(COUNTS).chain(TURNS)
 }
 
 /// What the sample must have: every call, number, answer, custody code, reply and action, and the corners.
@@ -479,6 +483,12 @@ fn next_call(generator: &mut Generator, state: &State, long: &mut usize) -> Call
 fn list(seed: u64, calls: usize, found: &mut BTreeSet<String>) -> Result<Vec<u8>, String> {
     let mut generator = Generator::new(seed, Profile::of_seed(seed));
     let sizes = generator.sizes;
+    if sizes.tombstone_rows > MOST_TOMBSTONE_ROWS {
+        return Err(format!(
+            "seed {seed}: R is {}, more than {MOST_TOMBSTONE_ROWS}",
+            sizes.tombstone_rows
+        ));
+    }
     let make = maker("rules").ok_or("no second statement")?;
     let mut pair = Pair::new(sizes, make(sizes));
     let mut out = Vec::new();

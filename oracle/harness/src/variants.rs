@@ -1,6 +1,7 @@
 //! The deliberately wrong variants of the second and the third statement, and the list of calls that tells each apart.
 
-use crate::compare::pair::{Judge, difference};
+use crate::compare::judge::Judge;
+use crate::compare::pair::difference;
 use crate::garbage;
 use crate::generate::{Generator, Profile};
 use rules::{Rules, Wrong};
@@ -30,7 +31,7 @@ fn run_list(seed: u64, all: &mut [(Wrong, Option<Place>)]) -> Result<(), String>
         if left.is_empty() {
             break;
         }
-        let call = generator.next(judge.state());
+        let call = generator.next(judge.held());
         judge.take(&call, |seen| {
             left.retain_mut(|(at, rules)| {
                 let same = difference(rules, seen).is_ok();

@@ -1,8 +1,7 @@
 //! What a host lends: bytes.
 
-use crate::fields::put_number;
-use crate::{Carried, Device, Exchange, Own, Row, Tombstone};
-use post::{Held, HeldRow, Sizes, State, array};
+use crate::{Device, Exchange, Own, Row};
+use post::{Sizes, array};
 
 /// An exchange and the two areas beside it.
 #[derive(Debug, Clone, PartialEq, Eq)]
@@ -48,35 +47,6 @@ fn closed_exchange(salt: usize) -> [u8; Exchange::LENGTH] {
     exchange
 }
 
-fn held_bytes(row: &HeldRow) -> Vec<u8> {
-    match &row.held {
-        Held::Carried { depositor, envelope } => Carried {
-            slot: row.slot,
-            depositor: *depositor,
-            tag: envelope.tag,
-            commitment: envelope.commitment,
-            expiry: envelope.expiry,
-            copies: envelope.copies,
-            len: 0,
-            cell: crate::NO_CELL,
-        }
-        .write(),
-        Held::Tombstone { tag, secret, expiry } => Tombstone {
-            slot: row.slot,
-            tag: *tag,
-            secret: *secret,
-            expiry: *expiry,
-        }
-        .write(),
-    }
-}
-
-/// Rows of one kind at the front of an area.
-fn put_held(area: &mut [u8], rows: &[&HeldRow]) {
-    let bytes: Vec<u8> = rows.iter().flat_map(|row| held_bytes(row)).collect();
-    area[..bytes.len()].copy_from_slice(&bytes);
-}
-
 impl Areas {
     /// As a host has them before its first call.
     pub fn untouched(sizes: &Sizes) -> Self {
@@ -101,21 +71,6 @@ impl Areas {
             answer: pattern(enough.answer + MORE, 10),
             row: pattern(Own::WIDTH, 11),
         }
-    }
-
-    /// The clock and the held rows of a state; the carried ones get no cell.
-    pub(crate) fn hold(&mut self, state: &State) {
-        let (carried, tombstones): (Vec<&HeldRow>, Vec<&HeldRow>) =
-            state.held.iter().partition(|row| row.held.is_carried());
-        for (at, number) in [
-            (Device::CLOCK, state.clock),
-            (Device::CARRIED, carried.len() as u64),
-            (Device::TOMBSTONES, tombstones.len() as u64),
-        ] {
-            put_number(&mut self.device, at, Some(number));
-        }
-        put_held(&mut self.carried, &carried);
-        put_held(&mut self.tombstones, &tombstones);
     }
 
     /// With a fresh device.

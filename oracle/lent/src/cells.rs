@@ -1,5 +1,6 @@
 //! How areas that no call left are read. The cells of ciphertexts: which of them count, what lies in one, and how a reply names one.
-//! Held rows of one slot: which comes first on a page. Tombstone rows: which of them stop a fetch. Rows to offer: which of them are counted.
+//! Held rows of one slot: which comes first on a page. Tombstone rows: which of them stop a fetch, and which goes where one is added. Rows to
+//! offer: which of them are counted.
 
 use crate::rows::{Carried, Tombstone, table};
 
@@ -18,7 +19,7 @@ pub fn cell_count(cells: &[u8]) -> usize {
 
 /// Which cells are read as cells that count: the first so many, for each thing that is read of them; whether a tombstone comes before
 /// a carried row of its slot; whether a tombstone behind the count stops a fetch; and, of the rows for which the tombstones are searched,
-/// whether one behind the count is counted, and which by their cell.
+/// whether one behind the count is counted, and which by their cell; and where a tombstone is added, which goes (`Room`).
 #[derive(Debug, Clone, Copy, PartialEq, Eq)]
 pub struct Reading {
     ciphertexts: u16,
@@ -28,6 +29,18 @@ pub struct Reading {
     stops_behind_the_count: bool,
     searches_behind_the_count: bool,
     searched_cells: u16,
+    room: Room,
+}
+
+/// How room is made for a tombstone. It is right that the rows which fit are held against the limit, that the first row of least expiry goes,
+/// and that the rows stand as they stood, with a turned one among them.
+#[derive(Debug, Clone, Copy, PartialEq, Eq)]
+enum Room {
+    Right,
+    LimitOfTheSaidCount,
+    LowestSlotGoes,
+    LastMinuteStays,
+    SortedBySlot,
 }
 
 fn replied(count: u16, first: u16, cell: u16) -> u16 {
@@ -50,6 +63,38 @@ impl Reading {
             stops_behind_the_count: false,
             searches_behind_the_count: false,
             searched_cells: u16::MAX,
+            room: Room::Right,
+        }
+    }
+
+    const fn with(room: Room) -> Self {
+        Self { room, ..Self::RIGHT }
+    }
+
+    /// The number that is held against the limit of tombstones: of the rows that fit.
+    pub(crate) fn limited(self, rows: usize, said: usize) -> usize {
+        if self.room == Room::LimitOfTheSaidCount {
+            said
+        } else {
+            rows
+        }
+    }
+
+    /// The place of the tombstone that goes: the first of least expiry.
+    pub(crate) fn goes(self, rows: &[Tombstone]) -> Option<usize> {
+        let least = rows.iter().map(|row| row.expiry).min()?;
+        let mut equals = (0..rows.len()).filter(|place| rows[*place].expiry == least);
+        match self.room {
+            Room::LowestSlotGoes => equals.min_by_key(|place| rows[*place].slot),
+            Room::LastMinuteStays if least == u32::MAX => None,
+            _ => equals.next(),
+        }
+    }
+
+    /// The tombstones with a turned row among them stay as they stand.
+    pub(crate) fn placed(self, rows: &mut [Tombstone]) {
+        if self.room == Room::SortedBySlot {
+            rows.sort_by_key(|row| row.slot);
         }
     }
 
@@ -102,10 +147,14 @@ pub enum Wrong {
     StopsBehindTheCount,
     SearchesBehindTheCount,
     SearchesForCountedCells,
+    LimitOfTheSaidCount,
+    LowestSlotGoes,
+    LastMinuteStays,
+    TurnSorts,
 }
 
 impl Wrong {
-    pub const ALL: [Self; 9] = [
+    pub const ALL: [Self; 13] = [
         Self::Counts255Cells,
         Self::Counts257Cells,
         Self::AnyCellHasACiphertext,
@@ -115,6 +164,10 @@ impl Wrong {
         Self::StopsBehindTheCount,
         Self::SearchesBehindTheCount,
         Self::SearchesForCountedCells,
+        Self::LimitOfTheSaidCount,
+        Self::LowestSlotGoes,
+        Self::LastMinuteStays,
+        Self::TurnSorts,
     ];
 
     pub fn says(self) -> &'static str {
@@ -128,6 +181,10 @@ impl Wrong {
             Self::StopsBehindTheCount => "a tombstone behind the count stops a fetch",
             Self::SearchesBehindTheCount => "a carried row behind the count is counted as searched",
             Self::SearchesForCountedCells => "a row of cell 256 or more is not counted as searched",
+            Self::LimitOfTheSaidCount => "a tombstone goes where the count says 1,024 or more, though fewer rows fit",
+            Self::LowestSlotGoes => "of equal expiries the lowest slot goes, wherever it stands",
+            Self::LastMinuteStays => "none goes where all expiries are 2^32 - 1",
+            Self::TurnSorts => "the tombstones are sorted by slot where a row turns",
         }
     }
 
@@ -164,6 +221,10 @@ impl Wrong {
                 searched_cells: COUNTED - 1,
                 ..right
             },
+            Self::LimitOfTheSaidCount => Reading::with(Room::LimitOfTheSaidCount),
+            Self::LowestSlotGoes => Reading::with(Room::LowestSlotGoes),
+            Self::LastMinuteStays => Reading::with(Room::LastMinuteStays),
+            Self::TurnSorts => Reading::with(Room::SortedBySlot),
         }
     }
 }

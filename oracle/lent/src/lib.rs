@@ -6,6 +6,7 @@ mod cells;
 mod custody;
 mod exchange;
 mod fields;
+mod holding;
 mod own;
 mod page;
 mod party;

@@ -20,17 +20,11 @@ impl Model {
         }
     }
 
-    /// A post with the clock and the held rows of a state, in areas with so many tombstone rows; it has no ciphertexts and nothing else.
-    pub fn holding(tombstone_rows: usize, state: &State) -> Self {
-        let mut model = Self::new(Sizes {
-            carried_cells: 0,
-            own_cells: 0,
-            tombstone_rows,
-            bad_rows: 0,
-            exchanges: 0,
-        });
-        model.areas.hold(state);
-        model
+    /// A post that has come to this state.
+    pub fn holding(sizes: Sizes, state: &State) -> Self {
+        Self {
+            areas: Areas::holding(&sizes, state),
+        }
     }
 }
 

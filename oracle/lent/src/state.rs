@@ -17,6 +17,8 @@ pub struct State<'a> {
     pub next_slot: u64,
     pub own_cells: &'a [u8],
     pub carried_cells: &'a [u8],
+    /// As the device says; it may be more than there are rows.
+    pub said_tombstones: usize,
     /// All of an area, the rows behind the count too.
     pub tombstone_area: &'a [u8],
     pub carried_area: &'a [u8],
@@ -160,6 +162,7 @@ impl<'a> State<'a> {
             next_slot: device.next_slot,
             own_cells: &areas.own_cells,
             carried_cells: &areas.carried_cells,
+            said_tombstones: device.tombstones,
             tombstone_area: &areas.tombstones,
             carried_area: &areas.carried,
             reading,
@@ -266,7 +269,7 @@ fn put_cell(cells: &mut [u8], cell: u16, bytes: &[u8]) {
 }
 
 impl Areas {
-    fn store(&mut self, session: usize, change: &Change) {
+    pub(crate) fn store(&mut self, session: usize, change: &Change) {
         let device = &mut self.device;
         put_number(device, Device::CLOCK, change.clock);
         put_setting(device, change.setting);

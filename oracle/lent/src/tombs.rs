@@ -6,29 +6,35 @@ use crate::settings::{delete, own_put, put, tomb_reply};
 use crate::state::{Change, Lent, Outcome, Said, State, Step, refused, said};
 use post::Tag;
 
+/// At so many tombstones one goes before another is added.
+const LIMIT: usize = 1_024;
+
 impl State<'_> {
-    /// A tombstone stored: the refusal, or actions and change; nothing if its tag has one.
-    fn store(&self, tag: Tag, secret: [u8; 16], expiry: u32) -> Result<Step, u8> {
-        let mut tombstones = self.tombstones.clone();
-        if tombstones.iter().any(|row| row.tag == tag) {
-            return Ok(said(Said::Done));
+    /// Room for one tombstone, stored or turned: those that stay, and the deletion of the one that goes, the first of least expiry. 5 if all
+    /// rows are used by those that stay.
+    fn room(&self) -> Result<(Vec<Tombstone>, Vec<[u8; 13]>), u8> {
+        let (mut stay, mut gone) = (self.tombstones.clone(), Vec::new());
+        if self.reading.limited(stay.len(), self.said_tombstones) >= LIMIT
+            && let Some(place) = self.reading.goes(&stay)
+        {
+            gone.push(delete(stay.remove(place).slot));
         }
-        let mut outcome = Outcome::only(Said::Done);
-        if tombstones.len() >= 1_024 {
-            let least = tombstones.iter().map(|row| row.expiry).min().expect("1,024 rows");
-            let place = tombstones
-                .iter()
-                .position(|row| row.expiry == least)
-                .expect("the least");
-            outcome.actions.push(delete(tombstones.remove(place).slot));
-        }
-        if tombstones.len() >= self.tombstone_rows {
+        if stay.len() >= self.tombstone_rows {
             return Err(5);
         }
+        Ok((stay, gone))
+    }
+
+    /// A tombstone stored: the refusal, or actions and change; nothing if its tag has one.
+    fn store(&self, tag: Tag, secret: [u8; 16], expiry: u32) -> Result<Step, u8> {
+        if self.tombstones.iter().any(|row| row.tag == tag) {
+            return Ok(said(Said::Done));
+        }
+        let (mut tombstones, mut actions) = self.room()?;
         if self.next_slot == LAST_SLOT {
             return Err(6);
         }
-        outcome.actions.push(put(self.next_slot));
+        actions.push(put(self.next_slot));
         tombstones.push(Tombstone {
             slot: self.next_slot,
             tag,
@@ -40,7 +46,7 @@ impl State<'_> {
             next_slot: Some(self.next_slot + 1),
             ..Change::default()
         };
-        Ok((outcome, change))
+        Ok((Outcome::actions(actions), change))
     }
 
     pub fn stored(&self, lent: &Lent, tag: Tag, secret: [u8; 16], expiry: u32) -> Step {
@@ -50,12 +56,10 @@ impl State<'_> {
         self.store(tag, secret, expiry).unwrap_or_else(refused)
     }
 
-    /// The carried row of a place turned tombstone: its slot and expiry, among the others by slot.
-    fn turn(&self, place: usize, tag: Tag, secret: [u8; 16]) -> Step {
-        if self.tombstones.len() >= self.tombstone_rows {
-            return refused(5);
-        }
-        let (mut carried, mut tombstones) = (self.carried.clone(), self.tombstones.clone());
+    /// The carried row of a place turned tombstone: its slot and expiry, by slot among those that stay.
+    fn turn(&self, place: usize, tag: Tag, secret: [u8; 16]) -> Result<Step, u8> {
+        let (mut tombstones, mut actions) = self.room()?;
+        let mut carried = self.carried.clone();
         let row = carried.remove(place);
         let after = tombstones.iter().position(|other| row.slot < other.slot);
         let turned = Tombstone {
@@ -65,12 +69,14 @@ impl State<'_> {
             expiry: row.expiry,
         };
         tombstones.insert(after.unwrap_or(tombstones.len()), turned);
+        self.reading.placed(&mut tombstones);
+        actions.push(put(row.slot));
         let change = Change {
             carried: Some(carried),
             tombstones: Some(tombstones),
             ..Change::default()
         };
-        (Outcome::actions(vec![put(row.slot)]), change)
+        Ok((Outcome::actions(actions), change))
     }
 
     fn end_own(&self, place: usize, tag: Tag, secret: [u8; 16]) -> Step {
@@ -98,7 +104,7 @@ impl State<'_> {
             if self.carried[place].commitment != commitment {
                 return said(Said::Malformed);
             }
-            return self.turn(place, tag, secret);
+            return self.turn(place, tag, secret).unwrap_or_else(refused);
         }
         let Some(place) = self.own.iter().position(|row| row.tag == tag) else {
             return said(Said::Done);

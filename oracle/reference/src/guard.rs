@@ -16,7 +16,7 @@ impl Reference {
     }
 
     /// The source can't take the last slot: it is lent another that no row has.
-    fn lend_slot(&mut self) -> Option<u64> {
+    pub(crate) fn lend_slot(&mut self) -> Option<u64> {
         if self.source.next_slot() != u64::MAX {
             return None;
         }

@@ -13,6 +13,7 @@ mod backend;
 mod core;
 mod dissect;
 mod guard;
+mod limit;
 mod load;
 pub mod raw;
 mod reference;
@@ -20,6 +21,7 @@ mod refusals;
 mod resume;
 
 pub use crate::core::source::{Raw, Source};
+pub use limit::Passed;
 pub use reference::Reference;
 
 use crate::epoch::PairingRole;

@@ -16,7 +16,7 @@ pub struct Reference {
     pub(crate) seen: BTreeSet<Tag>,
 }
 
-fn done(raw: Raw) -> Answer {
+pub(crate) fn done(raw: Raw) -> Answer {
     done_after(raw, 0)
 }
 

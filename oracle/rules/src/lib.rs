@@ -9,6 +9,7 @@ mod refusals;
 mod searched;
 mod tags;
 mod tombs;
+mod turned;
 mod upkeep;
 mod window;
 mod wrong;

@@ -2,6 +2,7 @@
 
 use crate::custody::rows_of;
 use crate::page;
+use crate::tombs::LIMIT;
 use crate::tombs::Met;
 use crate::{LAST_SLOT, Rules, Wrong};
 use post::{Call, ChainRow, Kind, SkippedRow, WindowRow};
@@ -9,6 +10,13 @@ use post::{Call, ChainRow, Kind, SkippedRow, WindowRow};
 const ORDER: [u8; 13] = [13, 1, 12, 2, 3, 8, 7, 10, 11, 4, 5, 6, 9];
 
 const OWN_SIZES: [usize; 8] = [48, 80, 144, 272, 528, 1040, 2064, 4064];
+
+/// A tombstone that a call would add: by the carried row of a place, which turns, or stored.
+#[derive(PartialEq, Eq)]
+enum Added {
+    Turned(usize),
+    Stored,
+}
 
 impl Rules {
     /// Two numbers change places under a switch.
@@ -118,16 +126,17 @@ impl Rules {
         }
     }
 
-    /// A tombstone that the call would add: by a carried row that turns, or stored.
-    fn added_tombstone(&self, call: &Call) -> (bool, bool) {
+    /// The tombstone that the call would add.
+    fn added_tombstone(&self, call: &Call) -> Option<Added> {
+        let stored = |tag| self.would_store(tag).then_some(Added::Stored);
         match call {
             Call::Tomb { tag, secret, .. } => match self.met(tag, secret) {
-                Met::Carried(_) => (true, false),
-                Met::Own(_) => (false, self.would_store(tag)),
-                _ => (false, false),
+                Met::Carried(place) => Some(Added::Turned(place)),
+                Met::Own(_) => stored(tag),
+                _ => None,
             },
-            Call::Opened { tag, .. } | Call::StoredTombstone { tag, .. } => (false, self.would_store(tag)),
-            _ => (false, false),
+            Call::Opened { tag, .. } | Call::StoredTombstone { tag, .. } => stored(tag),
+            _ => None,
         }
     }
 
@@ -139,12 +148,14 @@ impl Rules {
             let loaded = self.readable(file).map_or(Vec::new(), |(_, rows)| rows);
             return loaded.iter().filter(|row| !row.held.is_carried()).count() > rows;
         }
-        let (turns, stores) = self.added_tombstone(call);
-        let after_deletion = there - usize::from(self.displaced().is_some());
-        let before = self.is(Wrong::NoRowBeforeTheDeletion);
-        let left = if before { there } else { after_deletion };
-        let needs_row = !self.is(Wrong::TurnedRowNeedsNoRow);
-        (turns && needs_row && there >= rows) || (stores && left >= rows)
+        let (gone, before) = match self.added_tombstone(call) {
+            Some(Added::Turned(_)) if self.is(Wrong::TurnedRowNeedsNoRow) => return false,
+            Some(Added::Turned(_)) if self.is(Wrong::TurnedRowRefusedAtTheLimit) && there >= LIMIT => return true,
+            Some(Added::Turned(place)) => (self.gone_for(place).len(), Wrong::NoRowBeforeATurnedRowsDeletion),
+            Some(Added::Stored) => (self.displaced().iter().len(), Wrong::NoRowBeforeTheDeletion),
+            None => return false,
+        };
+        there - self.unless(before, gone, 0) >= rows
     }
 
     /// 6: a new slot is needed and next slot is 2^64 − 1.
@@ -155,8 +166,9 @@ impl Rules {
                 window, peer, envelope, ..
             } => self.is(Wrong::NoSlotWhateverTheCode) || self.would_carry(window, *peer, envelope),
             _ => {
-                let (turns, stores) = self.added_tombstone(call);
-                stores || (turns && self.is(Wrong::TurnedRowNeedsASlot))
+                let turned = self.is(Wrong::TurnedRowNeedsASlot);
+                self.added_tombstone(call)
+                    .is_some_and(|added| added == Added::Stored || turned)
             }
         };
         needs && self.state.next_slot >= last

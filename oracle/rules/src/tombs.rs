@@ -12,6 +12,9 @@ pub(crate) enum Met {
     Nothing,
 }
 
+/// At so many tombstones or more one goes before another comes.
+pub(crate) const LIMIT: usize = 1024;
+
 impl Rules {
     fn met_carried(&self, tag: &Tag, secret: &[u8; 16]) -> Option<Met> {
         self.state
@@ -48,12 +51,12 @@ impl Rules {
         self.state.tombstones().any(|row| row.held.tag() == tag)
     }
 
-    /// The slot that a stored tombstone deletes first: at 1,024 or more, least expiry, lowest slot among equals.
+    /// The slot of the tombstone that goes before one is added, stored or turned: at 1,024 or more, least expiry, lowest slot among equals.
     pub(crate) fn displaced(&self) -> Option<u64> {
         let limit = self.unless(
             Wrong::TombstonesUpTo1025,
-            self.unless(Wrong::TombstonesUpTo1023, 1024, 1023),
-            1025,
+            self.unless(Wrong::TombstonesUpTo1023, LIMIT, LIMIT - 1),
+            LIMIT + 1,
         );
         if self.state.tombstones().count() < limit {
             return None;
@@ -68,10 +71,11 @@ impl Rules {
         Some(slot)
     }
 
-    fn displace(&mut self) -> Option<Action> {
-        let slot = self.displaced()?;
-        self.state.held.retain(|row| row.slot != slot);
-        Some(Action::Delete { slot })
+    /// The tombstones of these slots go.
+    pub(crate) fn make_room(&mut self, gone: impl IntoIterator<Item = u64>) -> Vec<Action> {
+        let gone: Vec<u64> = gone.into_iter().collect();
+        self.state.held.retain(|row| !gone.contains(&row.slot));
+        gone.into_iter().map(|slot| Action::Delete { slot }).collect()
     }
 
     /// Whether `store` adds a row: not if the tag has a tombstone.
@@ -85,46 +89,24 @@ impl Rules {
     pub(crate) fn store(&mut self, tag: Tag, secret: [u8; 16], expiry: u32) -> Vec<Action> {
         if !self.would_store(&tag) {
             let early = self.is(Wrong::DisplacesBeforeLooking);
-            return if early {
-                self.displace().into_iter().collect()
-            } else {
-                Vec::new()
-            };
+            return self.make_room(self.displaced().filter(|_| early));
         }
-        let mut actions: Vec<Action> = self.displace().into_iter().collect();
+        let mut actions = self.make_room(self.displaced());
         actions.push(self.put_new(Held::Tombstone { tag, secret, expiry }));
-        actions
-    }
-
-    /// A carried row turned tombstone retains its slot and expiry and passes no limit.
-    fn turn(&mut self, place: usize, tag: Tag, secret: [u8; 16]) -> Vec<Action> {
-        let mut actions = Vec::new();
-        let slot = self.state.held[place].slot;
-        let expiry = self.state.held[place].held.expiry();
-        let expiry = self.unless(Wrong::TurnedRowLivesOn, expiry, self.lifetime_end());
-        if self.is(Wrong::TurnedRowObeysTheLimit) {
-            actions.extend(self.displace());
-        }
-        let held = Held::Tombstone { tag, secret, expiry };
-        if self.is(Wrong::TurnedRowGetsANewSlot) {
-            self.state.held.retain(|row| row.slot != slot);
-            actions.push(Action::Delete { slot });
-            actions.push(self.put_new(held));
-            return actions;
-        }
-        for row in &mut self.state.held {
-            if row.slot == slot {
-                row.held = held.clone();
-            }
-        }
-        actions.push(Action::Put { slot });
         actions
     }
 
     pub(crate) fn tomb(&mut self, tag: Tag, secret: [u8; 16]) -> Answer {
         match self.met(&tag, &secret) {
+            Met::WrongSecret if self.is(Wrong::WrongSecretDisplaces) => {
+                self.make_room(self.displaced());
+                malformed()
+            }
             Met::WrongSecret => malformed(),
-            Met::Nothing => done(Vec::new(), Vec::new()),
+            Met::Nothing => {
+                let gone = self.displaced().filter(|_| self.is(Wrong::UnknownTombDisplaces));
+                done(Vec::new(), self.make_room(gone))
+            }
             Met::Carried(place) => done(Vec::new(), self.turn(place, tag, secret)),
             Met::Own(place) => {
                 let row = self.state.own.remove(place);

@@ -128,7 +128,8 @@ impl<'a> Reply<'a> {
 pub enum Action {
     /// Store the row of a slot, in place of what is there, in one write: its bytes are [`Post::row_blob`]'s.
     Put(Slot),
-    /// Delete what is stored in a slot.
+    /// Delete what is stored in a slot. That of a tombstone which goes for another stands before the other's put. It is
+    /// carried out first: else a power cut between them could leave one tombstone more than there are rows.
     Delete(Slot),
     /// An own row changed or ended. If [`Post::own_row`] still has it, store its
     /// [`to_bytes`](crate::OwnRow::to_bytes): copies were handed on, or it was renewed. If not, it has ended:
@@ -286,7 +287,8 @@ impl<'a> Actions<'a> {
 
     /// The same actions for a storage that writes one thing after the other: puts and deletes in their order,
     /// then the own puts. If power goes between them the tomb of an own row leaves the row beside its
-    /// tombstone, which the next start sees and ends, and never neither of them.
+    /// tombstone, which the next start sees and ends, and never neither of them; that of a carried row leaves the
+    /// row as it was, and at most one tombstone less.
     pub fn held_first(self) -> impl Iterator<Item = Action> + Clone + use<'a> {
         let is_own = |action: &Action| matches!(action, Action::OwnPut { .. });
         let held = self.clone().filter(move |action| !is_own(action));

@@ -31,7 +31,9 @@ pub struct Sizes {
     pub carried_cells: usize,
     /// Own envelopes, 256 at most; 0 for a post that only carries.
     pub own_cells: usize,
-    /// Tombstones: document 01's R. Stored ones are 1,024 at most; carried rows that turn come on top.
+    /// Tombstones: document 01's R. There are 1,024 at most, unless a loaded file or the areas of
+    /// [`Post::over`](crate::Post::over) have more. With fewer rows, calls are refused with
+    /// [`Refusal::NoTombstoneRow`](crate::Refusal::NoTombstoneRow) while all of them are used.
     pub tombstone_rows: usize,
     /// Tags of envelopes that could not be opened; 0 for a post that only carries.
     pub bad_tag_rows: usize,

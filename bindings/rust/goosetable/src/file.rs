@@ -105,8 +105,8 @@ impl SavedFile {
     }
 
     /// Loads what is good, and answers what was left out, each slot with the number that refused it: 8 as at
-    /// [`Post::load`], 4 and 5 where cells or tombstone rows are all used. Of two that exclude each other the first
-    /// stays. The next slot is the file's, above every slot that was pushed. If a load of the whole file is refused,
+    /// [`Post::load`], 4 and 5 where cells or tombstone rows are all used (then the last of the file, whatever their
+    /// expiry). Of two that exclude each other the first stays. The next slot is the file's, above every slot that was pushed. If a load of the whole file is refused,
     /// the rows are tried one by one, in a time that grows with their square.
     ///
     /// # Errors

@@ -402,11 +402,15 @@ impl Post {
     /// becomes a tombstone or the own row ends; a wrong secret is malformed. An unknown tag changes nothing. The
     /// tombstone has the row's expiry. Where a host makes the call by itself, any contact does as the peer.
     ///
+    /// Where a tombstone is added at 1,024 or more, one of those that are there is deleted first: of least expiry,
+    /// lowest slot among equals. Its [`Delete`](crate::Action::Delete) stands before the put of the new one, which of a carried row has
+    /// the row's slot.
+    ///
     /// # Errors
     ///
     /// - 2 [`UnknownContact`](Refusal::UnknownContact): the peer is not known.
-    /// - 5 [`NoTombstoneRow`](Refusal::NoTombstoneRow): a tombstone would be added and, after any deletion, all rows
-    ///   are used. After maintenance there may be room.
+    /// - 5 [`NoTombstoneRow`](Refusal::NoTombstoneRow): all rows are used. It does not come with 1,024 rows or more.
+    ///   After maintenance there may be room.
     /// - 6 [`NoSlot`](Refusal::NoSlot): the tombstone of an own row needs a slot, and the next slot is 2^64 − 1.
     pub fn tomb(
         &mut self,
@@ -428,7 +432,7 @@ impl Post {
     ///
     /// If [`carried_of`](Post::carried_of) has the tag, call [`tomb`](Post::tomb) with the secret first, and then this,
     /// whatever it answered: the carried row turns, and one tombstone stands for the tag. The other way round two do,
-    /// and one row more is used.
+    /// and one row more is used, or at 1,024 tombstones another one goes.
     ///
     /// # Errors
     ///
@@ -466,7 +470,7 @@ impl Post {
 
     /// Stores a tombstone that the host knows of, with the expiry that it is given, unless the tag has one: of a message
     /// that came over the session itself, so that a courier's copy of it is turned away. At 1,024 or more one of least
-    /// expiry is deleted first.
+    /// expiry, lowest slot among equals, is deleted first.
     ///
     /// # Errors
     ///

@@ -19,7 +19,8 @@ pub enum Refusal {
     WrongExchange,
     /// 4: a row would be added and its cells are all used.
     NoCell,
-    /// 5: a tombstone would be added and, after any deletion, all R rows are used.
+    /// 5: a tombstone would be added and, after any deletion, all R rows are used. With 1,024 rows or more it comes of
+    /// no call but [`Post::load`](crate::Post::load).
     NoTombstoneRow,
     /// 6: a new slot is needed and the next slot is 2^64 − 1.
     NoSlot,

@@ -1,19 +1,13 @@
--- One of the R rows is there or not; then the row changes its table.
-use Rattle.std.proofs.Common.{refl, arith}
-use Rattle.table.specs.Rows.{held}
+-- If no row is free once room is made, that is number 5; else the carried row changes its table.
+use Rattle.std.proofs.Common.{rules}
+use Rattle.octets.proofs.Numbers.{bytes_of}
 use Rattle.tombs.proofs.WriteLaws.{turns}
 use Rattle.tombs.proofs.CallLaws.{no_row, has_row}
 use Rattle.tombs.proofs.end_carried.Goals as goal
 
-pub returns-then-tombstones-device : goal.returns-then-tombstones-device
-unfolding held
-returns-then-tombstones-device c a = no_row _ _ _ _ _ _ _ refl a (omega arith)
-
-pub insert_by_slot-device-requires : goal.insert_by_slot-device-requires
-unfolding held
-insert_by_slot-device-requires c = omega arith
+pub returns-then-all_rows_used : goal.returns-then-all_rows_used
+returns-then-all_rows_used c a = no_row _ _ _ _ _ _ _ a c.if-all_rows_used.ensures
 
 pub returns : goal.returns
-unfolding held
 returns c a =
-    has_row _ _ _ _ _ _ _ refl a (omega arith) (turns _ _ _ _ _ _ _ a c.requires.0 c.read-row.ensures c.tombstone_of.ensures c.insert_by_slot-device.ensures c.remove-device.ensures c.put_courier.ensures)
+    has_row _ _ _ _ _ _ _ a c.if-all_rows_used.ensures (turns _ _ _ _ _ _ _ a c.requires.0 c.requires.1 c.read-row.ensures c.tombstone_of.ensures (bytes_of _ (λ i. search rules)) (bytes_of _ (λ i. search rules)) c.remove-device.ensures c.make_room-listed.ensures c.insert_by_slot-device.ensures c.put_courier.ensures)

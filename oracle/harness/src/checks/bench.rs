@@ -1,7 +1,8 @@
 //! What the checks build their posts of.
 
+use crate::compare::judge::Judge;
 use crate::compare::maker;
-use crate::compare::pair::{Judge, difference};
+use crate::compare::pair::difference;
 use post::{
     Action, Answer, Areas, Call, Custody, Dir, Envelope, Held, NewOwn, Post, Prefix, Reply, Sizes, State, Tag,
     Verification, WindowRow, encode_window,
@@ -185,7 +186,7 @@ impl Bench {
     }
 
     pub fn state(&self) -> State {
-        self.judge.state().clone()
+        self.judge.held().clone()
     }
 
     pub fn refusal(&mut self, call: Call) -> Option<u8> {

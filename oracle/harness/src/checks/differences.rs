@@ -2,7 +2,7 @@
 //! docs/DIFFERENCES.md lists them with these inputs.
 
 use super::bench::*;
-use super::{Check, Outcome, holds, same, stops};
+use super::{Check, Outcome, holds, limit, same, stops};
 use post::{Action, Areas, Call, ChainRow, Custody, NewOwn, Reply, SkippedRow, Verification};
 use reference::raw;
 
@@ -293,6 +293,28 @@ fn tombstoned_window_tag() -> Outcome {
     same(bench.call(inventory(&[])), answer)
 }
 
+/// Request Four: with 1,024 tombstones there the source turns the row and has 1,025; the product deletes one first and has 1,024.
+fn turned_at_the_limit() -> Outcome {
+    let mut source = source();
+    let mut rows = limit::tombstones(vec![50; 1024]);
+    rows.insert(0, (0, carried(VERIFIED, tag(1), 77, 4)));
+    for (slot, held) in &rows {
+        source.put_held(*slot, held);
+    }
+    source.set_next_slot(2_000);
+    let raw = source.tomb(VERIFIED, tag(1), SECRET);
+    same(
+        (raw.malformed, raw.actions, source.held_counts()),
+        (false, vec![Action::Put { slot: 0 }], (0, 1025)),
+    )?;
+
+    let mut bench = limit::loaded(1024, &rows, 2_000);
+    let tomb = bench.tomb_call(tag(1), SECRET);
+    same(bench.call(tomb), limit::displaces(1, 0))?;
+    let state = bench.state();
+    same((state.carried().count(), state.tombstones().count()), (0, 1024))
+}
+
 fn long_labels() -> Outcome {
     stops(|| raw::labelled(&vec![0; 65_527]))
 }
@@ -392,6 +414,10 @@ pub const CHECKS: &[Check] = &[
     ("window rows not in order", window_order),
     ("two window rows of one key", window_rows_of_one_key),
     ("a window tag that is tombstoned: request Two", tombstoned_window_tag),
+    (
+        "a row that turns with 1,024 tombstones there: request Four",
+        turned_at_the_limit,
+    ),
     ("a label over 65,526 bytes", long_labels),
     ("own rows: message numbers and sizes", own_rows),
     ("own rows that have ended", ended_messages_stay_queued),

@@ -1,7 +1,7 @@
 //! The drill program: the worked example, 13 in all its cases, and random logs.
 
 use super::{Check, Outcome, holds, same};
-use crate::drill::{Stopped, run};
+use crate::drill::{Judged, Stopped, judged, run};
 use crate::generate::logs::{log, record};
 use post::Sizes;
 use reference::Reference;
@@ -32,7 +32,7 @@ fn envelope(id: u64, tag: u8, expiry: u32, copies: u8) -> Vec<u8> {
 }
 
 fn printed(records: &[Vec<u8>]) -> String {
-    run(Reference::new(Sizes::DRILL), &records.concat()).0
+    judged(&records.concat()).lines
 }
 
 fn lines(records: &[Vec<u8>], want: &[&str]) -> Outcome {
@@ -147,7 +147,9 @@ fn stops_with(records: &[Vec<u8>], why: Stopped) -> Outcome {
     let follows = contact(9, 1);
     let whole = why != Stopped::EndInside;
     let log = [records.concat(), if whole { follows } else { Vec::new() }].concat();
-    let (out, stopped) = run(Reference::new(Sizes::DRILL), &log);
+    let Judged {
+        lines: out, stopped, ..
+    } = judged(&log);
     same(stopped, Some(why))?;
     holds(
         out.ends_with("refused 13\n") && out.matches("refused 13").count() == 1,
@@ -188,15 +190,72 @@ fn end_of_input() -> Outcome {
     Ok(())
 }
 
-/// The reference and the second statement print the same for random logs, which stop for every reason; those without 13 do not stop.
+/// An envelope that expires at this minute, and its tomb.
+fn deposit_and_tomb(number: u32, expiry: u32) -> [Vec<u8>; 2] {
+    let secret = [0x33; 16];
+    let tag = [&number.to_be_bytes()[..], &[0x44; 12]].concat();
+    let head = [
+        &tag[..],
+        &reference::raw::commitment(&secret),
+        &expiry.to_be_bytes(),
+        &[5],
+    ]
+    .concat();
+    [
+        record(b"EN", &[peer(5), head, vec![0; 48]].concat()),
+        record(b"TB", &[peer(5), tag, secret.to_vec()].concat()),
+    ]
+}
+
+/// 1,024 rows turn, that of slot 500 with the least expiry; then another turns, and one more. A wrong secret and an unknown tag take nothing.
+fn at_the_limit() -> Outcome {
+    let expiry = |number| if number == 500 { 98 } else { 100 };
+    let mut records = vec![contact(5, 1)];
+    records.extend((0..1024).flat_map(|number| deposit_and_tomb(number, expiry(number))));
+    let before = records.len();
+    let [deposit, tomb] = deposit_and_tomb(1024, 99);
+    let [_, unknown] = deposit_and_tomb(9999, 99);
+    let mut wrong = tomb.clone();
+    *wrong.last_mut().expect("a secret") ^= 1;
+    let last = deposit_and_tomb(1025, 97);
+    records.extend([deposit, wrong, unknown, tomb]);
+    records.extend(last);
+    let Judged {
+        lines,
+        records: all,
+        of_the_source,
+        ..
+    } = judged(&records.concat());
+    let lines: Vec<&str> = lines
+        .lines()
+        .skip(1 + 1024 * 5)
+        .filter(|line| !line.starts_with("custody"))
+        .collect();
+    let want = "put 1024 94|ok|malformed|ok|del 500|put 1024 37|ok|put 1025 94|ok|del 1024|put 1025 37|ok";
+    same(lines.join("|"), want.to_string())?;
+    same((all, of_the_source), (before + 6, before + 3))?;
+    // The source under document 01's refusals, as the drill was before request Four.
+    let (old, _) = run(Reference::new(Sizes::DRILL), &records.concat());
+    let old: Vec<&str> = old
+        .lines()
+        .skip(1 + 1024 * 5)
+        .filter(|line| !line.starts_with("custody"))
+        .collect();
+    same(
+        old.join("|"),
+        "put 1024 94|ok|malformed|ok|refused 5|put 1025 94|ok|refused 5".to_string(),
+    )
+}
+
+/// The judge and the second statement print the same for random logs, which stop for every reason; those without 13 do not stop.
 fn random_logs() -> Outcome {
     let mut reasons = BTreeSet::new();
     for seed in 1..=200 {
         let records = 60 + (seed as usize % 5) * 60;
         let made = log(seed, records, true);
-        let (out, stopped) = run(Reference::new(Sizes::DRILL), &made.log);
+        let Judged { lines, stopped, .. } = judged(&made.log);
         let (other, _) = run(Rules::new(Sizes::DRILL), &made.log);
-        holds(out == other, &format!("log {seed} differs"))?;
+        holds(lines == other, &format!("log {seed} differs"))?;
         same(stopped, made.stopped)?;
         reasons.extend(stopped);
         let whole = log(seed, records, false);
@@ -206,12 +265,27 @@ fn random_logs() -> Outcome {
     same(reasons.into_iter().collect(), Stopped::ALL.to_vec())
 }
 
+/// Logs around 1,024 tombstones: some leave the comparison with the source, and no line is `refused 5`.
+fn random_logs_at_the_limit() -> Outcome {
+    let mut left = 0;
+    for seed in [3, 8, 13, 18] {
+        let made = log(seed, 2_600, false);
+        let judged = judged(&made.log);
+        let (other, _) = run(Rules::new(Sizes::DRILL), &made.log);
+        holds(judged.lines == other, &format!("log {seed} differs"))?;
+        holds(!other.contains("refused 5"), &format!("log {seed} has a refusal by 5"))?;
+        left += usize::from(judged.of_the_source < judged.records);
+    }
+    holds(left >= 2, "two of the logs leave the comparison with the source")
+}
+
 pub const CHECKS: &[Check] = &[
     ("the worked example, byte for byte", worked_example),
     ("every kind of line", every_line),
     ("SS of an unknown peer", unknown_session),
     ("16 cells", sixteen_cells),
     ("the clock and the setting at the start", start),
+    ("a row turns at 1,024: del, put, ok, where refused 5 was", at_the_limit),
     ("13: mark, length, shape, bytes, a 257th contact", thirteen),
     ("13: the length is tested before the body", length_before_body),
     (
@@ -219,4 +293,5 @@ pub const CHECKS: &[Check] = &[
         end_of_input,
     ),
     ("200 random logs, and 13 for every reason", random_logs),
+    ("random logs around 1,024 tombstones", random_logs_at_the_limit),
 ];

@@ -396,6 +396,14 @@ pub const CHECKS: &[Check] = &[
         "counts of up to three rows, their copies, listed prefixes and tombstones, all of them",
         super::counts::counts,
     ),
+    (
+        "rows that turn at 1,024: three tombstones' expiries, its own, its slot, its tag, all of them",
+        super::limit::all_cases,
+    ),
+    (
+        "rows that turn: 1,020 to 1,030 tombstones and every R to 1,032",
+        super::limit::all_rows,
+    ),
     ("all seconds of an hour", seconds),
     ("all counts of skipped keys, all places near a chain's end", windows),
     ("row blobs of all lengths to 2,200", row_blobs),

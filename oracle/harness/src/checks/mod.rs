@@ -1,5 +1,5 @@
-//! Document 01's corners put to the source one by one, each under a name, and those of requests Two and Three; those of document 02's pages,
-//! which the source has not, to the second and the third statement.
+//! Document 01's corners put to the source one by one, each under a name, and those of requests Two and Three; those of document 02's pages and of
+//! rows that turn at 1,024 tombstones, which the source has not, to the second and the third statement.
 
 mod bench;
 mod counts;
@@ -9,6 +9,7 @@ mod drills;
 mod exchange;
 mod exhaustive;
 mod files;
+mod limit;
 mod lost;
 mod pages;
 mod plain;
@@ -43,13 +44,14 @@ pub fn stops<T>(what: impl FnOnce() -> T) -> Outcome {
     }
 }
 
-const GROUPS: [(&str, &[Check]); 13] = [
+const GROUPS: [(&str, &[Check]); 14] = [
     ("chain, courier, state, kdf, data", plain::CHECKS),
     ("custody", custody::CHECKS),
     ("exchange", exchange::CHECKS),
     ("tombstoned window tags", lost::CHECKS),
     ("the count of an inventory's end", searched::CHECKS),
     ("tombs and maintenance", tombs::CHECKS),
+    ("rows that turn at 1,024", limit::CHECKS),
     ("rows and files", files::CHECKS),
     ("screen pages", pages::CHECKS),
     ("refusals", refusals::CHECKS),

@@ -100,7 +100,8 @@ fn limit_of_1024() -> Outcome {
     same(source.held_counts(), (0, 1024))
 }
 
-fn turned_rows_pass_the_limit() -> Outcome {
+/// What the source does; request Four has it otherwise, and a list leaves the comparison here.
+fn turned_rows_pass_the_sources_limit() -> Outcome {
     let mut source = with_tombstones((0..1024).map(|_| 50));
     source.put_held(0, &carried(VERIFIED, tag(1), 77, 4));
     same(
@@ -214,8 +215,8 @@ pub const CHECKS: &[Check] = &[
         limit_of_1024,
     ),
     (
-        "a carried row that turns passes no limit of 1,024",
-        turned_rows_pass_the_limit,
+        "the source: a carried row that turns passes the limit of 1,024",
+        turned_rows_pass_the_sources_limit,
     ),
     (
         "a tag carried and tombstoned together, and two tombstones of one tag",

@@ -1,11 +1,13 @@
-//! The reference beside another post, on random lists of calls.
+//! The judge beside another post, on random lists of calls.
 
+pub mod judge;
 pub mod pair;
 pub mod shrink;
 
 use crate::generate::{Generator, Profile};
 use crate::tally::Tally;
-use pair::{Pair, Seen};
+use judge::{By, Seen};
+use pair::Pair;
 use post::{Call, Post, Sizes};
 use rules::{Rules, Wrong};
 use std::process::ExitCode;
@@ -177,9 +179,15 @@ pub fn main(arguments: &[String]) -> ExitCode {
     for what in &missed {
         println!("never reached: {what}");
     }
+    let (lists, left) = (options.to - options.from + 1, tally.judged(By::Leaving));
     println!(
-        "{} of the calls are not the source's: the second and the third statement agreed on them",
-        tally.not_in_source()
+        "{left} of {lists} lists left the comparison with the source: a row turned with 1,024 tombstones or more there"
+    );
+    println!(
+        "compared with the source: {} calls; with the second statement, and the third agreed: {} pages, {} calls from where their list left on",
+        tally.judged(By::Source),
+        tally.judged(By::Statements),
+        left + tally.judged(By::Left)
     );
     println!("{} calls, 0 differences", options.calls);
     crate::status(missed.is_empty())

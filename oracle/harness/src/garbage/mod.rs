@@ -6,11 +6,12 @@ mod fetches;
 mod pages;
 mod reach;
 mod spoil;
+mod turns;
 
 use crate::generate::{Generator, Profile, Rng};
 use lent::{Areas, Device, Outcome, Reading, Wrong, decoded, performed, performed_with};
 use post::{Call, Kind};
-use reach::Reach;
+use reach::{Before, Reach};
 
 /// What makes the calls beside the third statement.
 pub trait Party {
@@ -81,11 +82,12 @@ impl Party for library::Library {
 /// A difference: the number of the call in its list, and what it is.
 type Found = (usize, String);
 
-/// Of any kind; some go after a row whose cell does not count, and some after a tombstoned window tag.
+/// Of any kind; some go after a row whose cell does not count, some after a tombstoned window tag, and some after a row that turns.
 fn next_call(generator: &mut Generator, areas: &Areas, rng: &mut Rng) -> Call {
     let wanted = match rng.below(10) {
         0 => cells::call_after_one(areas, &generator.sizes, rng),
         1..3 => fetches::call_after_one(areas, &generator.sizes, rng),
+        3..5 if generator.profile.fills_tombstones() => turns::call_after_one(areas, &generator.sizes, rng),
         _ => None,
     };
     if let Some(call) = wanted {
@@ -103,6 +105,9 @@ fn run_list(seed: u64, count: usize, make: &Maker, reach: &mut Reach) -> Result<
         let mut areas = spoil::warm(&mut generator, &mut rng);
         for _ in 0..40 {
             spoil::spoil(&mut areas, &mut rng);
+            if generator.profile.fills_tombstones() && rng.percent(40) {
+                turns::spoil(&mut areas, &mut rng);
+            }
             let mut party = make(areas, rng.percent(50));
             if rng.percent(2) {
                 party.fresh();
@@ -110,10 +115,7 @@ fn run_list(seed: u64, count: usize, make: &Maker, reach: &mut Reach) -> Result<
             for _ in 0..rng.between(1, 6) {
                 let call = next_call(&mut generator, party.expected(), &mut rng);
                 made += 1;
-                let met = (
-                    fetches::met(party.expected(), &call),
-                    counts::Before::of(party.expected(), &call),
-                );
+                let met = Before::of(party.expected(), &call);
                 let outcome = party.call(&call).map_err(|what| (made, format!("{call:?}: {what}")))?;
                 reach.count(met, party.expected(), &call, &outcome);
             }

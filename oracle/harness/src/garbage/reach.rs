@@ -1,8 +1,6 @@
 //! What a run on garbage areas met, and how often.
 
-#[cfg(feature = "library")]
-use super::fetches;
-use super::{cells, counts, pages};
+use super::{cells, counts, fetches, pages, turns};
 use lent::{Areas, Outcome, Said};
 use post::Call;
 use std::collections::BTreeMap;
@@ -13,6 +11,24 @@ pub struct Reach {
     pages: BTreeMap<&'static str, u64>,
     fetches: BTreeMap<&'static str, u64>,
     counts: BTreeMap<&'static str, u64>,
+    turns: BTreeMap<&'static str, u64>,
+}
+
+/// What a call meets in the areas before it.
+pub struct Before {
+    fetches: Met,
+    counts: Option<counts::Before>,
+    turns: Option<turns::Before>,
+}
+
+impl Before {
+    pub fn of(areas: &Areas, call: &Call) -> Self {
+        Self {
+            fetches: fetches::met(areas, call),
+            counts: counts::Before::of(areas, call),
+            turns: turns::Before::of(areas, call),
+        }
+    }
 }
 
 /// What a call met: each name, and whether.
@@ -25,14 +41,16 @@ fn add(counts: &mut BTreeMap<&'static str, u64>, met: Met) {
 }
 
 impl Reach {
-    /// A call: what it met as to fetches, if it was answered, and what an inventory met as to counts; the areas are those after it.
-    pub fn count(&mut self, before: (Met, Option<counts::Before>), areas: &Areas, call: &Call, outcome: &Outcome) {
-        let (fetches, counted) = before;
+    /// A call: what it met before it, fetches if it was answered; the areas are those after it.
+    pub fn count(&mut self, before: Before, areas: &Areas, call: &Call, outcome: &Outcome) {
         if matches!(outcome.said, Said::Ended { .. }) {
-            add(&mut self.fetches, fetches);
+            add(&mut self.fetches, before.fetches);
         }
-        if let Some(counted) = counted {
-            add(&mut self.counts, counted.met(outcome));
+        if let Some(counts) = before.counts {
+            add(&mut self.counts, counts.met(outcome));
+        }
+        if let Some(turns) = before.turns {
+            add(&mut self.turns, turns.met(outcome));
         }
         add(&mut self.cells, cells::met(areas, call, outcome));
         add(&mut self.pages, pages::met(call, outcome));
@@ -42,12 +60,13 @@ impl Reach {
 #[cfg(feature = "library")]
 impl Reach {
     /// A group of counts: what they are of, the names that should be reached, the counts.
-    fn groups(&self) -> [(&'static str, &'static [&'static str], &BTreeMap<&'static str, u64>); 4] {
+    fn groups(&self) -> [(&'static str, &'static [&'static str], &BTreeMap<&'static str, u64>); 5] {
         [
             ("rows whose cell does not count", &cells::ALL, &self.cells),
             ("pages", &pages::ALL, &self.pages),
             ("fetches and tombstones", &fetches::ALL, &self.fetches),
             ("counts", &counts::ALL, &self.counts),
+            ("rows that turn", &turns::ALL, &self.turns),
         ]
     }
 

@@ -1,7 +1,8 @@
 //! One random call of each kind.
 
-use super::pool::secret_of;
+use super::pool::{WRONG_SECRET, secret_of};
 use super::{Generator, VERIFICATIONS};
+use crate::TOMBSTONE_LIMIT;
 use post::{Areas, Bytes, Call, Custody, Kind, NewOwn, Prefix, State, Tag};
 
 const PAGE_ROWS: usize = 19;
@@ -184,6 +185,7 @@ impl Generator {
         } else {
             self.tag(state)
         };
+        let tag = self.tag_to_turn(state, 20).unwrap_or(tag);
         Call::StoredTombstone {
             areas: self.areas(4_096),
             tag,
@@ -204,12 +206,47 @@ impl Generator {
             5 => self.rng.pick_or(&empty, other),
             _ => other,
         };
+        let tag = self.tag_to_turn(state, 40).unwrap_or(tag);
+        let secret = self.secret(state, &tag);
+        let (tag, secret) = self.own_at_the_limit(state).unwrap_or((tag, secret));
+        let wrong = carried.contains(&tag) && self.stays_at_the_limit(state);
         Call::Tomb {
             areas: self.areas(4_096),
             peer: self.peer(state),
             tag,
-            secret: self.secret(state, &tag),
+            secret: if wrong { WRONG_SECRET } else { secret },
         }
+    }
+
+    /// A row that turned now would take the list out of the comparison with the source, and it is to stay there.
+    fn stays_at_the_limit(&self, state: &State) -> bool {
+        self.stays && state.tombstones().count() >= TOMBSTONE_LIMIT
+    }
+
+    /// In such a list half of the tombs are right ones for own rows, where there are any.
+    fn own_at_the_limit(&mut self, state: &State) -> Option<(Tag, [u8; 16])> {
+        if state.own.is_empty() || !self.stays_at_the_limit(state) || self.rng.percent(50) {
+            return None;
+        }
+        let row = &state.own[self.rng.below(state.own.len())];
+        Some((row.tag, row.secret))
+    }
+
+    /// In so many of a hundred calls of a list around 1,024 tombstones, the tag of a carried row; of one that is tombstoned half of the time,
+    /// where there is one.
+    fn tag_to_turn(&mut self, state: &State, percent: usize) -> Option<Tag> {
+        if self.profile != super::Profile::Tombs || !self.rng.percent(percent) {
+            return None;
+        }
+        let carried: Vec<Tag> = state.carried().map(|(_, _, envelope)| envelope.tag).collect();
+        let is_tombstoned = |tag: &&Tag| state.tombstones().any(|row| row.held.tag() == *tag);
+        let both: Vec<Tag> = carried.iter().filter(is_tombstoned).copied().collect();
+        let any = (!carried.is_empty()).then(|| self.rng.pick(&carried))?;
+        Some(if self.rng.percent(50) {
+            self.rng.pick_or(&both, any)
+        } else {
+            any
+        })
     }
 
     fn opened(&mut self, state: &State) -> Call {

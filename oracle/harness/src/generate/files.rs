@@ -65,9 +65,11 @@ impl Generator {
             };
             helds.push(self.carried(*depositor, first + number as u64, end));
         }
+        // Around 1,024 tombstones the lowest slot is a carried row's.
+        let front = usize::from(self.profile == Profile::Tombs && !helds.is_empty());
         for number in 0..tombstones {
             let held = self.tombstone(number as u64, end);
-            let place = self.rng.below(helds.len() + 1);
+            let place = front + self.rng.below(helds.len() + 1 - front);
             helds.insert(place, held);
         }
         let mut tags: Vec<post::Tag> = Vec::new();

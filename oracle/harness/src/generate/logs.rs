@@ -78,16 +78,23 @@ impl Generator {
         let profile = LOG_PROFILES[(seed % LOG_PROFILES.len() as u64) as usize];
         let mut generator = Self::new(seed, profile);
         generator.sizes = Sizes::DRILL;
+        generator.stays = false;
         if profile == Profile::Tombs {
             generator.turn_many();
         }
         generator
     }
 
-    /// Envelopes that are taken and turned at once, until the tombstone rows are about used up.
+    /// Envelopes that are taken and turned at once, until about 1,024 tombstones are there.
     fn turn_many(&mut self) {
         let peer = self.pool.contacts[0];
-        for number in 0..self.rng.between(1_010, 1_024) as u32 {
+        let seconds = self.opening.iter().find_map(|call| match call {
+            Call::Clock { seconds } => Some(*seconds),
+            _ => None,
+        });
+        let minute = (seconds.unwrap_or(0) / 60) as u32;
+        for number in 0..self.rng.between(1_016, 1_036) as u32 {
+            let ends = self.rng.pick(&[61, 62, 63]);
             let mut tag = [0x66; 16];
             tag[..4].copy_from_slice(&number.to_be_bytes());
             let (areas, secret) = (Areas::enough(&Sizes::DRILL), secret_of(&tag));
@@ -98,7 +105,7 @@ impl Generator {
                 envelope: Envelope {
                     tag,
                     commitment: rules::commitment(&secret),
-                    expiry: u32::MAX,
+                    expiry: minute.saturating_add(ends),
                     copies: 3,
                     ciphertext: vec![0; 48].into(),
                 },

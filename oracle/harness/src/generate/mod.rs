@@ -10,11 +10,13 @@ mod profile;
 mod rng;
 mod windows;
 
+pub use pool::secret_of;
 pub use profile::Profile;
 pub use rng::Rng;
 
-use pool::{Pool, secret_of};
-use post::{Areas, Call, FileRecord, Kind, Sizes, State, Verification, WindowRow, encode_file};
+use crate::TOMBSTONE_LIMIT;
+use pool::Pool;
+use post::{Areas, Call, FileRecord, Kind, Sizes, State, Tag, Verification, WindowRow, encode_file};
 use std::collections::VecDeque;
 
 pub struct Generator {
@@ -28,14 +30,14 @@ pub struct Generator {
     opening: VecDeque<Call>,
     made: usize,
     numbered: u64,
+    /// No row turns with 1,024 tombstones there, so that the list stays in the comparison with the source.
+    stays: bool,
 }
 
 /// A full list begins with a load of so many rows of each of its depositors, who are verified, and of so many tombstones.
 const DEPOSITORS: usize = 8;
 const EACH: usize = 31;
 const LOADED_TOMBSTONES: usize = 1020;
-/// As many as a stored tombstone leaves.
-const TOMBSTONES: usize = 1024;
 /// Own rows of a full list, so that its inventory counts more than 255 rows.
 const OWN: usize = 128;
 
@@ -50,6 +52,7 @@ impl Generator {
         let mut rng = Rng::new(seed);
         let sizes = profile.sizes(&mut rng);
         let pool = Pool::new(&mut rng);
+        let stays = profile.fills_tombstones() && rng.percent(30);
         let mut generator = Self {
             rng,
             profile,
@@ -59,6 +62,7 @@ impl Generator {
             opening: VecDeque::new(),
             made: 0,
             numbered: 0,
+            stays,
         };
         generator.open();
         generator
@@ -93,6 +97,17 @@ impl Generator {
         }
     }
 
+    /// Below the limit, at it, above it; as many as there are rows.
+    fn loaded_tombstones(&mut self) -> usize {
+        match self.rng.below(6) {
+            0 => self.rng.between(TOMBSTONE_LIMIT - 9, TOMBSTONE_LIMIT - 1),
+            1 => TOMBSTONE_LIMIT - 1,
+            2 => TOMBSTONE_LIMIT,
+            3..5 => self.rng.between(TOMBSTONE_LIMIT + 1, TOMBSTONE_LIMIT + 6),
+            _ => self.sizes.tombstone_rows,
+        }
+    }
+
     /// Once the contacts stand: many rows at once, by a load, or many own rows.
     fn fill(&mut self, state: &State) {
         let (carried, tombstones, each) = match self.profile {
@@ -101,7 +116,7 @@ impl Generator {
                 2,
                 self.rng.pick(&[31, 32, 32, 15, 16]),
             ),
-            Profile::Tombs => (self.rng.between(5, 20), self.rng.between(1015, 1024), 16),
+            Profile::Tombs => (self.rng.between(5, 20), self.loaded_tombstones(), 16),
             Profile::Slots => (3, 2, 16),
             Profile::Full => (DEPOSITORS * EACH, LOADED_TOMBSTONES, EACH),
             _ => (0, 0, 1),
@@ -109,16 +124,18 @@ impl Generator {
         let room = self.sizes.tombstone_rows;
         if carried > 0 {
             let mut records = self.held_rows(state, carried, tombstones.min(room), each);
-            let near = self.profile == Profile::Slots;
-            let next = if near {
-                u64::MAX - self.rng.below(4) as u64
-            } else {
-                5_000
+            let next = match self.profile {
+                Profile::Slots => u64::MAX - self.rng.below(4) as u64,
+                Profile::Tombs if self.rng.percent(25) => u64::MAX - self.rng.below(9) as u64,
+                _ => 5_000,
             };
             records.insert(0, FileRecord::NextSlot(next));
             self.opening.push_back(Call::Load {
                 file: encode_file(&records),
             });
+            if self.profile == Profile::Tombs && !self.stays && self.rng.percent(90) {
+                self.turn_some(&records);
+            }
         }
         if self.profile == Profile::Full {
             self.fill_up(state);
@@ -128,6 +145,33 @@ impl Generator {
                 let call = self.numbered_own(state);
                 self.opening.push_back(call);
             }
+        }
+    }
+
+    /// After the load of a list around 1,024 tombstones: some of its carried rows turn; of some the tag is tombstoned first.
+    fn turn_some(&mut self, records: &[FileRecord]) {
+        let areas = Areas::enough(&self.sizes);
+        let carried = records.iter().filter_map(|record| match record {
+            FileRecord::Row(b'C', _, blob) => Some(post::array(blob, 9)),
+            _ => None,
+        });
+        let tags: Vec<Tag> = carried.take(self.rng.between(1, 6)).collect();
+        for tag in tags {
+            let secret = secret_of(&tag);
+            if self.rng.percent(40) {
+                self.opening.push_back(Call::StoredTombstone {
+                    areas,
+                    tag,
+                    secret,
+                    expiry: self.rng.pick(&[0, 1, u32::MAX]),
+                });
+            }
+            self.opening.push_back(Call::Tomb {
+                areas,
+                peer: self.pool.contacts[0],
+                tag,
+                secret,
+            });
         }
     }
 
@@ -144,7 +188,7 @@ impl Generator {
                 envelope,
             });
         }
-        for _ in LOADED_TOMBSTONES..=TOMBSTONES {
+        for _ in LOADED_TOMBSTONES..=TOMBSTONE_LIMIT {
             let tag = self.new_tag();
             self.opening.push_back(Call::StoredTombstone {
                 areas,

@@ -1,7 +1,7 @@
 //! The parts of random calls: contacts, tags, secrets, times, ciphertexts, exchanges.
 
 use super::Generator;
-use super::pool::secret_of;
+use super::pool::{WRONG_SECRET, secret_of};
 use post::{Bytes, Envelope, Exchange, State, Tag};
 
 const LENGTHS: [usize; 7] = [48, 80, 144, 272, 528, 1040, 2064];
@@ -82,7 +82,7 @@ impl Generator {
             .collect();
         let carried = state.carried().any(|(_, _, envelope)| envelope.tag == *tag);
         match self.rng.below(10) {
-            0 => [0x99; 16],
+            0 => WRONG_SECRET,
             1..4 => self.rng.pick_or(&own, secret_of(tag)),
             4..7 if carried => self.rng.pick_or(&own, secret_of(tag)),
             _ => secret_of(tag),

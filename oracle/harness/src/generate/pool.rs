@@ -30,6 +30,9 @@ const CONTACTS: [u64; 10] = [5, 6, 7, 0, u64::MAX, 1 << 32, 256, 300, 4, 1 << 63
 pub const INDICES: [u32; 9] = [0, 1, 2, 127, 128, 16_383, 16_384, 2_097_152, u32::MAX];
 pub const GENERATIONS: [u8; 4] = [0, 1, 2, 255];
 
+/// It opens no envelope.
+pub const WRONG_SECRET: [u8; 16] = [0x99; 16];
+
 /// The secret that opens an envelope of this tag, unless a call has it otherwise.
 pub fn secret_of(tag: &Tag) -> [u8; 16] {
     tag.map(|byte| byte ^ 0x77)

@@ -56,6 +56,11 @@ impl Profile {
         all.find(|profile| lower(profile) == name)
     }
 
+    /// Whether lists of it come to 1,024 tombstones.
+    pub fn fills_tombstones(self) -> bool {
+        matches!(self, Self::Tombs | Self::Full)
+    }
+
     /// So many contacts at the front are verified from the start.
     pub fn verified(self) -> usize {
         match self {
@@ -89,7 +94,7 @@ impl Profile {
             },
             Self::Tombs => Sizes {
                 carried_cells: 24,
-                tombstone_rows: rng.pick(&[1022, 1023, 1024, 1024, 1025, 1030, 1100]),
+                tombstone_rows: rng.pick(&[1022, 1023, 1024, 1024, 1025, 1030, 1100, 1280]),
                 ..few
             },
             Self::Files => Sizes {

@@ -1,7 +1,7 @@
 //! Corners of an envelope's custody, of own rows, of the clock.
 
 use super::Corner;
-use crate::compare::pair::Seen;
+use crate::compare::judge::Seen;
 use post::{Answer, Call, Custody, Envelope, Kind, OwnRow, Reply, State, Verification};
 use std::collections::BTreeSet;
 

@@ -1,7 +1,7 @@
 //! Corners of inventories, fetches and custody codes.
 
 use super::Corner;
-use crate::compare::pair::Seen;
+use crate::compare::judge::Seen;
 use post::{Action, Answer, Call, Custody, Envelope, Exchange, Held, Prefix, Reply, State, Tag, WindowRow, array};
 
 fn prefix(tag: &Tag) -> Prefix {

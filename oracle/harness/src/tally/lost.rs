@@ -1,7 +1,8 @@
 //! Corners of request Two: window tags that are tombstoned.
 
 use super::Corner;
-use crate::compare::pair::Seen;
+use crate::TOMBSTONE_LIMIT;
+use crate::compare::judge::Seen;
 use crate::lost::Ending;
 use post::{Answer, Reply, Tag};
 
@@ -51,8 +52,6 @@ fn fetched_beside_a_tombstone(replies: &[Reply]) -> bool {
         _ => false,
     })
 }
-
-const MANY: usize = 1024;
 
 pub const CORNERS: &[Corner] = &[
     ("a fetch is lost: the window tag is tombstoned", |seen| {
@@ -108,7 +107,7 @@ pub const CORNERS: &[Corner] = &[
         })
     }),
     ("a fetch is lost where 1,024 tombstones are", |seen| {
-        lost(seen, |_, _| seen.before.tombstones().count() >= MANY)
+        lost(seen, |_, _| seen.before.tombstones().count() >= TOMBSTONE_LIMIT)
     }),
     ("an envelope is ours though its tag is tombstoned", |seen| {
         let tombstoned = |tag: &Tag| seen.before.tombstones().any(|row| row.held.tag() == tag);

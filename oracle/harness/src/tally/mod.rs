@@ -6,11 +6,13 @@ mod lost;
 mod pages;
 mod rows;
 mod searched;
+mod turned;
 
 pub use lost::CORNERS as LOST_FETCHES;
 pub use searched::CORNERS as COUNTS;
+pub use turned::TURNS;
 
-use crate::compare::pair::Seen;
+use crate::compare::judge::{By, Seen};
 use post::{Action, Answer, Custody, Kind, Reply, said};
 use std::collections::BTreeMap;
 use std::fmt;
@@ -20,6 +22,9 @@ pub type Corner = (&'static str, fn(&Seen) -> bool);
 
 #[derive(Default)]
 pub struct Tally {
+    judged: BTreeMap<By, u64>,
+    /// Calls from where their list left the comparison with the source on. Of these nothing else counts but the corners of request Four and pages.
+    left: BTreeMap<Kind, u64>,
     calls: BTreeMap<Kind, u64>,
     refused: BTreeMap<(Kind, u8), u64>,
     answers: BTreeMap<(Kind, &'static str), u64>,
@@ -73,17 +78,21 @@ fn answer_name(answer: &Answer) -> Option<&'static str> {
     })
 }
 
+/// What the source judges, and pages.
+const OF_THE_SOURCE: [&[Corner]; 6] = [
+    envelopes::CORNERS,
+    exchanges::CORNERS,
+    lost::CORNERS,
+    searched::CORNERS,
+    rows::CORNERS,
+    pages::CORNERS,
+];
+
+/// Request Four's.
+const OF_TURNS: [&[Corner]; 3] = [turned::TURNS, turned::SELDOM, turned::AFTER];
+
 fn all_corners() -> impl Iterator<Item = &'static Corner> {
-    [
-        envelopes::CORNERS,
-        exchanges::CORNERS,
-        lost::CORNERS,
-        searched::CORNERS,
-        rows::CORNERS,
-        pages::CORNERS,
-    ]
-    .into_iter()
-    .flatten()
+    OF_THE_SOURCE.into_iter().chain(OF_TURNS).flatten()
 }
 
 fn add<K: Ord>(counts: &mut BTreeMap<K, u64>, key: K) {
@@ -93,6 +102,14 @@ fn add<K: Ord>(counts: &mut BTreeMap<K, u64>, key: K) {
 impl Tally {
     pub fn count(&mut self, seen: &Seen) {
         let kind = seen.call.kind();
+        add(&mut self.judged, seen.by);
+        self.corners(&OF_TURNS, seen);
+        if matches!(seen.by, By::Leaving | By::Left) {
+            add(&mut self.left, kind);
+        }
+        if seen.by != By::Source && kind.is_in_source() {
+            return;
+        }
         add(&mut self.calls, kind);
         match seen.answer {
             Answer::Refused(number) => add(&mut self.refused, (kind, *number)),
@@ -102,7 +119,11 @@ impl Tally {
             replies.iter().for_each(|reply| self.reply(reply));
             actions.iter().for_each(|action| self.action(action));
         }
-        for (name, met) in all_corners() {
+        self.corners(&OF_THE_SOURCE, seen);
+    }
+
+    fn corners(&mut self, groups: &[&'static [Corner]], seen: &Seen) {
+        for (name, met) in groups.iter().copied().flatten() {
             if met(seen) {
                 add(&mut self.corners, name);
             }
@@ -131,10 +152,9 @@ impl Tally {
         add(&mut self.actions, name);
     }
 
-    /// The calls of which the source has none: the second and the third statement judged them.
-    pub fn not_in_source(&self) -> u64 {
-        let calls = self.calls.iter().filter(|(kind, _)| !kind.is_in_source());
-        calls.map(|(_, count)| count).sum()
+    /// How many calls this judge had.
+    pub fn judged(&self, by: By) -> u64 {
+        self.judged.get(&by).copied().unwrap_or_default()
     }
 
     /// What a whole run should have reached and did not.
@@ -152,6 +172,10 @@ impl Tally {
                     format!("{kind:?} refused {number}"),
                 );
             }
+            need(
+                self.left.contains_key(&kind),
+                format!("{kind:?} in a list that has left"),
+            );
             for answer in answers(kind) {
                 need(
                     self.answers.contains_key(&(kind, answer)),
@@ -192,6 +216,11 @@ fn listed<K: fmt::Debug>(counts: &BTreeMap<K, u64>) -> String {
 impl fmt::Display for Tally {
     fn fmt(&self, out: &mut fmt::Formatter<'_>) -> fmt::Result {
         writeln!(out, "reached, calls: {}", listed(&self.calls))?;
+        writeln!(
+            out,
+            "reached, calls from where their list left on: {}",
+            listed(&self.left)
+        )?;
         for number in 1..=said::LAST_REFUSAL {
             writeln!(out, "reached, refused {number}: {}", self.refusal_line(number))?;
         }

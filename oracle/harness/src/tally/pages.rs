@@ -1,7 +1,7 @@
 //! Corners of the screen page.
 
 use super::Corner;
-use crate::compare::pair::Seen;
+use crate::compare::judge::Seen;
 use post::{Answer, Call, Screen};
 
 const LINE: usize = 81;

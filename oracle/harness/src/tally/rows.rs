@@ -1,11 +1,11 @@
 //! Corners of tombs, tombstones, maintenance, files and the window call.
 
 use super::Corner;
-use crate::compare::pair::Seen;
+use crate::TOMBSTONE_LIMIT;
+use crate::compare::judge::Seen;
 use post::{Action, Answer, Call, ChainRow, Held, Kind, Reply, State, Tag};
 
 const CARRIED: usize = 256;
-const TOMBSTONES: usize = 1024;
 
 fn actions<'a>(seen: &'a Seen, kind: Kind) -> &'a [Action] {
     match seen.answer {
@@ -67,13 +67,16 @@ fn least_goes(seen: &Seen) -> bool {
         Answer::Done { actions, .. } => matches!(actions[..], [Action::Delete { slot }, _] if least.contains(&slot)),
         _ => false,
     };
-    stored(seen, 2) && goes && least.len() < TOMBSTONES && [seen.before, seen.after].map(tombstones) == [TOMBSTONES; 2]
+    stored(seen, 2)
+        && goes
+        && least.len() < TOMBSTONE_LIMIT
+        && [seen.before, seen.after].map(tombstones) == [TOMBSTONE_LIMIT; 2]
 }
 
 /// All that a post can hold, but for own rows: 256 carried rows and 1,024 tombstones.
 pub fn full(state: &State) -> bool {
     let carried = state.carried().count();
-    carried == CARRIED && state.held.len() == CARRIED + TOMBSTONES
+    carried == CARRIED && state.held.len() == CARRIED + TOMBSTONE_LIMIT
 }
 
 /// The kinds of the rows that maintenance deleted, in its order: carried or not.
@@ -116,9 +119,6 @@ fn no_copies(state: &State) -> bool {
 
 pub const CORNERS: &[Corner] = &[
     ("a carried row turns", turned),
-    ("a carried row turns with 1,024 tombstones or more there", |seen| {
-        turned(seen) && tombstones(seen.before) >= TOMBSTONES
-    }),
     ("a carried row turns with the last slot used", |seen| {
         turned(seen) && seen.before.next_slot == u64::MAX
     }),
@@ -149,13 +149,13 @@ pub const CORNERS: &[Corner] = &[
         ended(seen) && actions(seen, Kind::Tomb).len() == 3
     }),
     ("a stored tombstone deletes one at 1,024", |seen| {
-        stored(seen, 2) && tombstones(seen.before) == TOMBSTONES
+        stored(seen, 2) && tombstones(seen.before) == TOMBSTONE_LIMIT
     }),
     ("a stored tombstone deletes one above 1,024", |seen| {
-        stored(seen, 2) && tombstones(seen.before) > TOMBSTONES
+        stored(seen, 2) && tombstones(seen.before) > TOMBSTONE_LIMIT
     }),
     ("a stored tombstone deletes none at 1,023", |seen| {
-        stored(seen, 1) && tombstones(seen.before) == TOMBSTONES - 1
+        stored(seen, 1) && tombstones(seen.before) == TOMBSTONE_LIMIT - 1
     }),
     ("the deleted tombstone has equals in expiry", |seen| {
         stored(seen, 2) && of_least_expiry(seen.before).len() > 1
@@ -169,7 +169,7 @@ pub const CORNERS: &[Corner] = &[
         full(seen.before) && carried_offers(seen) > CARRIED / 2
     }),
     ("nothing is stored at 1,024, the tag has a tombstone", |seen| {
-        stored(seen, 0) && tombstones(seen.before) >= TOMBSTONES
+        stored(seen, 0) && tombstones(seen.before) >= TOMBSTONE_LIMIT
     }),
     ("a carried tag is tombstoned", |seen| {
         let tag = match seen.call {

@@ -1,7 +1,8 @@
 //! Corners of request Three: the count at the end of an inventory.
 
 use super::Corner;
-use crate::compare::pair::Seen;
+use crate::TOMBSTONE_LIMIT;
+use crate::compare::judge::Seen;
 use post::{Answer, Call, Prefix, Reply, State, Tag};
 
 /// An own or a carried row that may be offered.
@@ -119,7 +120,6 @@ fn uncounted(seen: &Seen, malformed: bool) -> bool {
     Met::of(seen).is_some_and(|met| is_so(&met) && met.counts(|_| true))
 }
 
-const MANY: usize = 1024;
 const ONE_BYTE: usize = 255;
 
 pub const CORNERS: &[Corner] = &[
@@ -196,7 +196,9 @@ pub const CORNERS: &[Corner] = &[
         ended(seen, |met| met.counts(|row| met.has_past_tombstone(&row.tag)))
     }),
     ("a count where 1,024 tombstones are", |seen| {
-        ended(seen, |met| met.searched > 0 && met.state.tombstones().count() >= MANY)
+        ended(seen, |met| {
+            met.searched > 0 && met.state.tombstones().count() >= TOMBSTONE_LIMIT
+        })
     }),
     ("a count above 255", |seen| ended(seen, |met| met.searched > ONE_BYTE)),
     ("a list that is gathered counts 0 though rows are held", |seen| {

@@ -198,6 +198,46 @@ fn every_call_answers_on_any_bytes() {
     );
 }
 
+/// Any bytes with 256 own rows, so many rows for tombstones, and so many of these if a number is said; the secret of
+/// the first carried row, which has tag 1, is known.
+fn turning(noise: &mut Noise, rows: usize, said: Option<u64>) -> Post {
+    let mut areas = noise.areas();
+    areas.device[20..28].copy_from_slice(&256_u64.to_be_bytes());
+    if let Some(said) = said {
+        areas.device[36..44].copy_from_slice(&said.to_be_bytes());
+    }
+    areas.tombstones = noise.bytes(44 * rows + 7);
+    areas.carried[16..32].copy_from_slice(&tag(1).0);
+    areas.carried[32..48].copy_from_slice(&COMMITMENT.0);
+    Post::over(areas).unwrap()
+}
+
+/// Is a call refused by 5?
+fn meets_5<T>(answer: Result<T, Refusal>) -> bool {
+    matches!(answer, Err(Refusal::NoTombstoneRow))
+}
+
+#[test]
+fn in_1024_rows_of_any_bytes_a_row_turns_and_no_tombstone_meets_5() {
+    let mut noise = Noise(9);
+    for rows in [1024, 1025, 1100] {
+        for said in [None; 10].into_iter().chain([Some(1023)]) {
+            let mut post = turning(&mut noise, rows, said);
+            let before = post.counts().tombstones;
+            let turned = tomb(&mut post, tag(1), SECRET).unwrap();
+            let goes = usize::from(before >= 1024);
+            assert_eq!(turned.len(), 1 + goes);
+            assert_eq!(post.counts().tombstones, before + 1 - goes);
+            let own = post.own_rows().next().map(|row| (row.tag, row.secret));
+            let (own, secret) = own.expect("an own row");
+            let ended = post.tomb(VERIFIED, own, secret);
+            assert!(matches!(ended, Ok(Record::Taken(_))), "{ended:?}");
+            assert!(!meets_5(post.opened(VERIFIED, tag(3), SECRET, 90)));
+            assert!(!meets_5(post.stored_tombstone(tag(4), SECRET, 90)));
+        }
+    }
+}
+
 /// Areas of one cell more than count, with an own row and a carried row that name these cells; and the own row's tag.
 fn naming(own: u16, carried: u16) -> (Areas, Tag) {
     let most = Sizes {

@@ -2,13 +2,6 @@
 
 use super::*;
 
-fn tomb(post: &mut Post, tag: Tag, secret: Secret) -> Option<Vec<Action>> {
-    match post.tomb(VERIFIED, tag, secret).unwrap() {
-        Record::Taken(actions) => Some(actions.collect()),
-        Record::Malformed => None,
-    }
-}
-
 #[test]
 fn a_tomb_with_the_right_secret_turns_the_carried_row() {
     let mut post = post();
@@ -115,42 +108,6 @@ fn failed_makes_a_tag_bad_until_no_row_is_left() {
     assert_eq!(refused(&mut post, |post| post.failed(VERIFIED, tag(2))), 9);
     post.failed(UNVERIFIED, tag(1)).unwrap();
     assert_eq!(refused(&mut post, |post| post.failed(STRANGER, tag(2))), 2);
-}
-
-#[test]
-fn at_1024_a_stored_tombstone_deletes_the_one_of_least_expiry() {
-    let mut post = sized(Sizes {
-        tombstone_rows: 1025,
-        ..SIZES
-    });
-    let numbered = |n: u32| {
-        let mut tag = tag(0);
-        tag.0[..4].copy_from_slice(&n.to_be_bytes());
-        tag
-    };
-    let slot = carry(&mut post, VERIFIED, envelope(1, 4));
-    for n in 0..1024 {
-        let expiry = if n == 600 || n == 700 { 40 } else { 50 };
-        let actions = post.stored_tombstone(numbered(n), SECRET, expiry).unwrap();
-        assert_eq!(listed(actions), [Action::Put(Slot(u64::from(n) + 1))]);
-    }
-    let again = post.stored_tombstone(numbered(5), SECRET, 99).unwrap();
-    assert_eq!(listed(again), [], "the tag has one");
-    let actions = post.stored_tombstone(numbered(1024), SECRET, 50).unwrap();
-    assert_eq!(
-        listed(actions),
-        [Action::Delete(Slot(601)), Action::Put(Slot(1025))]
-    );
-    assert_eq!(post.counts().tombstones, 1024);
-    assert_eq!(
-        tomb(&mut post, tag(1), SECRET),
-        Some(vec![Action::Put(slot)])
-    );
-    assert_eq!(
-        post.counts().tombstones,
-        1025,
-        "a turned row passes no limit"
-    );
 }
 
 /// How many tombstones a carried tag has after a call.

@@ -11,6 +11,7 @@ mod exchanges;
 mod files;
 mod keys;
 mod later;
+mod limit;
 mod own;
 mod pages;
 mod restart;
@@ -126,6 +127,14 @@ fn carry(post: &mut Post, peer: ContactId, envelope: Envelope<'_>) -> Slot {
             other => panic!("{other:?}"),
         },
         other => panic!("{other:?}"),
+    }
+}
+
+/// What a tomb from the verified contact does; none if it is malformed.
+fn tomb(post: &mut Post, tag: Tag, secret: Secret) -> Option<Vec<Action>> {
+    match post.tomb(VERIFIED, tag, secret).unwrap() {
+        Record::Taken(actions) => Some(actions.collect()),
+        Record::Malformed => None,
     }
 }
 
