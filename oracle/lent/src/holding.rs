@@ -1,8 +1,9 @@
 //! A state written into fresh areas, all of it: rows in their order, ciphertexts in the first cells.
 
+use crate::saved::Laid;
 use crate::state::Change;
-use crate::{Areas, BadTag, Carried, ContactRow, Offer, Own, Tombstone};
-use post::{Exchange, Held, OwnRow, Sizes, State, Verification};
+use crate::{Areas, BadTag, ContactRow, Offer, Own};
+use post::{Exchange, OwnRow, Sizes, State, Verification};
 
 /// A call that has no exchange.
 const NO_SESSION: usize = usize::MAX;
@@ -29,41 +30,6 @@ fn own_row(cell: u16, row: &OwnRow) -> Own {
     }
 }
 
-/// The held rows, each kind by slot, and what the cells of the carried ones have.
-fn held_rows(state: &State) -> Change {
-    let (mut carried, mut tombstones, mut cells) = (Vec::new(), Vec::new(), Vec::new());
-    for row in &state.held {
-        let (slot, cell) = (row.slot, carried.len() as u16);
-        match &row.held {
-            Held::Carried { depositor, envelope } => {
-                carried.push(Carried {
-                    slot,
-                    depositor: *depositor,
-                    tag: envelope.tag,
-                    commitment: envelope.commitment,
-                    expiry: envelope.expiry,
-                    copies: envelope.copies,
-                    len: envelope.ciphertext.len() as u16,
-                    cell,
-                });
-                cells.push((cell, envelope.ciphertext.to_vec()));
-            }
-            Held::Tombstone { tag, secret, expiry } => tombstones.push(Tombstone {
-                slot,
-                tag: *tag,
-                secret: *secret,
-                expiry: *expiry,
-            }),
-        }
-    }
-    Change {
-        carried: Some(carried),
-        tombstones: Some(tombstones),
-        carried_cell: cells,
-        ..Change::default()
-    }
-}
-
 /// An exchange.
 fn session(exchange: &Exchange) -> Change {
     let offer = |(tag, copies): (&post::Tag, &u8)| Offer {
@@ -87,6 +53,7 @@ impl Areas {
             verification: verification(contact.verification),
         };
         let bad = |(peer, tag): &(u64, post::Tag)| BadTag { peer: *peer, tag: *tag };
+        let held = state.held.iter().map(|row| (row.slot, row.held.clone()));
         let change = Change {
             clock: Some(state.clock),
             setting: Some(state.setting),
@@ -94,7 +61,7 @@ impl Areas {
             own: Some((0..).zip(&state.own).map(|(cell, row)| own_row(cell, row)).collect()),
             bad_tags: Some(state.bad.iter().map(bad).collect()),
             next_slot: Some(state.next_slot),
-            ..held_rows(state)
+            ..Laid::of(held).change()
         };
         areas.store(NO_SESSION, &change);
         for (cell, row) in (0..).zip(&state.own) {

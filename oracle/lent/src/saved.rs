@@ -9,6 +9,56 @@ use std::collections::BTreeSet;
 
 const HEAD: usize = 46;
 
+/// Held rows in their order, each kind by itself, and the ciphertexts of the carried ones in the first cells.
+#[derive(Default)]
+pub(crate) struct Laid {
+    carried: Vec<Carried>,
+    tombstones: Vec<Tombstone>,
+    cells: Vec<(u16, Vec<u8>)>,
+}
+
+impl Laid {
+    pub(crate) fn of(rows: impl IntoIterator<Item = (u64, Held)>) -> Self {
+        let mut laid = Self::default();
+        for (slot, held) in rows {
+            match held {
+                Held::Carried { depositor, envelope } => laid.carry(slot, depositor, envelope),
+                Held::Tombstone { tag, secret, expiry } => laid.tombstones.push(Tombstone {
+                    slot,
+                    tag,
+                    secret,
+                    expiry,
+                }),
+            }
+        }
+        laid
+    }
+
+    fn carry(&mut self, slot: u64, depositor: u64, envelope: Envelope) {
+        let cell = self.carried.len() as u16;
+        self.carried.push(Carried {
+            slot,
+            depositor,
+            tag: envelope.tag,
+            commitment: envelope.commitment,
+            expiry: envelope.expiry,
+            copies: envelope.copies,
+            len: envelope.ciphertext.len() as u16,
+            cell,
+        });
+        self.cells.push((cell, envelope.ciphertext.0));
+    }
+
+    pub(crate) fn change(self) -> Change {
+        Change {
+            carried: Some(self.carried),
+            tombstones: Some(self.tombstones),
+            carried_cell: self.cells,
+            ..Change::default()
+        }
+    }
+}
+
 pub fn read(blob: &[u8]) -> Option<Held> {
     match blob.first()? {
         0 if blob.len() >= HEAD => {
@@ -123,45 +173,18 @@ impl State<'_> {
         let Some((next, rows)) = self.readable(file) else {
             return refused(8);
         };
-        let (mut carried, mut tombstones, mut cells) = (Vec::new(), Vec::new(), Vec::new());
-        for (slot, held) in rows {
-            match held {
-                Held::Carried { depositor, envelope } => {
-                    let cell = carried.len() as u16;
-                    carried.push(Carried {
-                        slot,
-                        depositor,
-                        tag: envelope.tag,
-                        commitment: envelope.commitment,
-                        expiry: envelope.expiry,
-                        copies: envelope.copies,
-                        len: envelope.ciphertext.len() as u16,
-                        cell,
-                    });
-                    cells.push((cell, envelope.ciphertext.0));
-                }
-                Held::Tombstone { tag, secret, expiry } => tombstones.push(Tombstone {
-                    slot,
-                    tag,
-                    secret,
-                    expiry,
-                }),
-            }
-        }
-        if carried.len() > cell_count(self.carried_cells) {
+        let mut laid = Laid::of(rows);
+        if laid.carried.len() > cell_count(self.carried_cells) {
             return refused(4);
         }
-        if tombstones.len() > self.tombstone_rows {
+        if laid.tombstones.len() > self.tombstone_rows {
             return refused(5);
         }
-        carried.sort_by_key(|row| row.slot);
-        tombstones.sort_by_key(|row| row.slot);
+        laid.carried.sort_by_key(|row| row.slot);
+        laid.tombstones.sort_by_key(|row| row.slot);
         let change = Change {
-            carried: Some(carried),
-            tombstones: Some(tombstones),
-            carried_cell: cells,
             next_slot: Some(next),
-            ..Change::default()
+            ..laid.change()
         };
         (Outcome::only(Said::Done), change)
     }

@@ -227,21 +227,15 @@ fn nothing_goes() -> Outcome {
     }
     let (peer, tag, secret) = (STRANGER, tag(1), SECRET);
     let mut areas = bench.areas;
-    let stranger = Call::Tomb {
+    let stranger = |areas| Call::Tomb {
         areas,
         peer,
         tag,
         secret,
     };
-    same(bench.refusal(stranger), Some(2))?;
+    same(bench.refusal(stranger(areas)), Some(2))?;
     areas.actions -= 1;
-    let short = Call::Tomb {
-        areas,
-        peer,
-        tag,
-        secret,
-    };
-    same(bench.refusal(short), Some(1))?;
+    same(bench.refusal(stranger(areas)), Some(1))?;
     holds(bench.state() == before, "nothing changes")
 }
 
