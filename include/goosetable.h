@@ -597,12 +597,12 @@ goosetable_answer goosetable_page(
 
 /*
  * Replaces the held rows and the next slot by those of a saved file, nothing else. 8: mark (its kind too), length or place of HN wrong, blob
- * refused, slot twice or not below next slot, carried tag twice, unknown depositor, over 256 carried or 32 for one. A carried row with copies 0
- * is saved, and its blob is refused. Rows may stand in any order, but where slots do not rise along the file the time grows with the square of the
- * number of rows (1,024 tombstones: about a hundred times as long). Of areas that calls left, goosetable_save writes no file whose slots do not rise.
+ * refused (one of which goosetable_row_read says kind 0), slot twice or not below next slot, carried tag twice, unknown depositor, over 256 carried
+ * or 32 for one. Rows may stand in any order, but where slots do not rise along the file the time grows with the square of the number of rows
+ * (1,024 tombstones: about a hundred times as long). Of areas that calls left, goosetable_save writes no file whose slots do not rise.
  * Writes: device, carried, tombstones, carried_cells.
  * Refused by: 8, 4, 5.
- * Stack: 6,588 bytes.
+ * Stack: 6,584 bytes.
  */
 goosetable_answer goosetable_load(
     uint8_t device[GOOSETABLE_DEVICE_SIZE],
@@ -670,20 +670,22 @@ void goosetable_commitment(const uint8_t s[GOOSETABLE_TAG_SIZE], uint8_t c[GOOSE
 
 /*
  * The held row that a blob is of; kind 0 if it is of none. The blob of a carried row: 0 (1 byte), depositor 8, tag 16, commitment 16, expiry 4,
- * copies 1, and from GOOSETABLE_CARRIED_HEAD on the ciphertext; of a tombstone: 1 (1 byte), tag 16, secret 16, expiry 4.
+ * copies 1, and from GOOSETABLE_CARRIED_HEAD on the ciphertext; of a tombstone: 1 (1 byte), tag 16, secret 16, expiry 4. A carried row's ciphertext
+ * has 48, 80, 144, 272, 528, 1,040 or 2,064 bytes, and its expiry is above 0: where the lifetime at the start was, as that of goosetable_fresh is,
+ * every row that calls left is so, and reads back. Its copies are any number, 0 where all were handed on. A tombstone's expiry is any number, 0 too.
  * Writes: nothing.
  * Refused by: nothing.
- * Stack: 156 bytes.
+ * Stack: 152 bytes.
  */
 goosetable_row goosetable_row_read(const uint8_t *blob, size_t blob_len);
 
 /* ---- the version */
 
 /* Of header and library alike. The first two numbers change whenever a struct, a size, what a number means or a function's parameters do. */
-#define GOOSETABLE_VERSION "0.2.4"
+#define GOOSETABLE_VERSION "0.2.5"
 #define GOOSETABLE_VERSION_MAJOR 0
 #define GOOSETABLE_VERSION_MINOR 2
-#define GOOSETABLE_VERSION_PATCH 4
+#define GOOSETABLE_VERSION_PATCH 5
 
 /*
  * The version of the library: major * 10,000 + minor * 100 + patch. Its name has the first two numbers.

@@ -7,7 +7,7 @@ source "$oracle/source.sh"
 export CARGO_NET_OFFLINE=true
 
 # What crates/replay/stdin was made of.
-sample_seeds=101,1126,583,2028,2312,2371,2624,3069,4560 sample_calls=300
+sample_seeds=110,1126,583,2028,2312,2371,3335,3069,4560 sample_calls=300
 
 # $1: "pass over" where a run without the source is passed over, unless it is the gate's.
 find_source() {

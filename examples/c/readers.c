@@ -1,7 +1,8 @@
 /*
  * Tests of the header's readers on what calls left: each value beside the one that the calls were given, or that the call itself says; of tags,
- * secrets and commitments; of screen pages; of how a window is made; of how many rows an inventory's end searches the tombstones for; and of which
- * tombstone goes for another. It prints how many were compared, or the first that differs.
+ * secrets and commitments; of screen pages; of how a window is made; of how many rows an inventory's end searches the tombstones for; of which
+ * tombstone goes for another; and of a row whose copies were all handed on, which is saved and read back. It prints how many were compared, or the
+ * first that differs.
  */
 #include "post.h"
 
@@ -470,6 +471,80 @@ static void turn(void)
     is("the last tombstone", goosetable_tombstone_slot(post.tombstones + TOMBSTONES_LEN - GOOSETABLE_TOMBSTONE_ROW), slot);
 }
 
+/* Both contacts are offered one of a row's 2 copies before the first of them answers: none is left. */
+static void hand_on(const uint8_t *tag)
+{
+    struct exchange other;
+    exchange_open(&other);
+    said("fresh exchange", post_fresh_exchange(&post, &exchange, PEER), GOOSETABLE_DONE);
+    said("another", post_fresh_exchange(&post, &other, OTHER), GOOSETABLE_DONE);
+    said("the terminator", post_inventory(&post, &exchange, PEER, tag, 0), GOOSETABLE_DONE);
+    said("the other's", post_inventory(&post, &other, OTHER, tag, 0), GOOSETABLE_DONE);
+    said("a code", post_custody_code(&post, &exchange, PEER, tag, GOOSETABLE_CUSTODY_ACCEPTED), GOOSETABLE_DONE);
+    is("a copy left", goosetable_carried_copies(post.carried), 1);
+    said("another", post_custody_code(&post, &other, OTHER, tag, GOOSETABLE_CUSTODY_ACCEPTED), GOOSETABLE_DONE);
+    is("none left", goosetable_carried_copies(post.carried), 0);
+    exchange_close(&other);
+}
+
+/* The row's blob is read; with an expiry of 0 it would not be. */
+static void read_blob(uint64_t slot)
+{
+    uint8_t *blob = area(GOOSETABLE_BLOB_SIZE);
+    goosetable_answer a = post_row_blob(&post, slot, blob);
+    goosetable_row row = goosetable_row_read(blob, a.length);
+    is("a carried row", row.kind, GOOSETABLE_KIND_CARRIED);
+    is("of no copies", row.copies, 0);
+    are("of the tag", row.tag, tags[2], GOOSETABLE_TAG_SIZE);
+    are("its ciphertext", blob + GOOSETABLE_CARRIED_HEAD, carried_ct, 144);
+    memset(blob + GOOSETABLE_CARRIED_HEAD - 5, 0, 4);
+    is("no row", goosetable_row_read(blob, a.length).kind, GOOSETABLE_KIND_NONE);
+    free(blob);
+}
+
+/* A post that is started with the contacts and the saved file holds what was saved: its own file is the same. */
+static void start_again(const uint8_t *file, size_t length)
+{
+    uint8_t *again = area(GOOSETABLE_FILE_SIZE(CELLS, TOMBSTONES));
+    struct post started;
+    goosetable_answer a;
+    post_open(&started, "started", 0);
+    said("a contact", goosetable_contact(started.device, PEER, GOOSETABLE_VERIFIED, started.contacts), GOOSETABLE_DONE);
+    said("load", post_load(&started, file, length), GOOSETABLE_DONE);
+    is("next slot", goosetable_device_next_slot(started.device), goosetable_device_next_slot(post.device));
+    is("tombstones", goosetable_device_tombstones(started.device, TOMBSTONES_LEN), TOMBSTONES);
+    is("carried rows", goosetable_device_carried(started.device), 1);
+    are("the row", started.carried, post.carried, GOOSETABLE_CARRIED_ROW);
+    are("its ciphertext", started.carried_cells, carried_ct, 144);
+    a = post_save(&started, again);
+    said("save", a, GOOSETABLE_DONE);
+    is("bytes", a.length, length);
+    are("the file", again, file, length);
+    post_close(&started);
+    free(again);
+}
+
+/* A row hands on all of its copies, is saved, and is read back. An envelope of 0 copies that comes in is Invalid all the same. */
+static void restart(void)
+{
+    uint64_t slot = goosetable_device_next_slot(post.device);
+    uint8_t *file = area(GOOSETABLE_FILE_SIZE(CELLS, TOMBSTONES));
+    struct envelope e = envelope(tags[2], 144);
+    goosetable_answer a;
+    e.header[36] = 0;
+    said("no copies", post_envelope(&post, PEER, &e), GOOSETABLE_DONE);
+    is("it is", goosetable_body_code(goosetable_reply_body(post.replies, 0)), GOOSETABLE_CUSTODY_INVALID);
+    e.header[36] = 2;
+    said("two copies", post_envelope(&post, PEER, &e), GOOSETABLE_DONE);
+    is("it is", goosetable_body_code(goosetable_reply_body(post.replies, 0)), GOOSETABLE_CUSTODY_ACCEPTED);
+    hand_on(tags[2]);
+    read_blob(slot);
+    a = post_save(&post, file);
+    said("save", a, GOOSETABLE_DONE);
+    start_again(file, a.length);
+    free(file);
+}
+
 /* Counts and cells that no call left: what fits is read. */
 static void spoil(void)
 {
@@ -527,6 +602,7 @@ int main(void)
     renew();
     read_pages(0);
     turn();
+    restart();
     spoil();
     read_pages(GOOSETABLE_MAX_ROWS + TOMBSTONES);
     exchange_close(&exchange);

@@ -10,12 +10,11 @@ use lib.ListN.{length, take, drop}
 use borrow.Author.Tests.{le-ltb}
 use Rattle.octets.specs.Bytes.{splice, be}
 use Rattle.courier.specs.declared.Header.{Header}
-use Rattle.courier.specs.Courier.{header_bytes, envelope_valid}
-use Rattle.courier.proofs.Laws.{valid_parts}
+use Rattle.courier.specs.Courier.{header_bytes}
 use Rattle.state.specs.declared.Carried.{Carried}
-use Rattle.state.specs.Held.{carried, carried_head, held_row, row_answered, row_area, held_decode}
+use Rattle.state.specs.Held.{carried, carried_head, held_row, row_answered, row_area, reads_back, held_decode}
 use Rattle.state.proofs.RowLaws.{row_answered_lem}
-use Rattle.state.proofs.HeldLaws.{ProperCarried, length_row, carried_refused}
+use Rattle.state.proofs.HeldLaws.{reads_back_parts, ProperCarried, length_row, carried_refused}
 
 regroup : (a b c d e f g h : List ℕ) → a ++ b ++ (c ++ d ++ e ++ f) ++ g ++ h ≡ a ++ b ++ c ++ d ++ e ++ f ++ g ++ h
 regroup a b c d e f g h = simp append_assoc
@@ -36,11 +35,10 @@ written r ct area p e h =
           ∙ regroup (0 ∷ []) (be 8 r.depositor.0) head.tag head.c (be 4 head.expiry_min) (0 ∷ []) (take 2064 ct) (drop (46 + length (take 2064 ct)) area)),
     )
 
-pub only_above_0 : (r : Carried) (ct : List ℕ) → ProperCarried r → held_decode (held_row (carried r ct)) ≡ Some (carried r ct)
-    → (0 < r.header.copies) × (0 < r.header.expiry_min)
-only_above_0 r ct p e = go (envelope_valid (length (take 2064 ct)) r.header.copies r.header.expiry_min 0) refl
+-- what is read back has an expiry above 0
+pub only_above_0 : (r : Carried) (ct : List ℕ) → ProperCarried r → held_decode (held_row (carried r ct)) ≡ Some (carried r ct) → 0 < r.header.expiry_min
+only_above_0 r ct p e = go (reads_back (length (take 2064 ct)) r.header.expiry_min) refl
   where
-    go : (b : Bool) → envelope_valid (length (take 2064 ct)) r.header.copies r.header.expiry_min 0 ≡ b
-        → (0 < r.header.copies) × (0 < r.header.expiry_min)
-    go true t = let v = valid_parts (length (take 2064 ct)) r.header.copies r.header.expiry_min 0 t in (v.1, v.2)
+    go : (b : Bool) → reads_back (length (take 2064 ct)) r.header.expiry_min ≡ b → 0 < r.header.expiry_min
+    go true t = (reads_back_parts (length (take 2064 ct)) r.header.expiry_min t).1
     go false t = let n = carried_refused r p ct t in cc

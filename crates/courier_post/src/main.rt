@@ -1,4 +1,5 @@
-// Document 01's unmarked corners of couriering.rs, put to a small post: a short line for each row or answer.
+// Document 01's unmarked corners of couriering.rs, put to a small post, and a post that is saved and started again: a short line for each row
+// or answer.
 #![tactic(auto)]
 
 use std::io;
@@ -8,6 +9,7 @@ mod expired; // rows that have expired
 mod lines; // what is written
 mod listed; // what lists and fetches are answered with
 mod post; // the post, and the calls
+mod restart; // a post that is started again
 mod time; // minute, lifetime end, what is accepted
 
 fn main(rt: HostRuntime) -> io::Result<()> {
@@ -22,5 +24,6 @@ fn main(rt: HostRuntime) -> io::Result<()> {
     listed::tombstoned(&rt)?;
     expired::expired(&rt)?;
     ended::tombs(&rt)?;
-    ended::maintenance(&rt)
+    ended::maintenance(&rt)?;
+    restart::restart(&rt)
 }

@@ -2,7 +2,7 @@
 use crate::lines;
 use crate::lines::first_rows;
 use chain::Dir;
-use courier::Header;
+use courier::{Custody, Header};
 use courier_core::{ContactId, Refusal, Verification};
 use envelope::Answer;
 use rows::{
@@ -10,7 +10,7 @@ use rows::{
     Exchange, LISTED_ACTIONS, MAX_CARRIED, OFFER_AREA, OWN_AREA, OWN_WIDTH, PREFIX_AREA,
     REPLY_AREA, Reply, Row, TOMBSTONE_WIDTH,
 };
-use state::CELL;
+use state::{BLOB, CELL, FILE_HEAD, RECORD_HEAD, TOMBSTONE_ROW};
 use std::io;
 
 // The seconds of a minute. (A number of the program's own: what crate contacts divides by is what is tried.)
@@ -37,6 +37,11 @@ const CARRIED_CELL_AREA: usize = CARRIED_CELLS * CELL;
 // The bytes of an action area for so many tombstones.
 const ACTION_AREA: usize = ACTION_WIDTH * (LISTED_ACTIONS + TOMBSTONES);
 
+// The bytes of a saved file of so many cells and tombstones, all used.
+pub const FILE_AREA: usize = FILE_HEAD
+    + CARRIED_CELLS * (RECORD_HEAD + BLOB)
+    + TOMBSTONES * (RECORD_HEAD + TOMBSTONE_ROW);
+
 // The device, which a call that changes it is lent and one that only reads takes by value, and the areas that the calls are lent.
 // (Its own struct: the posts of replay_calls, the drill and screen_page have areas of other sizes, and one for all would have a parameter for each size.)
 #[derive(Default, Drop)]
@@ -51,12 +56,23 @@ pub struct Post {
     pub carried_cells: [u8; CARRIED_CELL_AREA],
 }
 
+// An exchange with a peer, with the areas of what it lists and of what it is offered.
+#[derive(Drop)]
+pub struct Link {
+    pub peer: ContactId,
+    pub exchange: Exchange,
+    pub prefixes: [u8; PREFIX_AREA],
+    pub offers: [u8; OFFER_AREA],
+}
+
 // ---- tags, secrets, headers
 
 const ROUTE_KEY: [u8; 32] = [0x5A; 32];
 
-// The ciphertext of every envelope: the shortest that a courier carries.
-const CIPHERTEXT: [u8; 48] = [0; 48];
+// The ciphertext of an envelope, the shortest that a courier carries. One that a peer sends has the first byte of its tag.
+fn ciphertext(b: u8) -> [u8; 48] {
+    [b; 48]
+}
 
 // The contact that lists prefixes, and the one that a tomb comes from.
 const LISTER: ContactId = ContactId(5);
@@ -138,7 +154,7 @@ impl Post {
 
     // An own envelope for a contact.
     pub fn own_envelope(mut self, id: u64, msgno: u32) -> Post {
-        let ct = CIPHERTEXT;
+        let ct = ciphertext(0);
         let _ = own_envelope::own_envelope(
             &mut self.device,
             ContactId(id),
@@ -199,7 +215,7 @@ impl Post {
             &mut self.device,
             ContactId(peer),
             head,
-            &CIPHERTEXT,
+            &ciphertext(head.tag[0]),
             b"",
             &self.contacts,
             &self.own,
@@ -329,44 +345,50 @@ impl Post {
         }
     }
 
-    // A fresh exchange with contact 5, in which it lists prefixes and then none. (Three locals and no struct of them, as replay_calls has for its exchanges,
-    // which stay from call to call: these are of one call, and `fresh_exchange` and `receive_inventory` take them one by one.)
+    // A fresh exchange with contact 5, in which it lists prefixes and then none.
     pub fn listed(&self, rt: &impl Print, window: &[u8], list: &[u8]) -> io::Result<()> {
+        let mut link = self.open(rt, LISTER)?;
+        self.receive(rt, &mut link, window, list)?;
+        self.receive(rt, &mut link, window, b"")?;
+        println!(rt; "offered {}", link.exchange.offered)
+    }
+
+    // A fresh exchange with a peer.
+    pub fn open(&self, rt: &impl Print, peer: ContactId) -> io::Result<Link> {
         let mut exchange = Exchange::closed();
-        let mut prefixes = [0u8; PREFIX_AREA];
-        let mut offers = [0u8; OFFER_AREA];
-        match contacts::fresh_exchange(
+        let prefixes = [0u8; PREFIX_AREA];
+        let offers = [0u8; OFFER_AREA];
+        if let Err(why) = contacts::fresh_exchange(
             &mut exchange,
             self.device,
-            LISTER,
+            peer,
             &self.contacts,
             &prefixes,
             &offers,
         ) {
-            Err(why) => lines::show_refusal(rt, why),
-            Ok(()) => {
-                self.receive(rt, &mut exchange, window, list, &mut prefixes, &mut offers)?;
-                self.receive(rt, &mut exchange, window, b"", &mut prefixes, &mut offers)?;
-                println!(rt; "offered {}", exchange.offered)
-            }
+            lines::show_refusal(rt, why)?;
         }
+        Ok(Link {
+            peer,
+            exchange,
+            prefixes,
+            offers,
+        })
     }
 
-    // Writes what a list of prefixes from contact 5 is answered with, and for how many rows the tombstones were searched.
-    fn receive(
+    // Writes what a list of prefixes from the peer is answered with, and for how many rows the tombstones were searched.
+    pub fn receive(
         &self,
         rt: &impl Print,
-        exchange: &mut Exchange,
+        link: &mut Link,
         window: &[u8],
         list: &[u8],
-        prefixes: &mut [u8; PREFIX_AREA],
-        offers: &mut [u8; OFFER_AREA],
     ) -> io::Result<()> {
         let mut replies = [0u8; REPLY_AREA];
         let said = inventory::receive_inventory(
-            exchange,
+            &mut link.exchange,
             self.device,
-            LISTER,
+            link.peer,
             &self.contacts,
             &self.own,
             &self.carried,
@@ -374,8 +396,8 @@ impl Post {
             &self.bad_tags,
             window,
             list,
-            prefixes,
-            offers,
+            &mut link.prefixes,
+            &mut link.offers,
             &mut replies,
         );
         match said {
@@ -386,6 +408,86 @@ impl Post {
                 println!(rt; "searched {searched}")
             }
         }
+    }
+
+    // A peer accepts what it was offered of a tag.
+    fn hand_over(
+        &mut self,
+        link: &mut Link,
+        tag: [u8; 16],
+        actions: &mut [u8; ACTION_AREA],
+    ) -> Result<usize, Refusal> {
+        handover::handed_over(
+            &mut link.exchange,
+            &mut self.device,
+            link.peer,
+            tag,
+            Custody::Accepted,
+            &self.contacts,
+            &mut self.own,
+            &mut self.carried,
+            &self.tombstones,
+            &link.prefixes,
+            &mut link.offers,
+            actions,
+        )
+    }
+
+    // The same, and what it puts and deletes is written.
+    pub fn accepted(mut self, rt: &impl Print, link: &mut Link, tag: [u8; 16]) -> io::Result<Post> {
+        let mut actions = [0u8; ACTION_AREA];
+        match self.hand_over(link, tag, &mut actions) {
+            Err(why) => lines::show_refusal(rt, why)?,
+            Ok(n) => lines::show_rows(rt, first_rows(&actions, n), lines::show_action)?,
+        }
+        Ok(self)
+    }
+
+    // ---- its held rows as bytes
+
+    // The blob of the held row in a slot; no byte where there is none.
+    pub fn blob<'a>(&self, slot: u64, area: &'a mut [u8; BLOB]) -> &'a [u8] {
+        let said = saved::row_blob(
+            self.device,
+            slot,
+            &self.carried,
+            &self.tombstones,
+            &self.carried_cells,
+            area,
+        );
+        match said {
+            Ok(Some(n)) => lines::first(area, n),
+            _ => b"",
+        }
+    }
+
+    // The saved file; no byte where it is refused.
+    pub fn file<'a>(&self, area: &'a mut [u8; FILE_AREA]) -> &'a [u8] {
+        let said = saved::save(
+            self.device,
+            &self.carried,
+            &self.tombstones,
+            &self.carried_cells,
+            area,
+        );
+        lines::first(area, said.unwrap_or(0))
+    }
+
+    // The held rows of a saved file.
+    pub fn load(mut self, rt: &impl Print, file: &[u8]) -> io::Result<Post> {
+        let said = load::load(
+            &mut self.device,
+            &self.contacts,
+            &mut self.carried,
+            &mut self.tombstones,
+            &mut self.carried_cells,
+            file,
+        );
+        if let Err(why) = said {
+            lines::show_refusal(rt, why)?;
+        }
+        lines::show_counts(rt, &self.device)?;
+        Ok(self)
     }
 
     // ---- the rows that it has

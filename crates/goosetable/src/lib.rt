@@ -46,8 +46,8 @@ use wire::enabled_of;
 // (A call reads the device, works on it and puts it back. One function for that, with the call as a closure, was tried and gets no proof: its
 // caller is told nothing of what the closure left in the areas that it borrowed beside the device.)
 
-// 0.2.4 as a number: major * 10,000 + minor * 100 + patch.
-const VERSION: u32 = 204;
+// 0.2.5 as a number: major * 10,000 + minor * 100 + patch.
+const VERSION: u32 = 205;
 
 // ---- what the host sets
 

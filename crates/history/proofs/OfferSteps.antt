@@ -1,6 +1,6 @@
 -- What the exchanges have offered after a list of calls is what the calls and their replies say.
 -- Assumes nothing.
-use Rattle.std.proofs.Common.{◌≡◌, ℕ, ◌+◌, ◌/◌, ◌%◌, ◌≤◌, min, Bool, true, false, cond, eqb, ltb, List, [], ◌∷◌, ◌++◌, length, get_or, set, sym, refl, ap, ◌∙◌, subst, arith, get_or-set_other, get_or-set_same, ltb-false, ltb-true, eq-eqb, ne_eqb, eqb-true, Option, Some, None}
+use Rattle.std.proofs.Common.{◌≡◌, ℕ, ◌+◌, ◌/◌, ◌%◌, ◌<◌, ◌≤◌, min, Bool, true, false, cond, eqb, ltb, List, [], ◌∷◌, ◌++◌, length, get_or, set, sym, refl, ap, ◌∙◌, subst, arith, get_or-set_other, get_or-set_same, ltb-false, ltb-true, eq-eqb, ne_eqb, eqb-true, Option, Some, None}
 use Rattle.std.proofs.lemmas.List.{set_past}
 use lib.ListN.{get_or-eq_default}
 use borrow.Author.Tests.{eqb-false}
@@ -36,7 +36,7 @@ use Rattle.model.specs.Step.{Post, Lent, tests, perform, step, state_for, answer
 use Rattle.model.specs.Good.{Good, GoodSession, ProperCall}
 use Rattle.model.proofs.KeepLaws.{Passed}
 use Rattle.model.proofs.KeepRows.{or_false}
-use Rattle.model.proofs.KeepCalls.{keeps}
+use Rattle.model.proofs.KeepCalls.{keeps, lifetime_kept}
 use Rattle.model.proofs.RunLaws.{no_session_good, good_with, all_get_d, all_set}
 use Rattle.history.specs.Order.{empty}
 use Rattle.history.specs.Life.{Role, code_for, contact_says, opens_exchange, lists_prefixes, other, role, offered_copies}
@@ -239,6 +239,10 @@ module _ (p : Post) (l : Lent) (k : Sound p) (h : ProperCall l.call) where
   after_good : Good (after p l).state
   unfolding after answer_to
   after_good = keeps (state_for p l) l.call lent_good h
+
+  pub lifetime_after : 0 < p.state.courier.lifetime_min → 0 < (after p l).state.courier.lifetime_min
+  unfolding after answer_to state_for
+  lifetime_after t = lifetime_kept (state_for p l) l.call lent_good h t
 
   after_follows : Follows (state_for p l) l.call (answer_to p l)
   unfolding answer_to

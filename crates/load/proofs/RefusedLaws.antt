@@ -1,15 +1,14 @@
 -- A carried row that is not read back is saved all the same, and its file is refused by number 8.
 -- Assumes nothing.
-use Rattle.std.proofs.Common.{◌≡◌, ℕ, ◌<◌, ◌≤◌, Bool, true, ◌||◌, leb, List, [], ◌∷◌, map, length, take, sym, refl, ap, ◌∙◌, subst, None}
+use Rattle.std.proofs.Common.{◌≡◌, ℕ, ◌≤◌, Bool, true, ◌||◌, leb, List, [], ◌∷◌, map, length, take, sym, refl, ap, ◌∙◌, subst, arith, None}
 use Rattle.std.proofs.lemmas.Bool.{cond_both}
 use mathlib.Core.Bool.{or-true}
 use Rattle.courier_core.specs.declared.Refusal.{Refusal}
 use Rattle.courier_core.specs.declared.Refusal.TheVariants as refusal
 use Rattle.table.specs.Lists.{All, any}
 use Rattle.table.proofs.ListLaws.{all_imp, all_map}
-use Rattle.courier.proofs.Laws.{not_valid}
 use Rattle.state.specs.Held.{held_row, held_decode, held_read}
-use Rattle.state.proofs.HeldLaws.{carried_refused}
+use Rattle.state.proofs.HeldLaws.{reads_back_not, carried_refused}
 use Rattle.rows.specs.declared.Contact.{Contact}
 use Rattle.rows.specs.declared.Carried.{Carried}
 use Rattle.rows.specs.Proper.{ProperCarried, ProperTombstone}
@@ -53,7 +52,7 @@ in_merge key {x = x} [] ys m = elim m [ ]
 -- ---- the file
 
 module _ (s : State) (C : All ProperCarried s.carried) (T : All ProperTombstone s.tombstones) (fits : length s.carried ≤ cell_count (length s.carried_cells)) (r : Carried)
-    (m : r ∈ s.carried) (lost : 0 < r.copies → 0 < r.expiry_min → ⊥) where
+    (m : r ∈ s.carried) (lost : r.expiry_min ≡ 0) where
   abbrev hs : List Slotted
   hs = rows_of s
 
@@ -73,7 +72,7 @@ module _ (s : State) (C : All ProperCarried s.carried) (T : All ProperTombstone 
   unfolding carried_held
   blob_refused =
       let ct : List ℕ = ciphertext s.carried_cells r.cell r.len in
-      carried_refused (as_held r) (proper_held r (all_in C m)) ct (not_valid (length (take 2064 ct)) r.copies r.expiry_min 0 lost)
+      carried_refused (as_held r) (proper_held r (all_in C m)) ct (reads_back_not (length (take 2064 ct)) r.expiry_min (λ h k. omega (arith, lost)))
 
   kind_fails : true ≡ fails kind_tests (saved_record row)
   kind_fails = kind_tested (saved_record row) None (sym (ap held_read (ap held_decode (blob_saved row) ∙ blob_refused)))
@@ -91,7 +90,7 @@ module _ (s : State) (C : All ProperCarried s.carried) (T : All ProperTombstone 
         let B : Begins file = subst Begins (sym (same_file s fits)) (begins_saved s.next_slot hs shorts) in
         file_wrong cs file true B.long B.mark refl refl B.whole (sym records_wrong)
 
-  -- A carried row whose copies or expiry are 0: no post loads the file.
+  -- A carried row whose expiry is 0: no post loads the file.
   pub unread_refused : (t : State) → (load_step t (save_held s).bytes).answer ≡ refused refusal.SavedFile
   unfolding load_step load_held_rows save_held
   unread_refused t =

@@ -10,7 +10,7 @@ use Rattle.octets.proofs.Numbers.{length_be, num_be}
 use Rattle.table.specs.Lists.{All, filter, insert_at, position_from, position, unwrap_or}
 use Rattle.table.specs.Lists as lists
 use Rattle.table.specs.Rows.{join}
-use Rattle.table.proofs.ListLaws.{all_each, all_imp, all_push, all_map}
+use Rattle.table.proofs.ListLaws.{all_append, all_each, all_imp, all_push, all_map}
 use Rattle.history.specs.Order.{Sorted, empty, next, InCell}
 use Rattle.history.proofs.SortedLaws.{all_both, all_unmap}
 use Rattle.history.proofs.CellLaws.{in_area, inside, length_after, ciphertext_new, ciphertext_kept}
@@ -400,7 +400,7 @@ module _ (s : State) (W : Savable s) where
         record {
           slot = p.slot;
           short = carried_short s.carried_cells r p;
-          read = carried_back (as_held r) (proper_held r p) ct (ap carried_length l ∙ b.len) b.copies b.expiry;
+          read = carried_back (as_held r) (proper_held r p) ct (ap carried_length l ∙ b.len) b.expiry;
         },
         omega (arith, l, h.1),
       )
@@ -413,6 +413,12 @@ module _ (s : State) (W : Savable s) where
   all_tombstones : All (λ (h : Slotted). Back h × Fits h.held) (tombstone_rows s)
   unfolding tombstone_held
   all_tombstones = all_map tombstone_held s.tombstones (all_imp (λ t p. (tombstone_back_row t p, tt)) s.tombstones W.tombstones)
+
+  -- each held row is read back
+  pub rows_read_back : All (λ (h : Slotted). held_decode (held_row h.held) ≡ Some h.held) (held_rows s)
+  unfolding held_rows
+  rows_read_back =
+      all_imp (λ h b. b.0.read) (carried_rows s ++ tombstone_rows s) (all_append (carried_rows s) (tombstone_rows s) all_carried all_tombstones)
 
   pub all_rows_lem : All (λ (h : Slotted). Back h × Fits h.held) (rows_of s)
   all_rows_lem = all_merge slotted (carried_rows s) (tombstone_rows s) all_carried all_tombstones

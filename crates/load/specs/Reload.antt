@@ -15,10 +15,9 @@ use Rattle.model.specs.Saved.{held_rows, save_held}
 use Rattle.history.specs.Order.{Sorted, HeldOrder}
 use Rattle.load.specs.Load.{load_step}
 
--- A carried row that is read back: "only where copies and expiry are above 0". Its ciphertext has a length that a courier carries.
+-- A carried row that is read back, whatever its copies: its ciphertext has a length that a courier carries, and its expiry is above 0.
 pub record ReadBack (r : Carried) : Type 0 where
   pub len : carried_length r.len ≡ true
-  pub copies : 0 < r.copies
   pub expiry : 0 < r.expiry_min
 
 -- A state whose file number 8 does not refuse where the depositors are known: its tables are in order, their rows fit their fields,

@@ -4,11 +4,11 @@ use Rattle.std.proofs.Common.{◌≡◌, ℕ, ◌-◌, ◌≤◌, Bool, true, fa
 use Rattle.std.proofs.lemmas.List.{take_rest}
 use Rattle.std.proofs.lemmas.Bool.{cond_both, or_parts}
 use mathlib.Core.Bool.{or-true}
-use Rattle.courier.proofs.Laws.{both, carried_fits, valid_parts}
+use Rattle.courier.proofs.Laws.{both, carried_fits}
 use Rattle.table.specs.Lists.{any}
 use Rattle.table.specs.Rows.{has_key}
 use Rattle.state.specs.Held.{Held, carried, tombstone, carried_of, tombstone_of, carried_in, tombstone_in, held_decode, held_read}
-use Rattle.state.proofs.HeldLaws.{passes}
+use Rattle.state.proofs.HeldLaws.{reads_back_parts, passes}
 use Rattle.state.specs.declared.Held.{Held as Read}
 use Rattle.state.specs.declared.Held.TheVariants as read
 use Rattle.model.specs.Basics.{match_some}
@@ -29,7 +29,7 @@ decoded b =
     (λ k. cond_both (leb 46 (length b) && passes b) _ _ (Decoded b) (λ e.
     let f = both (leb 46 (length b)) (passes b) e in
     let h : 46 ≤ length b = leb-true 46 (length b) f.0 in
-    (refl, (refl, (h, omega (arith, carried_fits (length b - 46) (valid_parts _ _ _ _ f.1).0))))) (λ e. tt))
+    (refl, (refl, (h, omega (arith, carried_fits (length b - 46) (reads_back_parts _ _ f.1).0))))) (λ e. tt))
     (λ k. cond_both (eqb (get_or b 0 0) 1) _ _ (Decoded b) (λ t. cond_both (eqb (length b) 37) _ _ (Decoded b) (λ e. (refl, eqb-true (length b) 37 e)) (λ e. tt)) (λ t. tt))
 
 -- a blob that is not refused has 37 bytes or more

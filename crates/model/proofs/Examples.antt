@@ -93,7 +93,7 @@ row17 = refl
 
 -- ---- three peers accepting 2 of 4
 
-pub open_for : ℕ → ℕ → List Lent
+unfoldable pub open_for : ℕ → ℕ → List Lent
 unfolding lend id
 open_for i peer = lend i (Calls.contact (id peer) verification.Unverified) ∷ lend i (Calls.open_exchange (id peer)) ∷ []
 
@@ -107,7 +107,7 @@ unfolding lend id of_byte
 code i peer said = lend i (Calls.custody_answer 6708 (id peer) (of_byte 17) said)
 
 -- copies 4 are configured; one row is carried; peers 6, 7 and 8 end their listings and are offered 2 each
-pub offered : Post
+unfoldable pub offered : Post
 unfolding rows_of open_for terminator
 offered =
     run post (lend 0 (Calls.setting true 4 1440) ∷ lend 0 (Calls.contact (id 5) verification.Verified) ∷ send 5 17 ∷ open_for 0 6 ++ open_for 1 7 ++ open_for 2 8

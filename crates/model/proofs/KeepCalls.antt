@@ -2,6 +2,7 @@
 -- Assumes nothing.
 use Rattle.std.proofs.Common.{◌≡◌, ℕ, ◌/◌, ◌^◌, ◌<◌, min, Bool, true, false, cond, eqb, ltb, List, [], length, refl, arith, Option, Some, None}
 use native.Mathlib.Nat.{min-le_right}
+use borrow.Author.Tests.{not-false}
 use Rattle.octets.specs.Bytes.{Bytes}
 use Rattle.courier_core.specs.declared.ContactId.{ContactId}
 use Rattle.courier_core.specs.declared.Verification.{Verification}
@@ -12,6 +13,8 @@ use Rattle.courier.specs.declared.Header.{Header}
 use Rattle.courier.specs.Tags.{route_tag}
 use Rattle.model.proofs.HashLaws.{route_tag_run}
 use Rattle.chain.specs.declared.Dir.{Dir}
+use Rattle.state.specs.declared.CourierConfig.{CourierConfig}
+use Rattle.state.specs.Config.{in_range}
 use Rattle.state.specs.Held.{held_row}
 use Rattle.rows.specs.Proper.{Run}
 use Rattle.model.specs.Basics.{match_some, find}
@@ -29,7 +32,7 @@ use Rattle.model.specs.Saved.{Slotted, held_rows, writes, blob_tests, row_blob_o
 use Rattle.model.specs.Screen.{page_tests, show_page}
 use Rattle.model.specs.Step.{tests, perform, step}
 use Rattle.model.specs.Good.{Good, ProperHeader, ProperTomb, ProperCall}
-use Rattle.model.proofs.KeepLaws.{Fits, made, fits_nothing, Passed, keeps_step}
+use Rattle.model.proofs.KeepLaws.{Fits, part_upd, part_imp, lifetime_above_0, good_apply, made, fits_nothing, Passed, fits_step}
 use Rattle.model.proofs.StoreLaws.{prefix_laws}
 use Rattle.model.proofs.KeepRows.{or_false, end_small, put_contact_lem}
 use Rattle.model.proofs.KeepParts.{fits_answer, fits_terminator, fits_listed, fits_custody, fits_store, fits_tomb, fits_failed, fits_made, fits_maintained}
@@ -37,9 +40,10 @@ use Rattle.model.proofs.KeepParts.{fits_answer, fits_terminator, fits_listed, fi
 -- ---- each call, its tests passed
 
 module _ (s : State) where
-  setting_fits : (enabled : Bool) (copies lifetime : ℕ) → copies < 2 ^ 8 → Fits s (set_config enabled copies lifetime).change
-  unfolding set_config
-  setting_fits enabled copies lifetime h = made s (set_config enabled copies lifetime).change h tt tt tt tt tt tt tt tt
+  setting_fits : (enabled : Bool) (copies lifetime : ℕ) → Passed (setting_tests copies lifetime) → Fits s (set_config enabled copies lifetime).change
+  unfolding setting_tests set_config
+  setting_fits enabled copies lifetime p =
+      made s (set_config enabled copies lifetime).change (not-false (in_range copies lifetime) p.0) tt tt tt tt tt tt tt tt
 
   clock_fits : (seconds : ℕ) → Fits s (set_clock seconds).change
   unfolding set_clock
@@ -142,33 +146,43 @@ module _ (s : State) (g : Good s) where
 
 -- ---- every call
 
-pub keeps : (s : State) (c : Call) → Good s → ProperCall c → Good (apply s (step s c).change)
+-- what a call changes is in range and fits
+fits_call : (s : State) (c : Call) → Good s → ProperCall c → Fits s (step s c).change
 unfolding step tests perform
-keeps s (Calls.contact id v) g h = keeps_step s (contact_tests s id) (set_contact s id v) g (λ p. contact_fits s g id v h p)
-keeps s (Calls.setting enabled copies lifetime) g h = keeps_step s (setting_tests copies lifetime) (set_config enabled copies lifetime) g (λ p. setting_fits s enabled copies lifetime h)
-keeps s (Calls.clock seconds) g h = keeps_step s [] (set_clock seconds) g (λ p. clock_fits s seconds)
-keeps s (Calls.open_exchange peer) g h = keeps_step s (open_exchange_tests s peer) (open_exchanged peer) g (λ p. open_fits s peer)
-keeps s (Calls.envelope replies actions window peer head ct) g h =
-    keeps_step s (envelope_tests s replies actions window peer head (length ct)) (receive_envelope s (window_rows window) peer head ct) g
+fits_call s (Calls.contact id v) g h = fits_step s (contact_tests s id) (set_contact s id v) (λ p. contact_fits s g id v h p)
+fits_call s (Calls.setting enabled copies lifetime) g h = fits_step s (setting_tests copies lifetime) (set_config enabled copies lifetime) (setting_fits s enabled copies lifetime)
+fits_call s (Calls.clock seconds) g h = fits_step s [] (set_clock seconds) (λ p. clock_fits s seconds)
+fits_call s (Calls.open_exchange peer) g h = fits_step s (open_exchange_tests s peer) (open_exchanged peer) (λ p. open_fits s peer)
+fits_call s (Calls.envelope replies actions window peer head ct) g h =
+    fits_step s (envelope_tests s replies actions window peer head (length ct)) (receive_envelope s (window_rows window) peer head ct)
     (envelope_fits s g replies actions window peer head ct h)
-keeps s (Calls.inventory_received replies window peer listed) g h =
-    keeps_step s (receive_inventory_tests s replies window peer listed) (receive_inventory s (window_rows window) peer (prefix_rows listed)) g
+fits_call s (Calls.inventory_received replies window peer listed) g h =
+    fits_step s (receive_inventory_tests s replies window peer listed) (receive_inventory s (window_rows window) peer (prefix_rows listed))
     (inventory_fits s g replies window peer listed h)
-keeps s (Calls.fetch replies peer tag) g h = keeps_step s (fetch_tests s replies peer) (receive_fetch s peer tag) g (λ p. fetch_fits s peer tag)
-keeps s (Calls.custody_answer actions peer tag code) g h = keeps_step s (custody_tests s actions peer) (receive_custody s tag code) g (λ p. fits_custody s g tag code)
-keeps s (Calls.tomb actions peer tag secret) g h =
-    keeps_step s (tomb_tests s actions peer tag (meets s.own s.carried tag secret)) (receive_tomb s tag secret (meets s.own s.carried tag secret)) g
+fits_call s (Calls.fetch replies peer tag) g h = fits_step s (fetch_tests s replies peer) (receive_fetch s peer tag) (λ p. fetch_fits s peer tag)
+fits_call s (Calls.custody_answer actions peer tag code) g h = fits_step s (custody_tests s actions peer) (receive_custody s tag code) (λ p. fits_custody s g tag code)
+fits_call s (Calls.tomb actions peer tag secret) g h =
+    fits_step s (tomb_tests s actions peer tag (meets s.own s.carried tag secret)) (receive_tomb s tag secret (meets s.own s.carried tag secret))
     (tomb_fits s g actions peer tag secret h)
-keeps s (Calls.opened replies actions peer tag secret expiry) g h =
-    keeps_step s (opened_tests s replies actions peer tag) (report_opened s tag secret expiry) g (opened_fits s g replies actions peer tag secret expiry h)
-keeps s (Calls.failed peer tag) g h = keeps_step s (failed_tests s peer tag) (report_failed s peer tag) g (failed_fits s g peer tag h)
-keeps s (Calls.stored_tombstone actions tag secret expiry) g h =
-    keeps_step s (stored_tests s actions tag) (stored s tag secret expiry) g (stored_fits s g actions tag secret expiry h)
-keeps s (Calls.add_own id msgno key dir generation idx secret ct) g h =
-    keeps_step s (own_tests s id msgno (length ct)) (own_envelope s id msgno key dir generation idx secret ct) g
+fits_call s (Calls.opened replies actions peer tag secret expiry) g h =
+    fits_step s (opened_tests s replies actions peer tag) (report_opened s tag secret expiry) (opened_fits s g replies actions peer tag secret expiry h)
+fits_call s (Calls.failed peer tag) g h = fits_step s (failed_tests s peer tag) (report_failed s peer tag) (failed_fits s g peer tag h)
+fits_call s (Calls.stored_tombstone actions tag secret expiry) g h =
+    fits_step s (stored_tests s actions tag) (stored s tag secret expiry) (stored_fits s g actions tag secret expiry h)
+fits_call s (Calls.add_own id msgno key dir generation idx secret ct) g h =
+    fits_step s (own_tests s id msgno (length ct)) (own_envelope s id msgno key dir generation idx secret ct)
     (λ p. own_fits s g id msgno key dir generation idx secret ct h)
-keeps s (Calls.maintenance actions) g h = keeps_step s (maintenance_tests s actions) (maintain_couriers s) g (λ p. fits_maintained s g)
-keeps s (Calls.inventory_of_ours prefixes peer) g h = keeps_step s (inventory_tests s prefixes peer) (list_inventory s peer) g (λ p. list_fits s peer)
-keeps s (Calls.row_blob blob slot) g h = keeps_step s (blob_tests blob) (row_blob_of s slot) g (λ p. blob_fits s slot)
-keeps s (Calls.save file) g h = keeps_step s (save_tests s file) (save_held s) g (λ p. save_fits s)
-keeps s (Calls.page area number) g h = keeps_step s (page_tests area) (show_page s number) g (λ p. page_fits s number)
+fits_call s (Calls.maintenance actions) g h = fits_step s (maintenance_tests s actions) (maintain_couriers s) (λ p. fits_maintained s g)
+fits_call s (Calls.inventory_of_ours prefixes peer) g h = fits_step s (inventory_tests s prefixes peer) (list_inventory s peer) (λ p. list_fits s peer)
+fits_call s (Calls.row_blob blob slot) g h = fits_step s (blob_tests blob) (row_blob_of s slot) (λ p. blob_fits s slot)
+fits_call s (Calls.save file) g h = fits_step s (save_tests s file) (save_held s) (λ p. save_fits s)
+fits_call s (Calls.page area number) g h = fits_step s (page_tests area) (show_page s number) (λ p. page_fits s number)
+
+pub keeps : (s : State) (c : Call) → Good s → ProperCall c → Good (apply s (step s c).change)
+keeps s c g h = good_apply s (step s c).change g (fits_call s c g h)
+
+-- a lifetime above 0 stays above 0: a setting call takes no other
+pub lifetime_kept : (s : State) (c : Call) → Good s → ProperCall c → 0 < s.courier.lifetime_min → 0 < (apply s (step s c).change).courier.lifetime_min
+unfolding apply
+lifetime_kept s c g h t =
+    part_upd (λ (k : CourierConfig). 0 < k.lifetime_min) s.courier (step s c).change.courier t (part_imp lifetime_above_0 (step s c).change.courier (fits_call s c g h).courier)

@@ -1,10 +1,12 @@
 -- Every call keeps what the store needs (`Good`): each part that a call changes is shown to be in range and to fit.
 -- Assumes nothing.
-use Rattle.std.proofs.Common.{◌≡◌, ℕ, ◌*◌, ◌^◌, ◌<◌, ◌≤◌, Bool, true, false, cond, List, [], ◌∷◌, length, refl}
+use Rattle.std.proofs.Common.{◌≡◌, ℕ, ◌*◌, ◌^◌, ◌<◌, ◌≤◌, Bool, true, false, cond, List, [], ◌∷◌, length, refl, arith}
 use Rattle.courier_core.specs.declared.Refusal.{Refusal}
 use Rattle.courier_core.specs.Core.{first_of}
 use Rattle.table.specs.Lists.{All}
 use Rattle.state.specs.declared.CourierConfig.{CourierConfig}
+use Rattle.state.specs.Config.{in_range}
+use Rattle.state.proofs.ConfigLaws.{in_range_lem}
 use Rattle.rows.specs.declared.Own.{Own}
 use Rattle.rows.specs.declared.Carried.{Carried}
 use Rattle.rows.specs.declared.Tombstone.{Tombstone}
@@ -25,8 +27,12 @@ Few P n xs = All P xs × (length xs ≤ n)
 abbrev pub Fit : {A : Type 0} → (A → Type 0) → (w size : ℕ) → List A → Type 0
 Fit P w size xs = All P xs × (length xs ≤ 512) × (length xs * w ≤ size)
 
+-- a setting that a setting call takes
+abbrev pub InRange : CourierConfig → Type 0
+InRange k = in_range k.copies k.lifetime_min ≡ true
+
 pub record Fits (s : State) (c : Change) : Type 0 where
-  pub courier : Part (λ (k : CourierConfig). k.copies < 2 ^ 8) c.courier
+  pub courier : Part InRange c.courier
   pub contacts : Part (Few ProperContact 256) c.contacts
   pub own : Part (Few ProperOwn 256) c.own
   pub carried : Part (Few ProperCarried 256) c.carried
@@ -36,18 +42,25 @@ pub record Fits (s : State) (c : Change) : Type 0 where
   pub listed : Part (Fit (Run 8) 8 s.session.prefix_area) c.listed
   pub offered : Part (Fit ProperOffer 17 s.session.offer_area) c.offered
 
-part_upd : {A : Type 0} (P : A → Type 0) (a : A) (u : Upd A) → P a → Part P u → P (upd a u)
+pub part_upd : {A : Type 0} (P : A → Type 0) (a : A) (u : Upd A) → P a → Part P u → P (upd a u)
 part_upd P a keep p q = p
 part_upd P a (now x) p q = q
+
+pub part_imp : {A : Type 0} {P Q : A → Type 0} → ((x : A) → P x → Q x) → (u : Upd A) → Part P u → Part Q u
+part_imp f keep p = p
+part_imp f (now x) p = f x p
 
 part_either : {A : Type 0} (P : A → Type 0) (u v : Upd A) → Part P u → Part P v → Part P (either u v)
 part_either P keep v p q = q
 part_either P (now x) v p q = p
 
-module _ (s : State) where
-  abbrev pub C : CourierConfig → Type 0
-  C k = k.copies < 2 ^ 8
+few_copies : (k : CourierConfig) → InRange k → k.copies < 2 ^ 8
+few_copies k t = omega (arith, (in_range_lem k.enabled k.copies k.lifetime_min t).1)
 
+pub lifetime_above_0 : (k : CourierConfig) → InRange k → 0 < k.lifetime_min
+lifetime_above_0 k t = omega (arith, (in_range_lem k.enabled k.copies k.lifetime_min t).2)
+
+module _ (s : State) where
   abbrev pub L : List (List ℕ) → Type 0
   L = Fit (Run 8) 8 s.session.prefix_area
 
@@ -76,7 +89,7 @@ module _ (s : State) where
         tombstones_fit = tombstones.1;
         bad_tags_fit = bad_tags.1;
         next_slot = part_upd (λ (n : ℕ). n < 2 ^ 64) s.next_slot c.next_slot g.next_slot f.next_slot;
-        copies = part_upd C s.courier c.courier g.copies f.courier;
+        copies = part_upd (λ (k : CourierConfig). k.copies < 2 ^ 8) s.courier c.courier g.copies (part_imp few_copies c.courier f.courier);
         session = record {
           listed = listed.0;
           offered = offered.0;
@@ -90,7 +103,7 @@ module _ (s : State) where
   -- ---- the changes of one part, and two as one
 
   -- a change, by what holds of each part that it changes
-  pub made : (c : Change) → Part C c.courier → Part (Few ProperContact 256) c.contacts → Part (Few ProperOwn 256) c.own
+  pub made : (c : Change) → Part InRange c.courier → Part (Few ProperContact 256) c.contacts → Part (Few ProperOwn 256) c.own
       → Part (Few ProperCarried 256) c.carried → Part (Few ProperTombstone s.tombstone_rows) c.tombstones
       → Part (Few ProperBadTag s.bad_tag_rows) c.bad_tags → Part (λ (n : ℕ). n < 2 ^ 64) c.next_slot → Part L c.listed → Part O c.offered → Fits s c
   made c p q r t u v w x y = record { courier = p; contacts = q; own = r; carried = t; tombstones = u; bad_tags = v; next_slot = w; listed = x; offered = y }
@@ -124,7 +137,7 @@ module _ (s : State) where
 
   pub fits_and : (a b : Change) → Fits s a → Fits s b → Fits s (a and b)
   fits_and a b p q = record {
-    courier = part_either C a.courier b.courier p.courier q.courier;
+    courier = part_either InRange a.courier b.courier p.courier q.courier;
     contacts = part_either (Few ProperContact 256) a.contacts b.contacts p.contacts q.contacts;
     own = part_either (Few ProperOwn 256) a.own b.own p.own q.own;
     carried = part_either (Few ProperCarried 256) a.carried b.carried p.carried q.carried;
@@ -142,14 +155,14 @@ abbrev pub Passed : List (Bool × Refusal) → Type 0
 Passed [] = Unit {0}
 Passed (t ∷ ts) = (t.0 ≡ false) × Passed ts
 
-pub keeps_step : (s : State) (ts : List (Bool × Refusal)) (r : Result) → Good s → (Passed ts → Fits s r.change) → Good (apply s (step_of ts r).change)
+pub fits_step : (s : State) (ts : List (Bool × Refusal)) (r : Result) → (Passed ts → Fits s r.change) → Fits s (step_of ts r).change
 unfolding step_of
-keeps_step s [] r g f = good_apply s r.change g (f tt)
-keeps_step s (t ∷ ts) r g f = go t.0 refl (λ e. keeps_step s ts r g (λ p. f (e, p)))
+fits_step s [] r f = f tt
+fits_step s (t ∷ ts) r f = go t.0 refl (λ e. fits_step s ts r (λ p. f (e, p)))
   where
     rest : Result
     rest = first_of ts (λ why. only (refused why)) r
 
-    go : (b : Bool) → t.0 ≡ b → (t.0 ≡ false → Good (apply s rest.change)) → Good (apply s (cond b (only (refused t.1)) rest).change)
-    go true e k = good_apply s nothing g (fits_nothing s)
+    go : (b : Bool) → t.0 ≡ b → (t.0 ≡ false → Fits s rest.change) → Fits s (cond b (only (refused t.1)) rest).change
+    go true e k = fits_nothing s
     go false e k = k e

@@ -1,9 +1,11 @@
 -- The theorem about saving and loading on fresh areas.
 -- Assumes nothing.
-use Rattle.std.proofs.Common.{◌≡◌, ℕ, ◌^◌, ◌<◌, List, [], ◌∷◌, map, sym, refl, ap, ◌∙◌, subst}
+use Rattle.std.proofs.Common.{◌≡◌, ℕ, ◌^◌, ◌<◌, List, [], ◌∷◌, map, sym, refl, ap, ◌∙◌, subst, arith}
 use Rattle.octets.specs.Bytes.{Bytes}
 use Rattle.table.specs.Lists.{All}
 use Rattle.table.specs.Lists as lists
+use Rattle.rows.specs.declared.Device.{Device}
+use Rattle.rows.specs.Device.{fresh_device}
 use Rattle.model.specs.State.{State, Change, apply}
 use Rattle.model.specs.Step.{Post}
 use Rattle.model.specs.Areas.{PostAreas, view, view_session, view_post, store, Fresh}
@@ -14,9 +16,9 @@ use Rattle.history.specs.History.{Empty}
 use Rattle.history.proofs.HistoryLaws.{fresh_empty}
 use Rattle.load.specs.Load.{load_step}
 use Rattle.reload.specs.Doings.{Doing, call, load, ProperDoing, after_load, after_doing, run_doings, after_load_areas, after_doing_areas, run_doings_areas}
-use Rattle.reload.specs.SavedHistory.{SavedOnAreas}
+use Rattle.reload.specs.SavedHistory.{ReadBackHistory, SavedOnAreas}
 use Rattle.reload.proofs.KeepLaws.{good_load}
-use Rattle.reload.proofs.DoingLaws.{saved_history, screen_history}
+use Rattle.reload.proofs.DoingLaws.{saved_history, read_back_history, screen_history}
 
 -- ---- a load on areas
 
@@ -63,5 +65,13 @@ module _ (p : PostAreas) (fresh : Fresh p) (sized : Sized p.areas) (copies : p.a
       record {
         seen = run_areas_lem ds p (fresh_good p fresh sized copies) a;
         history = saved_history (view_post p) empty few ds a;
+        read_back = λ t. read_back_history (view_post p) empty few (subst (λ (q : Post). 0 < q.state.courier.lifetime_min) (sym seen) t) ds a;
         screen = screen_history (view_post p) empty few ds a;
       }
+
+-- On fresh areas with the device that `Device::fresh` gives nothing is asked of the setting either.
+pub read_back_fresh : (p : PostAreas) → Fresh p → Sized p.areas → p.areas.device ≡ fresh_device → (ds : List Doing) → All ProperDoing ds → ReadBackHistory (view_post p) ds
+read_back_fresh p fresh sized e ds a =
+    let few : p.areas.device.courier.copies < 2 ^ 8 = subst (λ (d : Device). d.courier.copies < 2 ^ 8) (sym e) (omega arith) in
+    let lasts : 0 < p.areas.device.courier.lifetime_min = subst (λ (d : Device). 0 < d.courier.lifetime_min) (sym e) (omega arith) in
+    (saved_history_areas p fresh sized few ds a).read_back lasts

@@ -28,15 +28,15 @@ use Rattle.history.proofs.KeptLaws.{effect_at}
 use Rattle.history.proofs.LifeLaws.{size_run}
 use Rattle.load.specs.Reload.{Savable, Reloaded}
 use Rattle.load.proofs.OrderLaws.{sorted_with}
-use Rattle.load.proofs.SavedLaws.{sorted_map}
+use Rattle.load.proofs.SavedLaws.{sorted_map, rows_read_back}
 use Rattle.load.proofs.FineLaws.{at_most_one}
 use Rattle.load.proofs.ReloadLaws.{reloaded}
 use Rattle.load.proofs.RefusedLaws.{unread_refused}
-use Rattle.reload.specs.Doings.{Doing, call, load, ProperDoing, after_doing, run_doings}
+use Rattle.reload.specs.Doings.{Doing, call, load, ProperDoing, after_load, after_doing, run_doings}
 use Rattle.reload.specs.ScreenHistory.{ScreenHistory}
-use Rattle.reload.specs.SavedHistory.{Above0, SavedHistory}
-use Rattle.reload.proofs.LengthLaws.{performed}
-use Rattle.reload.proofs.KeepLaws.{Keeps, Grows, keeps_empty, keeps_call, keeps_load}
+use Rattle.reload.specs.SavedHistory.{SavedHistory, ReadBackHistory}
+use Rattle.reload.proofs.ReadBackLaws.{Expiries, performed}
+use Rattle.reload.proofs.KeepLaws.{Keeps, Lasting, Grows, keeps_empty, lasting_empty, keeps_call, lasting_call, keeps_load, lasting_load}
 
 -- ---- a list of calls and loads
 
@@ -60,6 +60,12 @@ keeps_run p (d ∷ ds) (lists.more h a) k =
     let q = keeps_doing p d h k in
     let r = keeps_run (after_doing p d) ds a q.0 in
     (r.0, record { contacts = λ id i. r.1.contacts id (q.1.contacts id i); cells = r.1.cells ∙ q.1.cells; rows = r.1.rows ∙ q.1.rows })
+
+lasting_run : (p : Post) (ds : List Doing) → All ProperDoing ds → Keeps p → Lasting p → Lasting (run_doings p ds)
+unfolding run_doings after_doing
+lasting_run p [] a k t = t
+lasting_run p (call l ∷ ds) (lists.more h a) k t = lasting_run (after p l) ds a (keeps_call p l h k) (lasting_call p l h k t)
+lasting_run p (load file ∷ ds) (lists.more h a) k t = lasting_run (after_load p file) ds a (keeps_load p file h k).0 (lasting_load p file h k t)
 
 -- ---- no more rows than cells
 
@@ -96,8 +102,8 @@ module _ (p : Post) (k : Keeps p) where
   fits : length p.state.carried ≤ cell_count (length p.state.carried_cells)
   fits = cells_enough p.state.carried p.state.tombstones p.state.next_slot p.state.carried_cells held
 
-  savable : All Above0 p.state.carried → Savable p.state
-  savable h = record {
+  savable : Expiries p.state.carried → Savable p.state
+  savable e = record {
     carried = k.sound.good.carried;
     tombstones = k.sound.good.tombstones;
     next_slot = k.sound.good.next_slot;
@@ -105,13 +111,13 @@ module _ (p : Post) (k : Keeps p) where
     fits = fits;
     tags_differ = k.kept.limits.tags_differ;
     quota = k.kept.limits.quota;
-    back = all_imp (λ r b. record { len = b.0; copies = b.1.copies; expiry = b.1.expiry }) p.state.carried (all_both p.state.carried k.lengths h);
+    back = all_imp (λ r b. record { len = b.0; expiry = b.1 }) p.state.carried (all_both p.state.carried k.lengths e);
   }
 
   loads_at : (t : State) → cell_count (length p.state.carried_cells) ≤ cell_count (length t.carried_cells) → p.state.tombstone_rows ≤ t.tombstone_rows
-      → All (λ (r : Carried). known t.contacts r.depositor ≡ true) p.state.carried → All Above0 p.state.carried → Reloaded t p.state
-  loads_at t c n d h =
-      reloaded p.state t (savable h) (record { depositors = d; cells = omega (arith, fits, c); rows = omega (arith, k.sound.good.tombstones_fit, n) })
+      → All (λ (r : Carried). known t.contacts r.depositor ≡ true) p.state.carried → Expiries p.state.carried → Reloaded t p.state
+  loads_at t c n d e =
+      reloaded p.state t (savable e) (record { depositors = d; cells = omega (arith, fits, c); rows = omega (arith, k.sound.good.tombstones_fit, n) })
 
 -- a save call that is not refused writes the file of the post's state
 saved_by : (p : Post) (session area : ℕ) → let l : Lent = record { session = session; call = Calls.save area } in is_refused (answer_to p l).answer ≡ false
@@ -121,11 +127,22 @@ saved_by p session area e =
     let s : State = state_for p (record { session = session; call = Calls.save area }) in
     ap (λ (o : Result). o.bytes) (performed (save_tests s area) (save_held s) e)
 
--- Of every list of calls and loads from empty holdings, refused ones among them: what the post saves then, it or another post that knows the
--- depositors loads, and has the same held rows and next slot, if copies and expiry of each carried row are above 0.
+-- where the rows' expiries are above 0, they are read back
+read_back_at : (p : Post) (ds : List Doing) → Keeps (run_doings p ds) → Expiries (run_doings p ds).state.carried → ReadBackHistory p ds
+read_back_at p ds k e = record {
+  rows = rows_read_back (run_doings p ds).state (savable (run_doings p ds) k e);
+  loads = λ t c n d. loads_at (run_doings p ds) k t c n d e;
+  loads_itself = λ rest a.
+      let g = (keeps_run (run_doings p ds) rest a k).1 in
+      loads_at (run_doings p ds) k (run_doings (run_doings p ds) rest).state (omega (arith, ap cell_count g.cells)) (omega (arith, g.rows))
+      (all_imp (λ r i. g.contacts r.depositor i) (run_doings p ds).state.carried k.kept.limits.depositors_known) e;
+}
+
+-- Of every list of calls and loads from empty holdings, refused ones among them, whatever the setting at the start.
 pub saved_history : (p : Post) → Empty p → p.state.courier.copies < 2 ^ 8 → (ds : List Doing) → All ProperDoing ds → SavedHistory p ds
 saved_history p start copies ds proper =
-    let k : Keeps (run_doings p ds) = (keeps_run p ds proper (keeps_empty p start copies)).0 in
+    let k₀ : Keeps p = keeps_empty p start copies in
+    let k : Keeps (run_doings p ds) = (keeps_run p ds proper k₀).0 in
     record {
       held_order = k.kept.held;
       own_order = k.kept.own;
@@ -133,15 +150,16 @@ saved_history p start copies ds proper =
       few = k.kept.limits.few;
       quota = k.kept.limits.quota;
       saves = saved_by (run_doings p ds);
-      loads = λ t c n d h. loads_at (run_doings p ds) k t c n d h;
-      refuses = λ t r m f.
-          unread_refused (run_doings p ds).state k.sound.good.carried k.sound.good.tombstones (fits (run_doings p ds) k) r m
-          (λ c e. f (record { copies = c; expiry = e })) t;
-      loads_itself = λ rest a h.
-          let g = (keeps_run (run_doings p ds) rest a k).1 in
-          loads_at (run_doings p ds) k (run_doings (run_doings p ds) rest).state (omega (arith, ap cell_count g.cells)) (omega (arith, g.rows))
-          (all_imp (λ r i. g.contacts r.depositor i) (run_doings p ds).state.carried k.kept.limits.depositors_known) h;
+      above_0 = λ t. (lasting_run p ds proper k₀ (lasting_empty p start t)).expiries;
+      read_back = read_back_at p ds k;
+      refuses = λ t r m z. unread_refused (run_doings p ds).state k.sound.good.carried k.sound.good.tombstones (fits (run_doings p ds) k) r m z t;
     }
+
+-- Of every list of calls and loads from empty holdings with a lifetime above 0, refused ones among them: what the post saves then, it or
+-- another post that knows the depositors loads, and has the same held rows and next slot, whatever rows it holds.
+pub read_back_history : (p : Post) → Empty p → p.state.courier.copies < 2 ^ 8 → 0 < p.state.courier.lifetime_min → (ds : List Doing) → All ProperDoing ds
+    → ReadBackHistory p ds
+read_back_history p start copies lifetime ds proper = let h = saved_history p start copies ds proper in h.read_back (h.above_0 lifetime)
 
 -- ---- the screen page
 

@@ -1,4 +1,5 @@
--- What every call and every load keeps: order and limits of the tables, rows that fit their fields, lengths that a courier carries.
+-- What every call and every load keeps: order and limits of the tables, rows that fit their fields, lengths that a courier carries; and
+-- expiries above 0, where the lifetime is.
 -- Assumes nothing.
 use Rattle.std.proofs.Common.{◌≡◌, ℕ, ◌/◌, ◌^◌, ◌<◌, ◌≤◌, min, true, List, [], length, sym, refl, subst, arith, ltb-false, Ok}
 use Rattle.octets.specs.Bytes.{Bytes}
@@ -18,7 +19,7 @@ use Rattle.history.specs.History.{Empty}
 use Rattle.history.proofs.ContactLaws.{Apart}
 use Rattle.history.proofs.LimitLaws.{Limits}
 use Rattle.history.proofs.KeptLaws.{Kept, kept_after}
-use Rattle.history.proofs.OfferSteps.{Sound, sound_after}
+use Rattle.history.proofs.OfferSteps.{Sound, sound_after, lifetime_after}
 use Rattle.history.proofs.HistoryLaws.{kept_empty, sound_empty}
 use Rattle.load_tests.specs.Tests.{next_in, carried_count, tombstone_count, load_tests, tested_as}
 use Rattle.load_tests.proofs.TestLaws.{fine_none}
@@ -26,7 +27,7 @@ use Rattle.load.specs.Load.{Rows, loaded, held_now, load_held_rows, load_step}
 use Rattle.load.proofs.CallLaws.{load_cases, fine_ten}
 use Rattle.load.proofs.OrderLaws.{fine_cells, loaded_ordered, loaded_order}
 use Rattle.reload.specs.Doings.{after_load}
-use Rattle.reload.proofs.LengthLaws.{Lengths, lengths_after}
+use Rattle.reload.proofs.ReadBackLaws.{Lengths, Expiries, lengths_after, expiries_after}
 use Rattle.reload.proofs.LoadedLaws.{Loaded, loaded_fine}
 
 -- the order and the limits of the tables, rows that fit their fields, and lengths that a courier carries
@@ -35,15 +36,26 @@ pub record Keeps (p : Post) : Type 0 where
   pub sound : Sound p
   pub lengths : Lengths p.state.carried
 
+-- a lifetime and expiries above 0
+pub record Lasting (p : Post) : Type 0 where
+  pub lifetime : 0 < p.state.courier.lifetime_min
+  pub expiries : Expiries p.state.carried
+
 -- ---- at the start
 
 pub keeps_empty : (p : Post) → Empty p → p.state.courier.copies < 2 ^ 8 → Keeps p
 keeps_empty p e c = record { kept = kept_empty p e; sound = sound_empty p e c; lengths = subst Lengths (sym e.carried) lists.none }
 
+pub lasting_empty : (p : Post) → Empty p → 0 < p.state.courier.lifetime_min → Lasting p
+lasting_empty p e t = record { lifetime = t; expiries = subst Expiries (sym e.carried) lists.none }
+
 -- ---- a call
 
 pub keeps_call : (p : Post) (l : Lent) → ProperCall l.call → Keeps p → Keeps (after p l)
 keeps_call p l h k = record { kept = kept_after p l k.kept; sound = sound_after p l k.sound h; lengths = lengths_after p l k.kept k.lengths }
+
+pub lasting_call : (p : Post) (l : Lent) → ProperCall l.call → Keeps p → Lasting p → Lasting (after p l)
+lasting_call p l h k t = record { lifetime = lifetime_after p l k.sound h t.lifetime; expiries = expiries_after p l k.kept t.lifetime t.expiries }
 
 -- ---- a load
 
@@ -121,7 +133,7 @@ module _ (p : Post) (file : List ℕ) (w : Bytes file) (k : Keeps p) where
         good = good_apply (with_session s no_session) (held_now (loaded s.carried_cells file) (next_in file)) k.sound.good (fits_loaded (with_session s no_session) file w e);
         sessions = k.sound.sessions;
       };
-      lengths = all_imp (λ r f. f.len) (loaded s.carried_cells file).carried (rows_loaded s file w e).fair;
+      lengths = all_imp (λ r f. f.back.len) (loaded s.carried_cells file).carried (rows_loaded s file w e).fair;
     },
     record { contacts = λ id h. h; cells = (loaded_ordered s.contacts s.carried_cells s.tombstone_rows file e w).sized; rows = refl },
   )
@@ -129,3 +141,9 @@ module _ (p : Post) (file : List ℕ) (w : Bytes file) (k : Keeps p) where
   pub keeps_load : Keeps (after_load p file) × Grows s (after_load p file).state
   unfolding after_load
   keeps_load = load_cases s file KeptBy refused_kept fine_kept
+
+  pub lasting_load : Lasting p → Lasting (after_load p file)
+  unfolding after_load load_held_rows apply
+  lasting_load t =
+      load_cases s file (λ (o : Result). Lasting (record { state = apply s o.change; sessions = p.sessions })) (λ why. t)
+      (λ e. record { lifetime = t.lifetime; expiries = all_imp (λ r f. f.back.expiry) (loaded s.carried_cells file).carried (rows_loaded s file w e).fair })

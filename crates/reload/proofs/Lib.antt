@@ -1,5 +1,6 @@
-pub mod LengthLaws
+pub mod ReadBackLaws
 pub mod LoadedLaws
 pub mod KeepLaws
 pub mod DoingLaws
 pub mod AreaLaws
+pub mod Examples

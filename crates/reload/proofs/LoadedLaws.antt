@@ -14,10 +14,10 @@ use Rattle.table.specs.Lists as lists
 use Rattle.table.proofs.ListLaws.{all_imp, count_append}
 use Rattle.table.proofs.FindLaws.{key_run}
 use Rattle.courier.specs.Courier.{carried_length, header_of}
-use Rattle.courier.proofs.Laws.{both, carried_fits, valid_parts}
-use Rattle.state.specs.Held.{Held, held_decode, held_read, carried_of, carried_in, tombstone_of, tombstone_in}
+use Rattle.courier.proofs.Laws.{both, carried_fits}
+use Rattle.state.specs.Held.{Held, reads_back, held_decode, held_read, carried_of, carried_in, tombstone_of, tombstone_in}
 use Rattle.state.specs.Held as held
-use Rattle.state.proofs.HeldLaws.{passes}
+use Rattle.state.proofs.HeldLaws.{reads_back_parts, passes}
 use Rattle.state.specs.declared.Carried.{Carried as HeldCarried}
 use Rattle.state.specs.declared.Tombstone.{Tombstone as HeldTombstone}
 use Rattle.rows.specs.declared.Contact.{Contact}
@@ -36,24 +36,25 @@ use Rattle.load_tests.specs.Records.{records, depositor_in, tag_in, is_carried, 
 use Rattle.load_tests.specs.Tests.{kind_tests, fails, unknown_depositor, tag_twice, many_of_one, next_in, carried_count, tombstone_count, load_tests, tested_as}
 use Rattle.load_tests.proofs.BlobLaws.{Decoded, decoded, kind_long}
 use Rattle.load.specs.Load.{insert_by, carried_slot, tombstone_slot, carried_row, tombstone_row, Rows, load_held, load_record, load_records, no_rows, loaded}
+use Rattle.load.specs.Reload.{ReadBack}
 use Rattle.load.proofs.LoadLaws.{some_kind, marked_carried, marked_tombstone, carried_alone, tombstone_alone}
 use Rattle.load.proofs.OrderLaws.{slot_of, Passed, fine_passed, Whole, records_whole, head_of, rest_of, rest_away, counted_apart, sorted_with, length_by, all_by, differ_by}
 use Rattle.load.proofs.FineLaws.{tag_read, depositor_read}
 
--- ---- the ciphertext of a blob that is taken has a length that a courier carries
+-- ---- a carried blob that is taken reads back: its ciphertext has a length that a courier carries, and its expiry is above 0
 
-abbrev LengthIn : Option Held → Type 0
-LengthIn None = Unit {0}
-LengthIn (Some (held.carried r ct)) = carried_length (length ct) ≡ true
-LengthIn (Some (held.tombstone t)) = Unit {0}
+abbrev ReadIn : Option Held → Type 0
+ReadIn None = Unit {0}
+ReadIn (Some (held.carried r ct)) = reads_back (length ct) r.header.expiry_min ≡ true
+ReadIn (Some (held.tombstone t)) = Unit {0}
 
-length_in : (b : List ℕ) → LengthIn (held_decode b)
+read_in : (b : List ℕ) → ReadIn (held_decode b)
 unfolding held_decode carried_in tombstone_in
-length_in b =
-    cond_both (eqb (get_or b 0 0) 0) _ _ LengthIn
-    (λ k. cond_both (leb 46 (length b) && passes b) _ _ LengthIn
-    (λ e. ap carried_length (length-drop 46 b) ∙ (valid_parts _ _ _ _ (both (leb 46 (length b)) (passes b) e).1).0) (λ e. tt))
-    (λ k. cond_both (eqb (get_or b 0 0) 1) _ _ LengthIn (λ t. cond_both (eqb (length b) 37) _ _ LengthIn (λ e. tt) (λ e. tt)) (λ t. tt))
+read_in b =
+    cond_both (eqb (get_or b 0 0) 0) _ _ ReadIn
+    (λ k. cond_both (leb 46 (length b) && passes b) _ _ ReadIn (λ e.
+    ap (λ (n : ℕ). reads_back n (carried_of b).header.expiry_min) (length-drop 46 b) ∙ (both (leb 46 (length b)) (passes b) e).1) (λ e. tt))
+    (λ k. cond_both (eqb (get_or b 0 0) 1) _ _ ReadIn (λ t. cond_both (eqb (length b) 37) _ _ ReadIn (λ e. tt) (λ e. tt)) (λ t. tt))
 
 -- ---- a record and its row
 
@@ -162,7 +163,7 @@ few_of_one rs w t id =
 
 pub record Fair (cs : List Contact) (r : Carried) : Type 0 where
   pub proper : ProperCarried r
-  pub len : carried_length r.len ≡ true
+  pub back : ReadBack r
   pub depositor : known cs r.depositor ≡ true
 
 abbrev Known : List Contact → List ℕ → Type 0
@@ -199,17 +200,20 @@ module _ {A : Type 0} (p : A → Bool) where
       )
 
 module _ (cs : List Contact) (nc nt : ℕ) (few : nc ≤ 256) (l : Rows) (b : List ℕ) (rs : List (List ℕ)) (L : Loaded cs nc nt l (b ∷ rs)) where
-  module _ (ct : List ℕ) (m : is_carried b ≡ true) (v : carried_length (length ct) ≡ true) (h : 46 ≤ length (drop 12 b)) where
+  module _ (ct : List ℕ) (m : is_carried b ≡ true) (v : reads_back (length ct) (carried_of (drop 12 b)).header.expiry_min ≡ true) (h : 46 ≤ length (drop 12 b)) where
     abbrev new : Carried
     new = carried_row (slot_of b) (length ct) (length l.carried) (carried_of (drop 12 b))
 
     one_more : count_by is_carried (b ∷ rs) ≡ suc (count_by is_carried rs)
     one_more = count_one is_carried b rs true m
 
+    parts : (carried_length (length ct) ≡ true) × (0 < (carried_of (drop 12 b)).header.expiry_min)
+    parts = reads_back_parts (length ct) (carried_of (drop 12 b)).header.expiry_min v
+
     fair_new : Fair cs new
     fair_new = record {
-      proper = proper_carried b (head_of L.taken) (length ct) (length l.carried) (omega (arith, (carried_fits (length ct) v).1)) (omega (arith, L.carried_count, few)) h;
-      len = v;
+      proper = proper_carried b (head_of L.taken) (length ct) (length l.carried) (omega (arith, (carried_fits (length ct) parts.0).1)) (omega (arith, L.carried_count, few)) h;
+      back = record { len = parts.0; expiry = parts.1 };
       depositor = ap (λ (i : ℕ). known cs (record { 0 = i })) (depositor_read b) ∙ head_of L.depositors m;
     }
 
@@ -271,17 +275,18 @@ module _ (cs : List Contact) (nc nt : ℕ) (few : nc ≤ 256) (l : Rows) (b : Li
 
   loaded_next : Loaded cs nc nt (load_record l b) rs
   unfolding load_record
-  loaded_next = go (held_decode (drop 12 b)) refl (decoded (drop 12 b)) (length_in (drop 12 b))
+  loaded_next = go (held_decode (drop 12 b)) refl (decoded (drop 12 b)) (read_in (drop 12 b))
     where
       kinds : fails kind_tests b ≡ false
       kinds = (head_of L.taken).1
 
-      go : (d : Option Held) → held_decode (drop 12 b) ≡ d → Decoded (drop 12 b) (held_decode (drop 12 b)) → LengthIn (held_decode (drop 12 b))
+      go : (d : Option Held) → held_decode (drop 12 b) ≡ d → Decoded (drop 12 b) (held_decode (drop 12 b)) → ReadIn (held_decode (drop 12 b))
           → Loaded cs nc nt (match_some d (λ (h : Held). load_held l (slot_of b) h) l) rs
       go None e D n = absurd (some_kind b kinds (ap held_read (sym e)))
       go (Some (held.carried r ct)) e D n =
           let v : Decoded (drop 12 b) (Some (held.carried r ct)) = subst (Decoded (drop 12 b)) e D in
-          let m : carried_length (length ct) ≡ true = subst LengthIn e n in
+          let m : reads_back (length ct) (carried_of (drop 12 b)).header.expiry_min ≡ true =
+          subst (λ (x : HeldCarried). reads_back (length ct) x.header.expiry_min ≡ true) v.0 (subst ReadIn e n) in
           subst (λ (x : HeldCarried). Loaded cs nc nt (load_held l (slot_of b) (held.carried x ct)) rs) (sym v.0)
           (carried_next ct (marked_carried b kinds (ap held_read (sym e))) m v.1.1.0)
       go (Some (held.tombstone t)) e D n =

@@ -11,7 +11,7 @@ abbrev pub Within : ℕ → ℕ → Type 0
 Within copies lifetime = (1 ≤ copies) × (copies ≤ 16) × (60 ≤ lifetime) × (lifetime ≤ 10080)
 
 module _ (enabled : Bool) (copies lifetime : ℕ) where
-  in_range_lem : in_range copies lifetime ≡ true → Within copies lifetime
+  pub in_range_lem : in_range copies lifetime ≡ true → Within copies lifetime
   unfolding in_range
   in_range_lem e =
       let d = both (leb 1 copies && leb copies 16 && leb 60 lifetime) (leb lifetime 10080) e in

@@ -1,19 +1,20 @@
 -- Laws of held rows: what is read of a blob, a row written and read back, a row read and written again.
 -- Assumes nothing.
-use Rattle.std.proofs.Common.{◌≡◌, ℕ, suc, ◌+◌, ◌-◌, ◌^◌, ◌<◌, ◌≤◌, Bool, true, false, cond, ◌&&◌, eqb, leb, List, [], ◌∷◌, ◌++◌, length, get_or, take, drop, sym, refl, ap, ◌∙◌, subst, ap₂, arith, length-append, length-drop, take-append-drop, take_all, drop_at, eq-eqb, ne_eqb, eqb-true, le-leb, leb-true, leb-false, true≢false}
+use Rattle.std.proofs.Common.{◌≡◌, ℕ, suc, ◌+◌, ◌-◌, ◌^◌, ◌<◌, ◌≤◌, Bool, true, false, cond, ◌&&◌, eqb, leb, List, [], ◌∷◌, ◌++◌, length, get_or, take, drop, sym, refl, ap, ◌∙◌, subst, ap₂, arith, length-append, length-drop, take-append-drop, take_all, drop_at, eq-eqb, ne_eqb, eqb-true, le-leb, lt-ltb, leb-true, ltb-true, leb-false, ltb, true≢false}
 use Rattle.std.specs.Prelude.{Some, None}
+use Rattle.std.proofs.lemmas.Bool.{false_from_ne_true}
 use Rattle.octets.specs.Bytes.{Bytes, part, num, be}
 use Rattle.octets.proofs.Parts.{part_left, part_whole, part_add, length_part}
 use Rattle.octets.proofs.Numbers.{length_be, num_be}
 use Rattle.courier.specs.declared.Header.{Header}
-use Rattle.courier.specs.Courier.{header_bytes, header_of, carried_length, envelope_decode, envelope_valid}
+use Rattle.courier.specs.Courier.{header_bytes, header_of, carried_length, envelope_decode}
 use Rattle.octets.proofs.Parts.{part_hit, part_one}
 use Rattle.octets.proofs.Numbers.{num_one, bytes_part, be_num_part}
 use Rattle.courier.proofs.HeaderLaws.{Proper, length_header, header_of_bytes, bytes_of_header, whole_header, not_whole}
-use Rattle.courier.proofs.Laws.{both, carried_fits, valid_parts, valid_if}
+use Rattle.courier.proofs.Laws.{both, carried_fits}
 use Rattle.state.specs.declared.Carried.{Carried}
 use Rattle.state.specs.declared.Tombstone.{Tombstone}
-use Rattle.state.specs.Held.{Held, carried, tombstone, carried_head, held_row, carried_of, carried_in, tombstone_of, tombstone_in, held_decode, held_read}
+use Rattle.state.specs.Held.{Held, carried, tombstone, carried_head, held_row, carried_of, reads_back, carried_in, tombstone_of, tombstone_in, held_decode, held_read}
 use Rattle.state.specs.declared.Reader.{Reader}
 use Rattle.state.specs.declared.Held.TheVariants as row
 use Rattle.state.specs.Reader.{take_at, byte_at, u32_at, u64_at, array_at, StandsAt, Steps}
@@ -22,11 +23,27 @@ use Rattle.state.proofs.RowLaws.{ProperTombstone}
 
 -- ---- what `decode` finds
 
--- does an envelope of a carried blob pass, as `decode` asks it
+-- a carried row is read back exactly if its ciphertext has a carried length and its expiry is above 0
+pub reads_back_parts : (len expiry : ℕ) → reads_back len expiry ≡ true → (carried_length len ≡ true) × (0 < expiry)
+unfolding reads_back
+reads_back_parts len expiry e = let f = both (carried_length len) (ltb 0 expiry) e in (f.0, ltb-true 0 expiry f.1)
+
+pub reads_back_if : (len expiry : ℕ) → carried_length len ≡ true → 0 < expiry → reads_back len expiry ≡ true
+unfolding reads_back
+reads_back_if len expiry e k = rw (e, lt-ltb 0 expiry k)
+
+pub reads_back_not : (len expiry : ℕ) → (carried_length len ≡ true → 0 < expiry → ⊥) → reads_back len expiry ≡ false
+reads_back_not len expiry k = false_from_ne_true (reads_back len expiry) (λ e. let p = reads_back_parts len expiry e in k p.0 p.1)
+
+-- does a carried blob pass, as `decode` asks it
 abbrev pub passes : List ℕ → Bool
-passes b = envelope_valid (length b - 46) (carried_of b).header.copies (carried_of b).header.expiry_min 0
+passes b = reads_back (length b - 46) (carried_of b).header.expiry_min
 
 module _ (b : List ℕ) where
+  pub carried_some : 46 ≤ length b → passes b ≡ true → carried_in b ≡ Some (carried (carried_of b) (drop 46 b))
+  unfolding carried_in
+  carried_some h e = rw (le-leb 46 (length b) h, e)
+
   pub carried_none : (46 ≤ length b → passes b ≡ true → ⊥) → carried_in b ≡ None
   unfolding carried_in
   carried_none k = go (leb 46 (length b) && passes b) refl
@@ -34,10 +51,6 @@ module _ (b : List ℕ) where
       go : (t : Bool) → (leb 46 (length b) && passes b) ≡ t → cond t (Some (carried (carried_of b) (drop 46 b))) None ≡ None
       go false e = refl
       go true e = let f = both (leb 46 (length b)) (passes b) e in absurd (k (leb-true 46 (length b) f.0) f.1)
-
-  pub carried_some : 46 ≤ length b → passes b ≡ true → carried_in b ≡ Some (carried (carried_of b) (drop 46 b))
-  unfolding carried_in
-  carried_some h e = rw (le-leb 46 (length b) h, e)
 
   pub tombstone_none : (length b ≡ 37 → ⊥) → tombstone_in b ≡ None
   unfolding tombstone_in
@@ -113,15 +126,15 @@ module _ (b : List ℕ) {r : Reader} where
     pub envelope_fits : 46 ≤ length r.blob.now
     envelope_fits = subst (λ (l : List ℕ). 46 ≤ length l) (sym p.blob) whole.0
 
-    module _ {t : Bool} (et : t ≡ envelope_valid (length r.blob.now - 46) h.copies h.expiry_min 0) where
+    module _ {t : Bool} (et : t ≡ reads_back (length r.blob.now - 46) h.expiry_min) where
       passed : passes b ≡ t
       unfolding carried_of
       passed =
-          sym (et ∙ ap (λ (l : List ℕ). envelope_valid (length l - 46) h.copies h.expiry_min 0) p.blob
-          ∙ ap (λ (x : Header). envelope_valid (length b - 46) x.copies x.expiry_min 0) whole.1)
+          sym (et ∙ ap (λ (l : List ℕ). reads_back (length l - 46) h.expiry_min) p.blob
+          ∙ ap (λ (x : Header). reads_back (length b - 46) x.expiry_min) whole.1)
 
-      pub envelope_invalid : t ≡ false → None ≡ held_read (carried_in b)
-      envelope_invalid f = ap held_read (sym (carried_none b (λ k v. absurd (true≢false (sym v ∙ passed ∙ f)))))
+      pub envelope_unread : t ≡ false → None ≡ held_read (carried_in b)
+      envelope_unread f = ap held_read (sym (carried_none b (λ k v. absurd (true≢false (sym v ∙ passed ∙ f)))))
 
       pub carried_read : {q : Reader} {d : ℕ} → t ≡ true → StandsAt q b 1 → Some d ≡ u64_at q.blob.now q.at
           → Some (row.Carried (record { depositor = record { 0 = d }; header = h })) ≡ held_read (carried_in b)
@@ -197,31 +210,29 @@ module _ (r : Carried) (p : ProperCarried r) where
     length_row = length-append (carried_head r) (take 2064 ct) ∙ ap (λ (k : ℕ). k + length (take 2064 ct)) length_head
 
     -- what is asked of a row that is read back is what is asked of the row
-    passes_row : passes (held_row (carried r ct)) ≡ envelope_valid (length (take 2064 ct)) r.header.copies r.header.expiry_min 0
+    passes_row : passes (held_row (carried r ct)) ≡ reads_back (length (take 2064 ct)) r.header.expiry_min
     unfolding held_row
     passes_row =
         let l : length (carried_head r ++ take 2064 ct) - 46 ≡ length (take 2064 ct) =
         omega (arith, length-append (carried_head r) (take 2064 ct), length_head) in
-        ap₂ (λ (n : ℕ) (q : Carried). envelope_valid n q.header.copies q.header.expiry_min 0) l (head_back (take 2064 ct))
+        ap₂ (λ (n : ℕ) (q : Carried). reads_back n q.header.expiry_min) l (head_back (take 2064 ct))
 
     decode_row : held_decode (held_row (carried r ct)) ≡ carried_in (held_row (carried r ct))
     unfolding held_row carried_head
     decode_row = kind_0 (held_row (carried r ct)) refl
 
-    -- A carried row written and read back is equal, if its copies and its expiry are above 0 and its ciphertext has a carried length.
-    pub carried_back : carried_length (length ct) ≡ true → 0 < r.header.copies → 0 < r.header.expiry_min
-        → held_decode (held_row (carried r ct)) ≡ Some (carried r ct)
+    -- A carried row written and read back is equal, if its expiry is above 0 and its ciphertext has a carried length; its copies are any.
+    pub carried_back : carried_length (length ct) ≡ true → 0 < r.header.expiry_min → held_decode (held_row (carried r ct)) ≡ Some (carried r ct)
     unfolding held_row
-    carried_back e h k =
+    carried_back e k =
         let t : take 2064 ct ≡ ct = take_all 2064 ct (carried_fits (length ct) e).1 in
         let v : passes (held_row (carried r ct)) ≡ true =
-        passes_row ∙ ap (λ (l : List ℕ). envelope_valid (length l) r.header.copies r.header.expiry_min 0) t
-        ∙ valid_if (length ct) r.header.copies r.header.expiry_min 0 e h k in
+        passes_row ∙ ap (λ (l : List ℕ). reads_back (length l) r.header.expiry_min) t ∙ reads_back_if (length ct) r.header.expiry_min e k in
         decode_row ∙ carried_some (held_row (carried r ct)) (omega (arith, length_row)) v
         ∙ ap₂ (λ (q : Carried) (l : List ℕ). Some (carried q l)) (head_back (take 2064 ct)) (drop_at (carried_head r) (take 2064 ct) 46 length_head ∙ t)
 
-    -- What would not be valid at minute 0 is written all the same, and refused by `decode`.
-    pub carried_refused : envelope_valid (length (take 2064 ct)) r.header.copies r.header.expiry_min 0 ≡ false
+    -- A row of another length, or of expiry 0, is written all the same, and refused by `decode`.
+    pub carried_refused : reads_back (length (take 2064 ct)) r.header.expiry_min ≡ false
         → held_decode (held_row (carried r ct)) ≡ None
     carried_refused e =
         decode_row ∙ carried_none (held_row (carried r ct)) (λ h v. let z : true ≡ false = sym v ∙ passes_row ∙ e in
@@ -276,7 +287,7 @@ module _ (b : List ℕ) (by : Bytes b) where
   again_carried : get_or b 0 0 ≡ 0 → 46 ≤ length b → passes b ≡ true → held_row (carried (carried_of b) (drop 46 b)) ≡ b
   unfolding held_row carried_head carried_of part
   again_carried k h v =
-      let f = carried_fits (length b - 46) (valid_parts (length b - 46) (carried_of b).header.copies (carried_of b).header.expiry_min 0 v).0 in
+      let f = carried_fits (length b - 46) (reads_back_parts (length b - 46) (carried_of b).header.expiry_min v).0 in
       let hd : (0 ∷ []) ++ be 8 (num (part b 1 8)) ++ header_bytes (header_of (part b 9 37)) ≡ part b 0 46 =
       (λ i. first 0 k (omega arith) i ++ be_num_part b 1 8 (omega arith) by i
       ++ bytes_of_header (part b 9 37) (bytes_part b 9 37 by) (length_part b 9 37 (omega arith)) i)

@@ -1,12 +1,12 @@
 -- Document 01's held rows: `Held::row` as bytes and into a blob area, and `Held::decode`.
 -- Assumes nothing.
-use Rattle.std.specs.Prelude.{◌≡◌, ℕ, ◌-◌, cond, ◌&&◌, List, [], ◌∷◌, ◌++◌, length, take, drop, ◌==◌, nat_le, nat_lt, slice_index, Result, Ok, Err, Some, None, Option}
+use Rattle.std.specs.Prelude.{◌≡◌, ℕ, ◌-◌, Bool, cond, ◌&&◌, List, [], ◌∷◌, ◌++◌, length, take, drop, ◌==◌, nat_le, nat_lt, slice_index, Result, Ok, Err, Some, None, Option}
 use Rattle.std.specs.Prelude
 use Rattle.octets.specs.Bytes.{part, splice, num, be}
 use Rattle.courier_core.specs.Core.{refusal_number}
 use Rattle.courier_core.specs.declared.Refusal.{Refusal}
 use Rattle.courier_core.specs.declared.Refusal.TheVariants as refusal
-use Rattle.courier.specs.Courier.{header_bytes, header_of, envelope_valid}
+use Rattle.courier.specs.Courier.{header_bytes, header_of, carried_length}
 use Rattle.state.specs.declared.Carried.{Carried}
 use Rattle.state.specs.declared.Tombstone.{Tombstone}
 use Rattle.state.specs.declared.Held.{Held as Row}
@@ -43,14 +43,17 @@ pub record RowWritten (row before : List ℕ) (said : Result ℕ Refusal) (after
   pub number : row_number said ≡ cond (nat_lt (length before) 2110) 1 0
   pub area : after ≡ row_area row before
 
--- what a carried blob spells after its kind, and whether `decode` takes it: as an envelope that is valid at minute 0
+-- what a carried blob spells after its kind
 unfoldable pub carried_of : List ℕ → Carried
 carried_of b = record { depositor = record { 0 = num (part b 1 8) }; header = header_of (part b 9 37) }
 
+-- Does a row of such a ciphertext length and expiry read back? Its copies may be any number: they may all have been handed on.
+unfoldable pub reads_back : ℕ → ℕ → Bool
+reads_back len expiry = carried_length len && nat_lt 0 expiry
+
 unfoldable pub carried_in : List ℕ → Option Held
 carried_in b =
-    cond (nat_le 46 (length b) && envelope_valid (length b - 46) (carried_of b).header.copies (carried_of b).header.expiry_min 0)
-    (Some (carried (carried_of b) (drop 46 b))) None
+    cond (nat_le 46 (length b) && reads_back (length b - 46) (carried_of b).header.expiry_min) (Some (carried (carried_of b) (drop 46 b))) None
 
 -- the same of a tombstone, which ends with its expiry
 unfoldable pub tombstone_of : List ℕ → Tombstone

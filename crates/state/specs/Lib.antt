@@ -1,3 +1,4 @@
 pub mod Config
 pub mod Reader
 pub mod Held
+pub mod Before

@@ -3,7 +3,7 @@
 
 ghost use Rattle.std.specs.Prelude.{◌≡◌, ◌+◌, min, length, nat_le};
 ghost use Rattle.state.specs.Config.{IsConfigured, config_default};
-ghost use Rattle.state.specs.Held.{carried, tombstone, carried_head, held_row, RowWritten, carried_in, tombstone_in, held_decode, held_read};
+ghost use Rattle.state.specs.Held.{carried, tombstone, carried_head, held_row, RowWritten, carried_in, tombstone_in, held_decode, held_read, reads_back};
 ghost use Rattle.state.specs.Reader.{byte_at, array_at, u32_at, u64_at, StandsAt, Steps};
 
 use courier::Header;
@@ -250,8 +250,17 @@ pub enum Held {
     Tombstone(Tombstone),
 }
 
+// Does a carried row of such a ciphertext length and expiry read back? Its copies may be any number, 0 too: they may all have been handed on.
+// `courier::valid`, which asks for one at least, is for an envelope that comes in.
+#[tactic(auto, unfolding(crate::specs::Held::reads_back))]
+fn reads_back(len: usize, expiry_min: u32) -> bool
+    ensures { result ≡ reads_back len expiry_min }
+{
+    courier::carried_length(len) && expiry_min > 0
+}
+
 // What follows the kind of a carried row: the depositor, and an envelope to the end.
-#[tactic(auto, using(crate::proofs::HeldLaws::standing, crate::proofs::HeldLaws::stepped, crate::proofs::HeldLaws::depositor_short, crate::proofs::HeldLaws::envelope_short, crate::proofs::HeldLaws::envelope_fits, crate::proofs::HeldLaws::envelope_invalid, crate::proofs::HeldLaws::carried_read))]
+#[tactic(auto, using(crate::proofs::HeldLaws::standing, crate::proofs::HeldLaws::stepped, crate::proofs::HeldLaws::depositor_short, crate::proofs::HeldLaws::envelope_short, crate::proofs::HeldLaws::envelope_fits, crate::proofs::HeldLaws::envelope_unread, crate::proofs::HeldLaws::carried_read))]
 fn decode_carried(mut r: Reader) -> Option<Held>
     requires { r.at ≡ 1 }
     ensures { result ≡ held_read (carried_in r.entry.blob.now) }
@@ -259,7 +268,7 @@ fn decode_carried(mut r: Reader) -> Option<Held>
     let depositor = ContactId(r.u64()?);
     let header = courier::decode(r.blob, r.at)?;
     let len = r.blob.len() - CARRIED_HEAD;
-    if !courier::valid(len, header.copies, header.expiry_min, 0) {
+    if !reads_back(len, header.expiry_min) {
         return None;
     }
     Some(Held::Carried(Carried { depositor, header }))

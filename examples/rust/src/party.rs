@@ -4,7 +4,7 @@ use crate::sealing::{message_key, open};
 use goosetable::{
     Action, Actions, BLOB, ContactId, Custody, Envelope, Exchange, HeldRow, OwnMessage, OwnRow,
     PAGE, Post, Received, Record, SavedFile, Secret, Sizes, Slot, Tag, Verification, Window,
-    delivered, stored_row,
+    delivered, row_read,
 };
 use std::{collections::BTreeMap, error::Error};
 
@@ -206,7 +206,7 @@ impl Store {
     fn put(&mut self, name: &str, slot: Slot, post: &Post) -> Result<(), Problem> {
         let mut area = [0; BLOB];
         let blob = post.row_blob(slot, &mut area).ok_or("no row to store")?;
-        let row = match stored_row(blob).ok_or("a blob that is no row")? {
+        let row = match row_read(blob).ok_or("a blob that is no row")? {
             HeldRow::Carried { envelope, .. } => {
                 format!("an envelope, copies {}", envelope.header.copies)
             }

@@ -20,6 +20,8 @@ struct Counts {
     counted: usize,
     /// Lists that ended because they left the comparison with the source (request Four).
     left: usize,
+    /// Row reads and loads in which the sources read carried rows of 0 copies with 1 copy, 0 put back (request Five).
+    read_with_1: usize,
 }
 
 /// The answer of the source as it lies less the lost fetches, each in its place, and how many they are. Its count stays.
@@ -108,6 +110,7 @@ impl Three {
                 counts.left += 1;
                 return Ok(false);
             }
+            counts.read_with_1 += usize::from(seen.by == By::ReadWith1);
             let wanted = wanted(old, seen, counts)?;
             wanted.hold_against("the source with the line", seen.answer, seen.after)?;
             let answer = caught("the other post", || other.perform(call))?;
@@ -175,8 +178,15 @@ pub fn main(arguments: &[String]) -> Option<ExitCode> {
     }
     println!(
         "request Two: {} calls, {} of them not the source's; {} answers changed, {} fetches lost, {} of these answers count rows; \
-         all else is the same; {} lists ended where a row turned with 1,024 tombstones or more there",
-        counts.calls, counts.not_in_source, counts.changed, counts.lost, counts.counted, counts.left
+         all else is the same; {} lists ended where a row turned with 1,024 tombstones or more there; in {} row reads and loads the sources \
+         read rows of 0 copies with 1",
+        counts.calls,
+        counts.not_in_source,
+        counts.changed,
+        counts.lost,
+        counts.counted,
+        counts.left,
+        counts.read_with_1
     );
     if counts.lost == 0 {
         println!("request Two: no fetch was lost, so that nothing was shown");

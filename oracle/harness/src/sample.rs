@@ -4,7 +4,7 @@ use crate::compare::judge::Seen;
 use crate::compare::maker;
 use crate::compare::pair::{self, Pair};
 use crate::generate::{Generator, Profile};
-use crate::tally::{COUNTS, Corner, LOST_FETCHES, TURNS};
+use crate::tally::{COUNTS, Corner, LOST_FETCHES, READ_BACK, TURNS};
 use post::{Action, Answer, Areas, Call, Dir, Envelope, Held, Kind, NewOwn, Reply, Sizes, State, Verification, said};
 use std::collections::BTreeSet;
 use std::io::Write;
@@ -410,9 +410,9 @@ fn page_of(expected: &Expected) -> &'static str {
     }
 }
 
-/// The corners of requests Two, Three and Four, which the sample must have.
+/// The corners of requests Two to Five, which the sample must have.
 fn corners() -> impl Iterator<Item = &'static Corner> {
-    LOST_FETCHES.iter().chain(COUNTS).chain(TURNS)
+    LOST_FETCHES.iter().chain(COUNTS).chain(TURNS).chain(READ_BACK)
 }
 
 /// What the sample must have: every call, number, answer, custody code, reply and action, and the corners.

@@ -1,6 +1,6 @@
 //! How areas that no call left are read. The cells of ciphertexts: which of them count, what lies in one, and how a reply names one.
 //! Held rows of one slot: which comes first on a page. Tombstone rows: which of them stop a fetch, and which goes where one is added. Rows to
-//! offer: which of them are counted.
+//! offer: which of them are counted. Carried rows with 0 copies: whether they are saved, and loaded.
 
 use crate::rows::{Carried, Tombstone, table};
 
@@ -19,7 +19,8 @@ pub fn cell_count(cells: &[u8]) -> usize {
 
 /// Which cells are read as cells that count: the first so many, for each thing that is read of them; whether a tombstone comes before
 /// a carried row of its slot; whether a tombstone behind the count stops a fetch; and, of the rows for which the tombstones are searched,
-/// whether one behind the count is counted, and which by their cell; and where a tombstone is added, which goes (`Room`).
+/// whether one behind the count is counted, and which by their cell; where a tombstone is added, which goes (`Room`); and what becomes of carried
+/// rows with 0 copies in a file (`Empty`).
 #[derive(Debug, Clone, Copy, PartialEq, Eq)]
 pub struct Reading {
     ciphertexts: u16,
@@ -30,6 +31,7 @@ pub struct Reading {
     searches_behind_the_count: bool,
     searched_cells: u16,
     room: Room,
+    empty: Empty,
 }
 
 /// How room is made for a tombstone. It is right that the rows which fit are held against the limit, that the first row of least expiry goes,
@@ -41,6 +43,14 @@ enum Room {
     LowestSlotGoes,
     LastMinuteStays,
     SortedBySlot,
+}
+
+/// What becomes of a carried row with 0 copies in a file. It is right that it is saved and loaded as any other.
+#[derive(Debug, Clone, Copy, PartialEq, Eq)]
+enum Empty {
+    Right,
+    NotSaved,
+    NotLoaded,
 }
 
 fn replied(count: u16, first: u16, cell: u16) -> u16 {
@@ -64,11 +74,8 @@ impl Reading {
             searches_behind_the_count: false,
             searched_cells: u16::MAX,
             room: Room::Right,
+            empty: Empty::Right,
         }
-    }
-
-    const fn with(room: Room) -> Self {
-        Self { room, ..Self::RIGHT }
     }
 
     /// The number that is held against the limit of tombstones: of the rows that fit.
@@ -96,6 +103,16 @@ impl Reading {
         if self.room == Room::SortedBySlot {
             rows.sort_by_key(|row| row.slot);
         }
+    }
+
+    /// A carried row is saved whatever its copies.
+    pub(crate) fn is_saved(self, copies: u8) -> bool {
+        copies > 0 || self.empty != Empty::NotSaved
+    }
+
+    /// A file is loaded whatever the copies of its carried rows.
+    pub(crate) fn is_loaded(self, copies: u8) -> bool {
+        copies > 0 || self.empty != Empty::NotLoaded
     }
 
     /// The ciphertext of a row: what lies inside its cell and the area, if the cell counts.
@@ -151,10 +168,12 @@ pub enum Wrong {
     LowestSlotGoes,
     LastMinuteStays,
     TurnSorts,
+    SavesNoRowWithoutCopies,
+    RefusesRowsWithoutCopies,
 }
 
 impl Wrong {
-    pub const ALL: [Self; 13] = [
+    pub const ALL: [Self; 15] = [
         Self::Counts255Cells,
         Self::Counts257Cells,
         Self::AnyCellHasACiphertext,
@@ -168,6 +187,8 @@ impl Wrong {
         Self::LowestSlotGoes,
         Self::LastMinuteStays,
         Self::TurnSorts,
+        Self::SavesNoRowWithoutCopies,
+        Self::RefusesRowsWithoutCopies,
     ];
 
     pub fn says(self) -> &'static str {
@@ -185,46 +206,31 @@ impl Wrong {
             Self::LowestSlotGoes => "of equal expiries the lowest slot goes, wherever it stands",
             Self::LastMinuteStays => "none goes where all expiries are 2^32 - 1",
             Self::TurnSorts => "the tombstones are sorted by slot where a row turns",
+            Self::SavesNoRowWithoutCopies => "a save leaves out carried rows with 0 copies",
+            Self::RefusesRowsWithoutCopies => "a load refuses a file with a carried row of 0 copies",
         }
     }
 
     pub fn reading(self) -> Reading {
-        let (right, any) = (Reading::RIGHT, u16::MAX);
+        let mut reading = Reading::RIGHT;
+        let any = u16::MAX;
         match self {
-            Self::Counts255Cells => Reading::of(COUNTED - 1),
-            Self::Counts257Cells => Reading::of(COUNTED + 1),
-            Self::AnyCellHasACiphertext => Reading {
-                ciphertexts: any,
-                ..right
-            },
-            Self::OwnReplyNamesAnyCell => Reading {
-                own_replies: any,
-                ..right
-            },
-            Self::CarriedReplyWraps => Reading {
-                carried_replies: any,
-                ..right
-            },
-            Self::TombstoneFirst => Reading {
-                tombstones_first: true,
-                ..right
-            },
-            Self::StopsBehindTheCount => Reading {
-                stops_behind_the_count: true,
-                ..right
-            },
-            Self::SearchesBehindTheCount => Reading {
-                searches_behind_the_count: true,
-                ..right
-            },
-            Self::SearchesForCountedCells => Reading {
-                searched_cells: COUNTED - 1,
-                ..right
-            },
-            Self::LimitOfTheSaidCount => Reading::with(Room::LimitOfTheSaidCount),
-            Self::LowestSlotGoes => Reading::with(Room::LowestSlotGoes),
-            Self::LastMinuteStays => Reading::with(Room::LastMinuteStays),
-            Self::TurnSorts => Reading::with(Room::SortedBySlot),
+            Self::Counts255Cells => reading = Reading::of(COUNTED - 1),
+            Self::Counts257Cells => reading = Reading::of(COUNTED + 1),
+            Self::AnyCellHasACiphertext => reading.ciphertexts = any,
+            Self::OwnReplyNamesAnyCell => reading.own_replies = any,
+            Self::CarriedReplyWraps => reading.carried_replies = any,
+            Self::TombstoneFirst => reading.tombstones_first = true,
+            Self::StopsBehindTheCount => reading.stops_behind_the_count = true,
+            Self::SearchesBehindTheCount => reading.searches_behind_the_count = true,
+            Self::SearchesForCountedCells => reading.searched_cells = COUNTED - 1,
+            Self::LimitOfTheSaidCount => reading.room = Room::LimitOfTheSaidCount,
+            Self::LowestSlotGoes => reading.room = Room::LowestSlotGoes,
+            Self::LastMinuteStays => reading.room = Room::LastMinuteStays,
+            Self::TurnSorts => reading.room = Room::SortedBySlot,
+            Self::SavesNoRowWithoutCopies => reading.empty = Empty::NotSaved,
+            Self::RefusesRowsWithoutCopies => reading.empty = Empty::NotLoaded,
         }
+        reading
     }
 }

@@ -59,6 +59,7 @@ impl Laid {
     }
 }
 
+/// What a blob says. Of a carried row the length of the ciphertext and the expiry decide whether it is read; how many copies are left does not.
 pub fn read(blob: &[u8]) -> Option<Held> {
     match blob.first()? {
         0 if blob.len() >= HEAD => {
@@ -70,7 +71,7 @@ pub fn read(blob: &[u8]) -> Option<Held> {
                 ciphertext: Bytes::from(&blob[HEAD..]),
             };
             let sized = [48, 80, 144, 272, 528, 1_040, 2_064].contains(&envelope.ciphertext.len());
-            (sized && envelope.copies > 0 && envelope.expiry > 0).then(|| Held::Carried {
+            (sized && envelope.expiry > 0).then(|| Held::Carried {
                 depositor: u64::from_be_bytes(array(blob, 1)),
                 envelope,
             })
@@ -126,7 +127,9 @@ impl State<'_> {
         let slot = |record: &FileRecord| match record {
             FileRecord::Row(_, slot, _) | FileRecord::NextSlot(slot) => *slot,
         };
-        let carried = self.carried.iter().take(cells).map(|row| self.carried_record(row));
+        let saved = |row: &&Carried| self.reading.is_saved(row.copies);
+        let carried = self.carried.iter().take(cells).filter(saved);
+        let carried = carried.map(|row| self.carried_record(row));
         let tombstones = self.tombstones.iter().map(|row| self.tombstone_record(row));
         let mut records = merged(carried.collect(), tombstones.collect(), slot);
         records.insert(0, FileRecord::NextSlot(self.next_slot));
@@ -151,7 +154,7 @@ impl State<'_> {
                 return None;
             }
             if let Held::Carried { depositor, envelope } = &held
-                && (!tags.insert(envelope.tag) || !self.knows(*depositor))
+                && (!tags.insert(envelope.tag) || !self.knows(*depositor) || !self.reading.is_loaded(envelope.copies))
             {
                 return None;
             }

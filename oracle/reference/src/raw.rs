@@ -152,20 +152,44 @@ pub fn restore(rows: &[(u64, Vec<u8>)], next_contact: u64) -> Option<Restored> {
     Some((held, device.next_slot))
 }
 
-/// `Held::decode`, which `Device::restore` calls. Restore also asks that the depositor is below a count;
-/// the highest number can't be, so it is read as 0 and put back.
+/// Where the blob of a carried row has its copies; its ciphertext comes next.
+const COPIES: usize = 45;
+
+/// Whether a blob is that of a carried row with 0 copies, whatever else it says.
+pub fn is_without_copies(blob: &[u8]) -> bool {
+    blob.first() == Some(&0) && blob.get(COPIES) == Some(&0)
+}
+
+fn restored_row(blob: Vec<u8>) -> Option<post::Held> {
+    let (rows, _) = restore(&[(0, blob)], u64::MAX)?;
+    rows.into_iter().next().map(|(_, held)| held)
+}
+
+/// `Held::decode`, which `Device::restore` calls. Two numbers of a carried row are read as others and put back. Restore also asks that the depositor
+/// is below a count; the highest number can't be, so it is read as 0. And the source reads no row with 0 copies, so they are read as 1 (request Five).
 pub fn read_row(blob: &[u8]) -> Option<post::Held> {
-    let mut blob = blob.to_vec();
+    let mut lent = blob.to_vec();
     let highest = blob.first() == Some(&0) && blob.get(1..9) == Some(&[0xff; 8]);
     if highest {
-        blob[1..9].fill(0);
+        lent[1..9].fill(0);
     }
-    let (rows, _) = restore(&[(0, blob)], u64::MAX)?;
-    let (_, mut held) = rows.into_iter().next()?;
-    if let post::Held::Carried { depositor, .. } = &mut held
-        && highest
-    {
-        *depositor = ContactId(u64::MAX).0;
+    let without_copies = is_without_copies(blob);
+    if without_copies {
+        assert_eq!(
+            restored_row(lent.clone()),
+            None,
+            "the source by itself reads no row with 0 copies"
+        );
+        lent[COPIES] = 1;
+    }
+    let mut held = restored_row(lent)?;
+    if let post::Held::Carried { depositor, envelope } = &mut held {
+        if highest {
+            *depositor = ContactId(u64::MAX).0;
+        }
+        if without_copies {
+            envelope.copies = 0;
+        }
     }
     Some(held)
 }

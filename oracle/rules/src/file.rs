@@ -23,32 +23,42 @@ fn blob_of(held: &Held) -> Vec<u8> {
     }
 }
 
+fn is_without_copies(row: &HeldRow) -> bool {
+    matches!(&row.held, Held::Carried { envelope, .. } if envelope.copies == 0)
+}
+
 impl Rules {
     pub(crate) fn row_blob(&self, slot: u64) -> Answer {
         let row = self.state.held.iter().find(|row| row.slot == slot);
         Answer::Blob(row.map(|row| blob_of(&row.held).into()))
     }
 
-    /// A carried row is read only with one of seven lengths, copies and expiry above 0.
+    /// A carried row is read only with one of seven lengths and an expiry above 0. Its copies may be any number, 0 too.
+    fn read_carried(&self, blob: &[u8]) -> Option<Held> {
+        let mut envelope = Envelope {
+            tag: array(blob, 9),
+            commitment: array(blob, 25),
+            expiry: u32::from_be_bytes(array(blob, 41)),
+            copies: blob[45],
+            ciphertext: Bytes::from(&blob[HEAD..]),
+        };
+        let empty = envelope.copies == 0;
+        let sized = CARRIED_SIZES.contains(&envelope.ciphertext.len());
+        let least = self.unless(Wrong::RefusesRowsOfExpiry1, 1, 2);
+        let any = self.is(Wrong::ReadsRowsOfExpiry0) || (empty && self.is(Wrong::ReadsAnyExpiryWithoutCopies));
+        if empty && self.is(Wrong::ReadsNoCopiesAsOne) {
+            envelope.copies = 1;
+        }
+        let refused = empty && self.is(Wrong::RefusesRowsWithoutCopies);
+        (sized && !refused && (any || envelope.expiry >= least)).then(|| Held::Carried {
+            depositor: u64::from_be_bytes(array(blob, 1)),
+            envelope,
+        })
+    }
+
     pub(crate) fn read_row(&self, blob: &[u8]) -> Option<Held> {
         match blob.first()? {
-            0 if blob.len() >= HEAD => {
-                let envelope = Envelope {
-                    tag: array(blob, 9),
-                    commitment: array(blob, 25),
-                    expiry: u32::from_be_bytes(array(blob, 41)),
-                    copies: blob[45],
-                    ciphertext: Bytes::from(&blob[HEAD..]),
-                };
-                let sized = CARRIED_SIZES.contains(&envelope.ciphertext.len());
-                let copies = envelope.copies > 0 || self.is(Wrong::ReadsRowsWithoutCopies);
-                let least = self.unless(Wrong::RefusesRowsOfExpiry1, 1, 2);
-                let expiry = envelope.expiry >= least || self.is(Wrong::ReadsRowsOfExpiry0);
-                (sized && copies && expiry).then(|| Held::Carried {
-                    depositor: u64::from_be_bytes(array(blob, 1)),
-                    envelope,
-                })
-            }
+            0 if blob.len() >= HEAD => self.read_carried(blob),
             1 if blob.len() == TOMBSTONE || (blob.len() > TOMBSTONE && self.is(Wrong::ReadsLongTombstones)) => {
                 let expiry = u32::from_be_bytes(array(blob, 33));
                 let dead = expiry == 0 && self.is(Wrong::TombstoneNeedsAnExpiry);
@@ -65,6 +75,9 @@ impl Rules {
     pub(crate) fn save(&self) -> Answer {
         let mut file = [b"HN".to_vec(), self.state.next_slot.to_be_bytes().to_vec()].concat();
         for row in &self.state.held {
+            if self.is(Wrong::SavesNoRowsWithoutCopies) && is_without_copies(row) {
+                continue;
+            }
             let blob = blob_of(&row.held);
             file.extend_from_slice(if row.held.is_carried() { b"HC" } else { b"HT" });
             file.extend_from_slice(&row.slot.to_be_bytes());
@@ -130,7 +143,13 @@ impl Rules {
         let depositors = carried.iter().enumerate().all(|(place, (id, envelope))| {
             let from_same = carried.iter().filter(|(other, _)| other == id).count();
             let twice = carried[..place].iter().any(|(_, other)| other.tag == envelope.tag);
-            (self.knows(*id) || self.is(Wrong::LoadsUnknownDepositors))
+            let empty = envelope.copies == 0;
+            let lax = self.is(Wrong::LoadsUnknownDepositors)
+                || (empty && self.is(Wrong::LoadsUnknownDepositorsWithoutCopies));
+            let is_of_its_tag = |row: &HeldRow| !row.held.is_carried() && *row.held.tag() == envelope.tag;
+            let tombstoned = empty && self.is(Wrong::RefusesTombstonedWithoutCopies) && rows.iter().any(is_of_its_tag);
+            (self.knows(*id) || lax)
+                && !tombstoned
                 && from_same <= self.unless(Wrong::Loads33ForOne, 32, 33)
                 && (!twice || self.is(Wrong::LoadsATagTwice))
         });
@@ -152,6 +171,9 @@ impl Rules {
                 .iter()
                 .filter(|row| !rows.iter().any(|new| new.slot == row.slot));
             rows.extend(kept.cloned().collect::<Vec<_>>());
+        }
+        if self.is(Wrong::LoadLeavesOutRowsWithoutCopies) {
+            rows.retain(|row| !is_without_copies(row));
         }
         rows.sort_by_key(|row| row.slot);
         rows.dedup_by_key(|row| row.slot);

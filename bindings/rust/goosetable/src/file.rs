@@ -1,10 +1,7 @@
 //! A saved file made of stored rows.
 #![forbid(unsafe_code)]
 
-use crate::{
-    HeldRow, Post, Refusal, Slot, row_read,
-    rows::{Fields, mend},
-};
+use crate::{HeldRow, Post, Refusal, Slot, row_read, rows::Fields};
 use alloc::vec::Vec;
 use core::{error, fmt};
 
@@ -33,10 +30,8 @@ impl fmt::Display for NoRow {
 impl error::Error for NoRow {}
 
 /// The saved file of the rows that a host stored by [actions](crate::Action), for [`Post::load`](crate::Post::load)
-/// after power was lost. Rows are pushed by rising slot, which is the quickest to load.
-///
-/// In this version a carried row whose copies are all handed on is stored with 0 copies, and a file with such a row
-/// is refused. Here it gets 1: a row with 1 copy is never offered either, and nothing is lost.
+/// after power was lost. Rows are pushed by rising slot, which is the quickest to load, and stand in it as they were
+/// stored.
 ///
 /// ```
 /// use goosetable::{Post, SavedFile, Sizes, Slot};
@@ -70,14 +65,12 @@ impl SavedFile {
         SavedFile { bytes }
     }
 
-    /// The file that [`Post::save`](crate::Post::save) wrote, with 1 copy for each carried row that has 0. None if it
-    /// does not begin with the next slot; whatever else is wrong with it stays, for a load to refuse.
+    /// The file that [`Post::save`](crate::Post::save) wrote, as it is. None if it does not begin with the next slot;
+    /// whatever else is wrong with it stays, for a load to refuse.
     pub fn from_bytes(saved: &[u8]) -> Option<SavedFile> {
         let (head, _) = saved.split_at_checked(FILE_HEAD)?;
-        head.starts_with(NEXT).then(|| {
-            let mut bytes = saved.to_vec();
-            mend_records(&mut bytes[FILE_HEAD..]);
-            SavedFile { bytes }
+        head.starts_with(NEXT).then(|| SavedFile {
+            bytes: saved.to_vec(),
         })
     }
 
@@ -90,9 +83,7 @@ impl SavedFile {
     /// The blob is of no row: it is left out.
     pub fn push(&mut self, slot: Slot, blob: &[u8]) -> Result<(), NoRow> {
         self.set_next_slot(Slot(slot.0.saturating_add(1)));
-        let mut blob = blob.to_vec();
-        mend(&mut blob);
-        let mark = match row_read(&blob).ok_or(NoRow)? {
+        let mark = match row_read(blob).ok_or(NoRow)? {
             HeldRow::Carried { .. } => CARRIED,
             HeldRow::Tombstone { .. } => TOMBSTONE,
         };
@@ -182,17 +173,6 @@ fn load_one_by_one(
         }
     }
     Ok(left_out)
-}
-
-/// Gives every carried row with 0 copies 1, as far as there are whole records.
-fn mend_records(mut records: &mut [u8]) {
-    while let Some((head, rest)) = records.split_at_mut_checked(RECORD_HEAD) {
-        let Some((blob, rest)) = rest.split_at_mut_checked(blob_len(head)) else {
-            return;
-        };
-        mend(blob);
-        records = rest;
-    }
 }
 
 impl Default for SavedFile {

@@ -28,7 +28,9 @@ pub use goosetable_sys::{
 pub use keys::{commitment, delivered, route_tag};
 pub use post::{Counts, OwnMessage, Post};
 pub use refusal::Refusal;
-pub use rows::{BadTag, CarriedRow, Contact, HeldRow, OwnRow, Tombstone, row_read, stored_row};
+#[allow(deprecated)]
+pub use rows::stored_row;
+pub use rows::{BadTag, CarriedRow, Contact, HeldRow, OwnRow, Tombstone, row_read};
 pub use values::{
     Commitment, ContactId, Custody, Direction, Envelope, Header, MessageKey, Prefix, Secret,
     Setting, Slot, Tag, Verification,

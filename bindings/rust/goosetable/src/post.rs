@@ -508,8 +508,7 @@ impl Post {
     }
 
     /// Writes all held rows and the next slot to an area of [`file_size`](Post::file_size) bytes; the file
-    /// is the front of it. Contacts, own rows and the setting are not in it. A carried row with 0 copies is, and makes
-    /// [`load`](Post::load) refuse the file: [`SavedFile::from_bytes`](crate::SavedFile::from_bytes) mends that.
+    /// is the front of it. Contacts, own rows and the setting are not in it.
     ///
     /// In areas that no call left there may be more carried rows than cells that count: the first so many are saved,
     /// and the others are not.

@@ -6,11 +6,8 @@ use crate::{
     Verification, calls,
 };
 use goosetable_sys::{
-    BAD_TAG_ROW, BLOB, CARRIED_HEAD, CARRIED_ROW, CONTACT_ROW, OWN_ROW, Row, TOMBSTONE_ROW,
+    BAD_TAG_ROW, CARRIED_HEAD, CARRIED_ROW, CONTACT_ROW, OWN_ROW, Row, TOMBSTONE_ROW,
 };
-
-/// Where the blob of a carried row has its copies.
-const COPIES: usize = CARRIED_HEAD - 1;
 
 /// What is left of a row of fixed size, read field by field.
 pub(crate) struct Fields<'a>(pub(crate) &'a [u8]);
@@ -294,29 +291,16 @@ pub enum HeldRow<'a> {
     },
 }
 
-/// The held row of a blob, if it is one. In this version a carried row with 0 copies is stored and not read:
-/// [`stored_row`] has it, and [`SavedFile::push`](crate::SavedFile::push) takes it.
+/// The held row of a blob, if it is one: a carried row has any number of copies, 0 where all were handed on, an
+/// expiry above 0, and a ciphertext of a length that couriers carry.
 pub fn row_read(blob: &[u8]) -> Option<HeldRow<'_>> {
     held_row(calls::row_read(blob), blob)
 }
 
-/// The held row of a blob that was stored, a carried row with 0 copies too.
+/// The same as [`row_read`]. Before version 0.2.5 it alone read a carried row with 0 copies.
+#[deprecated(since = "0.2.5", note = "`row_read` reads every stored row")]
 pub fn stored_row(blob: &[u8]) -> Option<HeldRow<'_>> {
-    row_read(blob).or_else(|| {
-        let mut area = [0; BLOB];
-        let mended = area.get_mut(..blob.len())?;
-        mended.copy_from_slice(blob);
-        mend(mended);
-        let row = calls::row_read(mended);
-        held_row(Row { copies: 0, ..row }, blob)
-    })
-}
-
-/// Gives a carried row with 0 copies 1.
-pub(crate) fn mend(blob: &mut [u8]) {
-    if row_read(blob).is_none() && blob.get(COPIES) == Some(&0) {
-        blob[COPIES] = 1;
-    }
+    row_read(blob)
 }
 
 /// The held row of a blob, as the library read it.

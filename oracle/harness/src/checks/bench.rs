@@ -4,10 +4,12 @@ use crate::compare::judge::Judge;
 use crate::compare::maker;
 use crate::compare::pair::difference;
 use post::{
-    Action, Answer, Areas, Call, Custody, Dir, Envelope, Held, NewOwn, Post, Prefix, Reply, Sizes, State, Tag,
+    Action, Answer, Areas, Bytes, Call, Custody, Dir, Envelope, Held, NewOwn, Post, Prefix, Reply, Sizes, State, Tag,
     Verification, WindowRow, encode_window,
 };
 use reference::{Raw, Source};
+use rules::{Rules, Wrong};
+use std::cell::Cell;
 
 /// A verified, an unverified and a compromised contact.
 pub const VERIFIED: u64 = 5;
@@ -146,19 +148,41 @@ const OTHERS: &[&str] = if cfg!(feature = "library") {
     &["rules"]
 };
 
+thread_local! {
+    /// A wrong variant of the second statement in place of the others.
+    static WRONG: Cell<Option<Wrong>> = const { Cell::new(None) };
+}
+
+/// What comes of checks whose posts stand beside this wrong variant and no other.
+pub fn beside<T>(wrong: Wrong, run: impl FnOnce() -> T) -> T {
+    WRONG.set(Some(wrong));
+    let result = run();
+    WRONG.set(None);
+    result
+}
+
+fn others(sizes: Sizes) -> Vec<(&'static str, Box<dyn Post>)> {
+    match WRONG.get() {
+        Some(wrong) => vec![("wrong", Box::new(Rules::wrong_in(sizes, wrong)))],
+        None => OTHERS
+            .iter()
+            .map(|name| (*name, maker(name).expect("a party")(sizes)))
+            .collect(),
+    }
+}
+
 /// A post under document 01's refusals, with the three contacts and minute 10. Every call is put to the others too.
 pub struct Bench {
     judge: Judge,
-    others: Vec<Box<dyn Post>>,
+    others: Vec<(&'static str, Box<dyn Post>)>,
     pub areas: Areas,
 }
 
 impl Bench {
     pub fn new(sizes: Sizes) -> Self {
-        let other = |name: &&str| maker(name).expect("a party")(sizes);
         let mut bench = Self {
             judge: Judge::new(sizes),
-            others: OTHERS.iter().map(other).collect(),
+            others: others(sizes),
             areas: Areas::enough(&sizes),
         };
         for (id, verification) in [
@@ -175,7 +199,7 @@ impl Bench {
     pub fn call(&mut self, call: Call) -> Answer {
         let others = &mut self.others;
         let taken = self.judge.take(&call, |seen| {
-            for (name, other) in OTHERS.iter().zip(others) {
+            for (name, other) in others {
                 difference(&mut **other, seen).map_err(|what| format!("{name}: {what}"))?;
             }
             Ok(seen.answer.clone())
@@ -193,6 +217,15 @@ impl Bench {
         match self.call(call) {
             Answer::Refused(number) => Some(number),
             _ => None,
+        }
+    }
+
+    /// The file of what is held.
+    pub fn save(&mut self) -> Bytes {
+        let areas = self.areas;
+        match self.call(Call::Save { areas }) {
+            Answer::Saved(file) => file,
+            answer => panic!("a save was answered by {answer:?}"),
         }
     }
 

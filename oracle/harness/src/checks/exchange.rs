@@ -223,10 +223,8 @@ fn three_peers() -> Outcome {
         same(copies(&source, tag(1)), Some(left))?;
     }
     let blob = source.blob(0).ok_or("the row is there")?;
-    holds(
-        blob[45] == 0 && reference::raw::read_row(&blob).is_none(),
-        "written with 0 copies, and not read",
-    )
+    same(blob[45], 0)?;
+    same(reference::raw::read_row(&blob), Some(carried(VERIFIED, tag(1), 100, 0)))
 }
 
 fn fetch_takes_nothing() -> Outcome {

@@ -4,7 +4,10 @@ use super::bench::*;
 use super::{Check, Outcome, holds, same};
 use crate::drill::{Stopped, run};
 use crate::generate::logs::record;
-use post::{Answer, Areas, Call, Custody, Dir, Post, Prefix, Reply, Sizes, Tag, Verification, WindowRow};
+use lent::Model;
+use post::{
+    Answer, Areas, Call, Custody, Dir, Envelope, Held, Post, Prefix, Reply, Sizes, Tag, Verification, WindowRow,
+};
 use reference::{Reference, raw};
 use rules::Rules;
 
@@ -296,6 +299,52 @@ fn row_blobs() -> Outcome {
     Ok(())
 }
 
+/// The two statements that read carried blobs beside the source.
+struct Readers {
+    second: Rules,
+    third: Model,
+}
+
+impl Readers {
+    /// The length and the expiry decide whether it is read; copies do not.
+    fn check(&mut self, length: usize, expiry: u32, copies: u8) -> Outcome {
+        let held = Held::Carried {
+            depositor: u64::MAX,
+            envelope: Envelope {
+                ciphertext: vec![7; length].into(),
+                ..envelope(tag(1), expiry, copies)
+            },
+        };
+        let blob = raw::blob(&held);
+        let sized = INNER.iter().any(|inner| inner + 16 == length);
+        let want = Answer::Row((sized && expiry > 0).then_some(held));
+        same(&Answer::Row(raw::read_row(&blob)), &want)?;
+        let call = Call::RowRead { blob: blob.into() };
+        same(&self.second.perform(&call), &want)?;
+        same(&self.third.perform(&call), &want)
+    }
+}
+
+fn carried_blobs() -> Outcome {
+    let mut readers = Readers {
+        second: Rules::new(Sizes::DRILL),
+        third: Model::new(Sizes::DRILL),
+    };
+    for length in 0..=2_100 {
+        for copies in [0, 1] {
+            readers.check(length, 1, copies)?;
+        }
+    }
+    for inner in INNER {
+        for copies in 0..=255 {
+            for expiry in [0, 1, u32::MAX] {
+                readers.check(inner + 16, expiry, copies)?;
+            }
+        }
+    }
+    Ok(())
+}
+
 /// Every mark: ten are known.
 fn marks() -> Outcome {
     let known = [b"CK", b"PT", b"SS", b"EN", b"IV", b"FE", b"CU", b"TB", b"MT", b"CF"];
@@ -407,6 +456,7 @@ pub const CHECKS: &[Check] = &[
     ("all seconds of an hour", seconds),
     ("all counts of skipped keys, all places near a chain's end", windows),
     ("row blobs of all lengths to 2,200", row_blobs),
+    ("carried row blobs with all copies", carried_blobs),
     ("all marks of a log", marks),
     ("all body lengths of a log", body_lengths),
     ("all bytes as verification, code, enabled", bytes_in_records),

@@ -5,7 +5,7 @@ use super::{Check, Outcome, same};
 use post::{Answer, Bytes, Call, FileRecord, Held, Sizes, encode_file};
 use reference::raw;
 
-const ROOMY: Sizes = Sizes {
+pub const ROOMY: Sizes = Sizes {
     carried_cells: 256,
     own_cells: 4,
     tombstone_rows: 4,
@@ -13,25 +13,25 @@ const ROOMY: Sizes = Sizes {
     exchanges: 1,
 };
 
-fn next(slot: u64) -> FileRecord {
+pub fn next(slot: u64) -> FileRecord {
     FileRecord::NextSlot(slot)
 }
 
-fn row(slot: u64, held: &Held) -> FileRecord {
+pub fn row(slot: u64, held: &Held) -> FileRecord {
     FileRecord::Row(if held.is_carried() { b'C' } else { b'T' }, slot, raw::blob(held))
 }
 
-fn numbered(depositor: u64, number: u64) -> Held {
+pub fn numbered(depositor: u64, number: u64) -> Held {
     let mut tag = tag(0xc0);
     tag[8..].copy_from_slice(&number.to_be_bytes());
     carried(depositor, tag, 100, 4)
 }
 
-fn loads(sizes: Sizes, file: Bytes) -> Answer {
+pub fn loads(sizes: Sizes, file: Bytes) -> Answer {
     Bench::new(sizes).call(Call::Load { file })
 }
 
-fn refused(records: &[FileRecord]) -> Outcome {
+pub fn refused(records: &[FileRecord]) -> Outcome {
     same(loads(ROOMY, encode_file(records)), Answer::Refused(8))
 }
 
@@ -40,10 +40,7 @@ fn saved_bytes() -> Outcome {
     bench.deposit(1);
     let stored = bench.stored_call(2);
     bench.call(stored);
-    let areas = bench.areas;
-    let Answer::Saved(file) = bench.call(Call::Save { areas }) else {
-        return Err("no file".into());
-    };
+    let file = bench.save();
     same(file.len(), 10 + 12 + 94 + 12 + 37)?;
     same(&file[..10], b"HN\0\0\0\0\0\0\0\x02")?;
     same(&file[10..22], b"HC\0\0\0\0\0\0\0\0\0\x5e")?;
@@ -98,9 +95,7 @@ fn wrong_lengths() -> Outcome {
 }
 
 fn wrong_blobs() -> Outcome {
-    for held in [carried(VERIFIED, tag(1), 100, 0), carried(VERIFIED, tag(1), 0, 4)] {
-        refused(&[next(5), row(1, &held)])?;
-    }
+    refused(&[next(5), row(1, &carried(VERIFIED, tag(1), 0, 4))])?;
     let mut long = raw::blob(&tombstone(tag(1), 3));
     long.push(0);
     refused(&[next(5), FileRecord::Row(b'T', 1, long)])?;
@@ -126,7 +121,7 @@ fn slots_tags_depositors() -> Outcome {
     same(loads(ROOMY, last), Answer::nothing())
 }
 
-fn depositor_rows(depositor: u64, count: u64) -> Vec<FileRecord> {
+pub fn depositor_rows(depositor: u64, count: u64) -> Vec<FileRecord> {
     let rows = (0..count).map(|number| row(number, &numbered(depositor, number)));
     [next(5000)].into_iter().chain(rows).collect()
 }
@@ -206,40 +201,6 @@ fn what_a_load_replaces() -> Outcome {
     same(bench.state(), before)
 }
 
-/// Two exchanges hand over the last copies; the post then refuses its own file.
-fn own_file_refused() -> Outcome {
-    let mut bench = Bench::new(Sizes { exchanges: 2, ..ROOMY });
-    let file = encode_file(&[next(5), row(1, &carried(VERIFIED, tag(1), 100, 2))]);
-    bench.call(Call::Load { file });
-    let areas = bench.areas;
-    let peer = VERIFIED;
-    for exchange in 0..2 {
-        bench.call(Call::FreshExchange { areas, exchange, peer });
-        bench.call(Call::Inventory {
-            areas,
-            window: Vec::new().into(),
-            exchange,
-            peer,
-            prefixes: Vec::new().into(),
-        });
-    }
-    for exchange in 0..2 {
-        bench.call(Call::CustodyCode {
-            areas,
-            exchange,
-            peer,
-            tag: tag(1),
-            code: post::Custody::Accepted,
-        });
-    }
-    let copies = bench.state().carried().next().map(|(_, _, envelope)| envelope.copies);
-    same(copies, Some(0))?;
-    let Answer::Saved(file) = bench.call(Call::Save { areas }) else {
-        return Err("no file".into());
-    };
-    same(bench.call(Call::Load { file }), Answer::Refused(8))
-}
-
 pub const CHECKS: &[Check] = &[
     ("the bytes of a saved file, and the file loaded again", saved_bytes),
     ("rows may stand in any order", any_order),
@@ -254,5 +215,4 @@ pub const CHECKS: &[Check] = &[
         "a load replaces held rows and next slot, nothing else",
         what_a_load_replaces,
     ),
-    ("a row without copies is saved, and its file refused", own_file_refused),
 ];

@@ -290,9 +290,7 @@ fn what_comes_after() -> Outcome {
         "a page",
     )?;
     let before = bench.state();
-    let Answer::Saved(file) = bench.call(Call::Save { areas }) else {
-        return Err("no file".into());
-    };
+    let file = bench.save();
     same(bench.call(Call::Load { file }), Answer::nothing())?;
     holds(bench.state() == before, "the file has the post as it was")?;
     bench.call(Call::Clock { seconds: 50 * 60 });

@@ -144,9 +144,7 @@ fn reported_and_loaded() -> Outcome {
         expiry: 100,
     });
     same(ended(&mut bench, &[prefix(1)], &[tag(1)]), vec![tomb(tag(1))])?;
-    let Answer::Saved(file) = bench.call(Call::Save { areas: bench.areas }) else {
-        return Err("no file".into());
-    };
+    let file = bench.save();
     let mut bench = opened(ROOM);
     bench.call(Call::Load { file });
     same(ended(&mut bench, &[prefix(1)], &[tag(1)]), vec![tomb(tag(1))])

@@ -1,7 +1,8 @@
-//! Document 01's corners put to the source one by one, each under a name, and those of requests Two and Three; those of document 02's pages and of
-//! rows that turn at 1,024 tombstones, which the source has not, to the second and the third statement.
+//! Document 01's corners put to the source one by one, each under a name, and those of requests Two, Three and Five; those of document 02's pages and
+//! of rows that turn at 1,024 tombstones, which the source has not, to the second and the third statement.
 
 mod bench;
+mod copies;
 mod counts;
 mod custody;
 mod differences;
@@ -19,6 +20,7 @@ mod searched;
 mod tombs;
 
 use crate::compare::pair::caught;
+use rules::Wrong;
 
 /// What a check found wrong, if anything.
 pub type Outcome = Result<(), String>;
@@ -44,7 +46,7 @@ pub fn stops<T>(what: impl FnOnce() -> T) -> Outcome {
     }
 }
 
-const GROUPS: [(&str, &[Check]); 14] = [
+const GROUPS: [(&str, &[Check]); 15] = [
     ("chain, courier, state, kdf, data", plain::CHECKS),
     ("custody", custody::CHECKS),
     ("exchange", exchange::CHECKS),
@@ -53,6 +55,7 @@ const GROUPS: [(&str, &[Check]); 14] = [
     ("tombs and maintenance", tombs::CHECKS),
     ("rows that turn at 1,024", limit::CHECKS),
     ("rows and files", files::CHECKS),
+    ("rows with 0 copies", copies::CHECKS),
     ("screen pages", pages::CHECKS),
     ("refusals", refusals::CHECKS),
     ("drill", drills::CHECKS),
@@ -61,13 +64,24 @@ const GROUPS: [(&str, &[Check]); 14] = [
     ("short inputs, all of them", exhaustive::CHECKS),
 ];
 
+fn outcome(check: &fn() -> Outcome) -> Outcome {
+    caught("check", check).and_then(|outcome| outcome)
+}
+
+/// The check of rows with 0 copies that a wrong variant of the second statement fails.
+pub fn told(wrong: Wrong) -> Option<&'static str> {
+    let mut checks = copies::CHECKS.iter();
+    let failed = bench::beside(wrong, || checks.find(|(_, check)| outcome(check).is_err()));
+    failed.map(|(name, _)| *name)
+}
+
 /// Runs every check; the number that passed and the number that failed.
 pub fn run() -> (usize, usize) {
     let (mut passed, mut failed) = (0, 0);
     for (group, checks) in GROUPS {
         let before = failed;
         for (name, check) in checks {
-            match caught("check", check).and_then(|outcome| outcome) {
+            match outcome(check) {
                 Ok(()) => passed += 1,
                 Err(what) => {
                     failed += 1;

@@ -73,12 +73,12 @@ fn settings() -> Outcome {
 }
 
 fn written_and_read() -> Outcome {
-    let row = carried(5, tag(1), 100, 1);
-    same(raw::read_row(&raw::blob(&row)), Some(row))?;
-    let none_left = carried(5, tag(1), 100, 0);
-    same(raw::blob(&none_left).len(), 94)?;
-    same(raw::read_row(&raw::blob(&none_left)), None)?;
-    same(raw::read_row(&raw::blob(&carried(5, tag(1), 0, 1))), None)?;
+    for copies in [0, 1, 255] {
+        let row = carried(5, tag(1), 100, copies);
+        same(raw::blob(&row).len(), 94)?;
+        same(raw::read_row(&raw::blob(&row)), Some(row))?;
+        same(raw::read_row(&raw::blob(&carried(5, tag(1), 0, copies))), None)?;
+    }
     let row = tombstone(tag(2), 0);
     same(raw::blob(&row).len(), 37)?;
     same(raw::read_row(&raw::blob(&row)), Some(row))
@@ -143,7 +143,7 @@ pub const CHECKS: &[Check] = &[
     ("expiry 11 and 10 at minute 10; 0 copies", expiry_after_now),
     ("settings at their ends", settings),
     (
-        "rows are read back where copies and expiry are above 0",
+        "carried rows are read back where the expiry is above 0, whatever their copies",
         written_and_read,
     ),
     ("the bytes of a row blob", row_layout),

@@ -132,9 +132,33 @@ fn long_rows() -> Outcome {
     Ok(())
 }
 
+/// The source reads no row with 0 copies, and starts from none that it wrote; the product reads it (request Five).
+fn rows_without_copies() -> Outcome {
+    let (held, beside) = (carried(VERIFIED, tag(1), 100, 0), tombstone(tag(2), 3));
+    let blobs = [&held, &beside].map(raw::blob);
+    let rows = [(1, blobs[0].clone()), (2, blobs[1].clone())];
+    same(raw::restore(&rows, 8), None)?;
+    let mut source = lived();
+    source.put_held(4, &held);
+    holds(source.restarted().is_none(), "the source refuses its own row")?;
+    let mut bench = Bench::new(SIZES);
+    let blob = blobs[0].clone().into();
+    same(bench.call(Call::RowRead { blob }), Answer::Row(Some(held.clone())))?;
+    let [first, second] = blobs;
+    let file = encode_file(&[
+        FileRecord::NextSlot(3),
+        FileRecord::Row(b'C', 1, first),
+        FileRecord::Row(b'T', 2, second),
+    ]);
+    same(bench.call(Call::Load { file }), Answer::nothing())?;
+    let rows = [(1, held), (2, beside)].map(|(slot, held)| HeldRow { slot, held });
+    same(bench.state().held, rows.to_vec())
+}
+
 pub const CHECKS: &[Check] = &[
     ("restore takes what a load refuses", restore_is_no_load),
     ("what restore makes anew", restore_begins_anew),
     ("what a load leaves", load_leaves_the_rest),
     ("rows over 2,064 bytes", long_rows),
+    ("carried rows with 0 copies: request Five", rows_without_copies),
 ];

@@ -1,10 +1,11 @@
 //! Who says what a call must answer: the source. Where it has no such call, and where a list has left the comparison with it, the second
-//! and the third statement, which must agree.
+//! and the third statement, which must agree. A carried row with 0 copies, which the source reads with 1 copy, 0 put back, leaves the
+//! comparison by itself.
 
 use super::pair::{caught, state_difference};
 use lent::Model;
-use post::{Action, Answer, Call, Kind, Post, Sizes, State};
-use reference::{Passed, Reference};
+use post::{Action, Answer, Call, FileRecord, Kind, Post, Sizes, State};
+use reference::{Passed, Reference, raw};
 use rules::Rules;
 use std::borrow::Cow;
 use std::fmt;
@@ -13,6 +14,8 @@ use std::fmt;
 #[derive(Debug, Clone, Copy, PartialEq, Eq, PartialOrd, Ord)]
 pub enum By {
     Source,
+    /// The source, which read a carried row of 0 copies with 1 copy, 0 put back (request Five).
+    ReadWith1,
     /// The statements, from what the source holds: it has no such call.
     Statements,
     /// The statements: with this call the list leaves the comparison with the source.
@@ -25,6 +28,7 @@ impl fmt::Display for By {
     fn fmt(&self, out: &mut fmt::Formatter<'_>) -> fmt::Result {
         out.write_str(match self {
             Self::Source => "the source",
+            Self::ReadWith1 => "the source, which read rows of 0 copies with 1",
             Self::Statements => "the second statement, and the third agreed: the source has no such call",
             Self::Leaving => "the second statement, and the third agreed: here the list leaves the source",
             Self::Left => "the second statement, and the third agreed: the list has left the source",
@@ -48,6 +52,22 @@ fn must_change_nothing(call: &Call, answer: &Answer) -> bool {
     let failed = call.kind() == Kind::Failed;
     matches!(answer, Answer::Refused(_) | Answer::Page(_))
         || (matches!(answer, Answer::Done { malformed: true, .. }) && !failed)
+}
+
+/// How many carried rows of 0 copies the source read for an answer with 1 copy, 0 put back (request Five): those of a row read, and of a file
+/// that is not refused by 8. Else the answer is the source's own.
+pub fn read_with_1(call: &Call, answer: &Answer) -> usize {
+    match (call, answer) {
+        (Call::RowRead { blob }, Answer::Row(Some(_))) => usize::from(raw::is_without_copies(blob)),
+        (Call::Load { .. }, Answer::Refused(8)) => 0,
+        (Call::Load { file }, _) => {
+            let records = post::records(file).expect("read");
+            let is_one =
+                |record: &FileRecord| matches!(record, FileRecord::Row(_, _, blob) if raw::is_without_copies(blob));
+            records.into_iter().filter(is_one).count()
+        }
+        _ => 0,
+    }
 }
 
 /// The second and the third statement, from one state on.
@@ -160,7 +180,13 @@ impl Judge {
             return Ok((By::Leaving, self.leave(call, &passed)?));
         }
         if call.kind().is_in_source() {
-            return Ok((By::Source, taken("reference", &mut **reference, call)?));
+            let taken = taken("reference", &mut **reference, call)?;
+            let by = if read_with_1(call, &taken.0) > 0 {
+                By::ReadWith1
+            } else {
+                By::Source
+            };
+            return Ok((by, taken));
         }
         // Made anew for each such call; the source is not asked.
         Ok((By::Statements, Statements::holding(self.sizes, &self.state).take(call)?))

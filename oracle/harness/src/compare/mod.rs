@@ -183,6 +183,10 @@ pub fn main(arguments: &[String]) -> ExitCode {
     println!(
         "{left} of {lists} lists left the comparison with the source: a row turned with 1,024 tombstones or more there"
     );
+    let [reads, loads, rows] = tally.without_copies();
+    println!(
+        "{rows} carried rows left the comparison with the source, in {reads} row reads and {loads} loads: they have 0 copies, and the source read them with 1"
+    );
     println!(
         "compared with the source: {} calls; with the second statement, and the third agreed: {} pages, {} calls from where their list left on",
         tally.judged(By::Source),

@@ -1,6 +1,7 @@
 //! The library, or a wrong statement, on areas that no call left. The third statement says what must come out.
 
 mod cells;
+mod copies;
 mod counts;
 mod fetches;
 mod pages;
@@ -82,12 +83,14 @@ impl Party for library::Library {
 /// A difference: the number of the call in its list, and what it is.
 type Found = (usize, String);
 
-/// Of any kind; some go after a row whose cell does not count, some after a tombstoned window tag, and some after a row that turns.
+/// Of any kind; some go after a row whose cell does not count, some after a tombstoned window tag, some after a row that turns, and some after
+/// one with 0 copies.
 fn next_call(generator: &mut Generator, areas: &Areas, rng: &mut Rng) -> Call {
     let wanted = match rng.below(10) {
         0 => cells::call_after_one(areas, &generator.sizes, rng),
         1..3 => fetches::call_after_one(areas, &generator.sizes, rng),
         3..5 if generator.profile.fills_tombstones() => turns::call_after_one(areas, &generator.sizes, rng),
+        5 => copies::call_after_one(areas, &generator.sizes, rng),
         _ => None,
     };
     if let Some(call) = wanted {
@@ -107,6 +110,9 @@ fn run_list(seed: u64, count: usize, make: &Maker, reach: &mut Reach) -> Result<
             spoil::spoil(&mut areas, &mut rng);
             if generator.profile.fills_tombstones() && rng.percent(40) {
                 turns::spoil(&mut areas, &mut rng);
+            }
+            if rng.percent(20) {
+                copies::spoil(&mut areas, &mut rng);
             }
             let mut party = make(areas, rng.percent(50));
             if rng.percent(2) {

@@ -1,6 +1,6 @@
 //! What a run on garbage areas met, and how often.
 
-use super::{cells, counts, fetches, pages, turns};
+use super::{cells, copies, counts, fetches, pages, turns};
 use lent::{Areas, Outcome, Said};
 use post::Call;
 use std::collections::BTreeMap;
@@ -12,6 +12,7 @@ pub struct Reach {
     fetches: BTreeMap<&'static str, u64>,
     counts: BTreeMap<&'static str, u64>,
     turns: BTreeMap<&'static str, u64>,
+    copies: BTreeMap<&'static str, u64>,
 }
 
 /// What a call meets in the areas before it.
@@ -19,6 +20,7 @@ pub struct Before {
     fetches: Met,
     counts: Option<counts::Before>,
     turns: Option<turns::Before>,
+    copies: Option<copies::Before>,
 }
 
 impl Before {
@@ -27,6 +29,7 @@ impl Before {
             fetches: fetches::met(areas, call),
             counts: counts::Before::of(areas, call),
             turns: turns::Before::of(areas, call),
+            copies: copies::Before::of(areas, call),
         }
     }
 }
@@ -52,6 +55,9 @@ impl Reach {
         if let Some(turns) = before.turns {
             add(&mut self.turns, turns.met(outcome));
         }
+        if let Some(copies) = before.copies {
+            add(&mut self.copies, copies.met(areas, call, outcome));
+        }
         add(&mut self.cells, cells::met(areas, call, outcome));
         add(&mut self.pages, pages::met(call, outcome));
     }
@@ -60,13 +66,14 @@ impl Reach {
 #[cfg(feature = "library")]
 impl Reach {
     /// A group of counts: what they are of, the names that should be reached, the counts.
-    fn groups(&self) -> [(&'static str, &'static [&'static str], &BTreeMap<&'static str, u64>); 5] {
+    fn groups(&self) -> [(&'static str, &'static [&'static str], &BTreeMap<&'static str, u64>); 6] {
         [
             ("rows whose cell does not count", &cells::ALL, &self.cells),
             ("pages", &pages::ALL, &self.pages),
             ("fetches and tombstones", &fetches::ALL, &self.fetches),
             ("counts", &counts::ALL, &self.counts),
             ("rows that turn", &turns::ALL, &self.turns),
+            ("rows with 0 copies", &copies::ALL, &self.copies),
         ]
     }
 

@@ -116,6 +116,9 @@ impl Generator {
             let each = self.rng.pick(&[16, 32, 32, 32, 33]);
             self.held_rows(state, carried, tombstones, each)
         };
+        if self.rng.percent(20) {
+            self.hand_on(&mut rows);
+        }
         let next = self.next_after(&rows);
         if self.rng.percent(30) {
             let count = rows.len();
@@ -133,6 +136,21 @@ impl Generator {
             self.damage_bytes(&mut file);
         }
         file
+    }
+
+    /// Some of the carried rows have handed on their last copy; now and then one of these has expiry 0.
+    fn hand_on(&mut self, rows: &mut [FileRecord]) {
+        let mut dead = self.rng.percent(6);
+        for record in rows {
+            if let FileRecord::Row(b'C', _, blob) = record
+                && self.rng.percent(40)
+            {
+                blob[45] = 0;
+                if std::mem::take(&mut dead) {
+                    blob[41..45].fill(0);
+                }
+            }
+        }
     }
 
     fn damage_records(&mut self, state: &State, rows: &mut Vec<FileRecord>) {
@@ -215,8 +233,18 @@ impl Generator {
                 blob.pop();
             }
             3 if !blob.is_empty() => blob[0] = self.rng.pick(&[0, 1, 2, 255]),
-            4 if carried => blob[45] = 0,
-            5 if carried => blob[41..45].copy_from_slice(&self.rng.pick(&[[0; 4], [0, 0, 0, 1]])),
+            4 if carried => {
+                blob[45] = 0;
+                if self.rng.percent(20) {
+                    blob.push(0);
+                }
+            }
+            5 if carried => {
+                blob[41..45].copy_from_slice(&self.rng.pick(&[[0; 4], [0, 0, 0, 1]]));
+                if self.rng.percent(30) {
+                    blob[45] = 0;
+                }
+            }
             6 if carried => blob[1..9].fill(0xff),
             7 if blob.len() == 37 => blob[33..37].fill(0),
             _ => blob.extend_from_slice(&[0; 16]),

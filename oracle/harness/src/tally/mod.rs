@@ -1,5 +1,6 @@
 //! What a run reached: every answer, refusal number, custody code, reply and action, and the corners by name.
 
+mod copies;
 mod envelopes;
 mod exchanges;
 mod lost;
@@ -8,11 +9,12 @@ mod rows;
 mod searched;
 mod turned;
 
+pub use copies::READ_BACK;
 pub use lost::CORNERS as LOST_FETCHES;
 pub use searched::CORNERS as COUNTS;
 pub use turned::TURNS;
 
-use crate::compare::judge::{By, Seen};
+use crate::compare::judge::{By, Seen, read_with_1};
 use post::{Action, Answer, Custody, Kind, Reply, said};
 use std::collections::BTreeMap;
 use std::fmt;
@@ -25,6 +27,10 @@ pub struct Tally {
     judged: BTreeMap<By, u64>,
     /// Calls from where their list left the comparison with the source on. Of these nothing else counts but the corners of request Four and pages.
     left: BTreeMap<Kind, u64>,
+    /// Row reads and loads in which the source read carried rows of 0 copies with 1 copy, 0 put back, and how many such rows. Of them nothing else
+    /// counts but the corners of request Five.
+    read_with_1: BTreeMap<Kind, u64>,
+    rows_read_with_1: usize,
     calls: BTreeMap<Kind, u64>,
     refused: BTreeMap<(Kind, u8), u64>,
     answers: BTreeMap<(Kind, &'static str), u64>,
@@ -88,11 +94,17 @@ const OF_THE_SOURCE: [&[Corner]; 6] = [
     pages::CORNERS,
 ];
 
-/// Request Four's.
-const OF_TURNS: [&[Corner]; 3] = [turned::TURNS, turned::SELDOM, turned::AFTER];
+/// Requests Four's and Five's.
+const BESIDE_THE_SOURCE: [&[Corner]; 5] = [
+    turned::TURNS,
+    turned::SELDOM,
+    turned::AFTER,
+    copies::READ_BACK,
+    copies::SELDOM,
+];
 
 fn all_corners() -> impl Iterator<Item = &'static Corner> {
-    OF_THE_SOURCE.into_iter().chain(OF_TURNS).flatten()
+    OF_THE_SOURCE.into_iter().chain(BESIDE_THE_SOURCE).flatten()
 }
 
 fn add<K: Ord>(counts: &mut BTreeMap<K, u64>, key: K) {
@@ -103,9 +115,13 @@ impl Tally {
     pub fn count(&mut self, seen: &Seen) {
         let kind = seen.call.kind();
         add(&mut self.judged, seen.by);
-        self.corners(&OF_TURNS, seen);
+        self.corners(&BESIDE_THE_SOURCE, seen);
         if matches!(seen.by, By::Leaving | By::Left) {
             add(&mut self.left, kind);
+        }
+        if seen.by == By::ReadWith1 {
+            add(&mut self.read_with_1, kind);
+            self.rows_read_with_1 += read_with_1(seen.call, seen.answer);
         }
         if seen.by != By::Source && kind.is_in_source() {
             return;
@@ -155,6 +171,12 @@ impl Tally {
     /// How many calls this judge had.
     pub fn judged(&self, by: By) -> u64 {
         self.judged.get(&by).copied().unwrap_or_default()
+    }
+
+    /// How many row reads and loads had carried rows with 0 copies, and how many such rows they had.
+    pub fn without_copies(&self) -> [u64; 3] {
+        let calls = |kind| self.read_with_1.get(&kind).copied().unwrap_or_default();
+        [calls(Kind::RowRead), calls(Kind::Load), self.rows_read_with_1 as u64]
     }
 
     /// What a whole run should have reached and did not.

@@ -1,6 +1,7 @@
 //! Corners of tombs, tombstones, maintenance, files and the window call.
 
 use super::Corner;
+use super::copies::has_one;
 use crate::TOMBSTONE_LIMIT;
 use crate::compare::judge::Seen;
 use post::{Action, Answer, Call, ChainRow, Held, Kind, Reply, State, Tag};
@@ -113,17 +114,13 @@ fn window(seen: &Seen, holds: impl Fn(usize, &[ChainRow], usize) -> bool) -> boo
     }
 }
 
-fn no_copies(state: &State) -> bool {
-    state.carried().any(|(_, _, envelope)| envelope.copies == 0)
-}
-
 pub const CORNERS: &[Corner] = &[
     ("a carried row turns", turned),
     ("a carried row turns with the last slot used", |seen| {
         turned(seen) && seen.before.next_slot == u64::MAX
     }),
     ("a carried row with 0 copies turns", |seen| {
-        turned(seen) && no_copies(seen.before) && !no_copies(seen.after)
+        turned(seen) && has_one(seen.before) && !has_one(seen.after)
     }),
     (
         "a wrong secret for a carried row, though an own row would match",
@@ -229,11 +226,7 @@ pub const CORNERS: &[Corner] = &[
         loaded(seen) && tags.iter().enumerate().any(|(place, tag)| tags[..place].contains(tag))
     }),
     ("a save of a row with 0 copies", |seen| {
-        seen.call.kind() == Kind::Save && no_copies(seen.before)
-    }),
-    ("a row of 0 copies is not read", |seen| {
-        matches!(seen.call, Call::RowRead { blob } if blob.len() == 94 && blob[0] == 0 && blob[45] == 0)
-            && *seen.answer == Answer::Row(None)
+        seen.call.kind() == Kind::Save && has_one(seen.before)
     }),
     ("a tombstone of expiry 0 is read", |seen| {
         matches!(seen.answer, Answer::Row(Some(Held::Tombstone { expiry: 0, .. })))

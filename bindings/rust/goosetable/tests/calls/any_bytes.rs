@@ -423,7 +423,7 @@ fn blobs_and_records_of_any_bytes_are_read_or_none() {
         for first in [0, 1] {
             let mut blob = bytes.clone();
             blob.iter_mut().take(1).for_each(|byte| *byte = first);
-            rows += usize::from(stored_row(&blob).is_some());
+            rows += usize::from(row_read(&blob).is_some());
         }
     }
     assert!(0 < rows && 0 < records, "{rows} {records}");

@@ -2,7 +2,7 @@
 
 use super::*;
 
-fn file_of(post: &Post) -> Vec<u8> {
+pub(super) fn file_of(post: &Post) -> Vec<u8> {
     let mut area = vec![0; post.file_size()];
     post.save(&mut area).unwrap().to_vec()
 }
@@ -83,34 +83,50 @@ fn too_few_cells_meet_4_and_too_few_rows_5() {
     }
 }
 
+/// Where the record of a carried row, the first of a file, has its expiry, and behind it its copies.
+const EXPIRY: usize = 10 + 12 + 41;
+
 #[test]
-fn a_row_without_copies_is_written_and_not_read() {
+fn a_carried_row_of_any_copies_is_read_and_loaded() {
+    let mut file = file_of(&two_rows());
     let mut post = post();
-    let slot = carry(&mut post, VERIFIED, envelope(1, 2));
-    let mut exchanges = [Exchange::closed(), Exchange::closed()];
-    for (exchange, peer) in exchanges.iter_mut().zip([UNVERIFIED, COMPROMISED]) {
-        post.fresh_exchange(exchange, peer).unwrap();
-        let _ = post.inventory(exchange, peer, &Window::EMPTY, &[]).unwrap();
+    for copies in 0..=255 {
+        file[EXPIRY + 4] = copies;
+        post.load(&file).unwrap();
+        assert_eq!(carried(&post, Slot(0)).0, envelope(1, copies).header);
+        assert_eq!(file_of(&post), file);
+        let kept = SavedFile::from_bytes(&file).unwrap();
+        assert_eq!(kept.as_bytes(), file, "as it is");
     }
-    for (exchange, peer) in exchanges.iter_mut().zip([UNVERIFIED, COMPROMISED]) {
-        let _ = post
-            .custody_code(exchange, peer, tag(1), Custody::Accepted)
-            .unwrap();
+}
+
+#[test]
+fn a_carried_row_of_expiry_0_is_not_read_and_its_file_meets_8() {
+    let [mut blob, mut tombstone] = two_blobs();
+    blob[41..45].fill(0);
+    tombstone[33..37].fill(0);
+    let mut file = file_of(&two_rows());
+    file[EXPIRY..][..4].fill(0);
+    for copies in [0, 1, 4] {
+        blob[45] = copies;
+        assert_eq!(row_read(&blob), None);
+        assert_eq!(SavedFile::new().push(Slot(0), &blob).map_err(drop), Err(()));
+        file[EXPIRY + 4] = copies;
+        assert_eq!(refused(&mut post(), |post| post.load(&file)), 8);
     }
-    let mut blob = [0; BLOB];
-    let written = post.row_blob(slot, &mut blob).unwrap();
-    assert_eq!((written.len(), row_read(written)), (94, None));
-    let stored = HeldRow::Carried {
-        depositor: VERIFIED,
-        envelope: envelope(1, 0),
-    };
-    assert_eq!(stored_row(written), Some(stored));
-    let file = file_of(&post);
-    assert_eq!(refused(&mut post, |post| post.load(&file)), 8);
-    let mended = SavedFile::from_bytes(&file).unwrap();
-    assert_eq!(mended.as_bytes().len(), file.len());
-    post.load(mended.as_bytes()).unwrap();
-    assert_eq!(carried(&post, slot).0.copies, 1);
+    assert!(row_read(&tombstone).is_some(), "a tombstone's is any");
+}
+
+#[test]
+fn an_envelope_that_comes_without_copies_is_invalid() {
+    let mut file = file_of(&two_rows());
+    file[EXPIRY + 4] = 0;
+    let mut post = post();
+    post.load(&file).unwrap();
+    for byte in [1, 2, 3] {
+        let said = code(&mut post, VERIFIED, envelope(byte, 0));
+        assert_eq!(said, Custody::Invalid, "carried, tombstoned or new");
+    }
 }
 
 #[test]
@@ -158,19 +174,22 @@ fn a_damaged_row_is_left_out() {
 #[test]
 fn bytes_that_are_no_row_are_none() {
     for blob in [&b""[..], &[0; 94], &[1; 36], &[0xff; 2110], &[0; 2111]] {
-        assert_eq!((row_read(blob), stored_row(blob)), (None, None));
+        assert_eq!(row_read(blob), None);
     }
 }
 
 #[test]
+#[allow(deprecated)]
 fn a_stored_row_is_the_row_that_is_read() {
-    let post = two_rows();
-    let mut area = [0; BLOB];
-    for slot in [Slot(0), Slot(1)] {
-        let blob = post.row_blob(slot, &mut area).unwrap();
-        assert!(row_read(blob).is_some());
-        assert_eq!(stored_row(blob), row_read(blob));
+    let [mut carried, tombstone] = two_blobs();
+    for copies in [0, 4] {
+        carried[45] = copies;
+        for blob in [&carried, &tombstone] {
+            assert!(row_read(blob).is_some());
+            assert_eq!(stored_row(blob), row_read(blob));
+        }
     }
+    assert_eq!(stored_row(&[0; 94]), None);
 }
 
 /// The blobs of a carried row and a tombstone.

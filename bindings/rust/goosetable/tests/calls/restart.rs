@@ -1,6 +1,6 @@
 //! A host that stores what actions say, loses power at any of them, and starts again from what is stored.
 
-use super::{any_bytes::Noise, *};
+use super::{any_bytes::Noise, files::file_of, *};
 use std::collections::BTreeMap;
 
 /// What a host has stored.
@@ -61,7 +61,7 @@ impl Store {
     }
 }
 
-/// A row without its cell; a carried row with 0 copies counts as one with 1.
+/// A row without its cell.
 type Row = (Slot, Tag, Vec<u8>);
 
 fn held(post: &Post) -> Vec<Row> {
@@ -73,11 +73,8 @@ fn held(post: &Post) -> Vec<Row> {
         .chain(tombstones)
         .map(|(slot, tag)| {
             let mut area = [0; BLOB];
-            let mut blob = post.row_blob(slot, &mut area).unwrap().to_vec();
-            if blob[0] == 0 {
-                blob[45] = blob[45].max(1);
-            }
-            (slot, tag, blob)
+            let blob = post.row_blob(slot, &mut area).unwrap();
+            (slot, tag, blob.to_vec())
         })
         .collect();
     rows.sort();
@@ -159,26 +156,17 @@ impl Host {
         self.is_stored();
     }
 
-    /// Opens an exchange with a peer; answers it with the tags that were offered.
-    fn offer(&mut self, peer: ContactId) -> (ContactId, Exchange, Vec<Tag>) {
-        let mut exchange = Exchange::closed();
-        self.post.fresh_exchange(&mut exchange, peer).unwrap();
-        let record = self
-            .post
-            .inventory(&mut exchange, peer, &Window::EMPTY, &[]);
-        let Record::Taken(replies) = record.unwrap() else {
-            panic!("malformed");
-        };
-        let offered = |reply| match reply {
-            Reply::Envelope(envelope) => Some(envelope.header.tag),
-            _ => None,
-        };
-        (peer, exchange, replies.filter_map(offered).collect())
+    fn deposit(&mut self, peer: ContactId, sealed: Envelope<'_>) {
+        self.call(|post| match post.envelope(peer, sealed, &Window::EMPTY)? {
+            Received::Replied { actions, .. } => Ok(actions),
+            ours => panic!("{ours:?}"),
+        });
     }
 
     /// Hands everything on to three peers at once, which accept it.
     fn hand_on(&mut self) {
-        let open = [VERIFIED, UNVERIFIED, COMPROMISED].map(|peer| self.offer(peer));
+        let peers = [VERIFIED, UNVERIFIED, COMPROMISED];
+        let open = peers.map(|peer| offer(&mut self.post, peer));
         for (peer, mut exchange, tags) in open {
             for tag in tags {
                 self.call(|post| post.custody_code(&mut exchange, peer, tag, Custody::Accepted));
@@ -202,10 +190,7 @@ impl Host {
             0..=2 => {
                 let mut sealed = envelope(byte, 1 + byte % 6);
                 sealed.header.expiry_min = (self.post.clock() / 60) as u32 + 20;
-                self.call(|post| match post.envelope(peer, sealed, &Window::EMPTY)? {
-                    Received::Replied { actions, .. } => Ok(actions),
-                    ours => panic!("{ours:?}"),
-                });
+                self.deposit(peer, sealed);
             }
             3 => self.hand_on(),
             4 => self.tomb(tag(byte)),
@@ -220,6 +205,21 @@ impl Host {
             }
         }
     }
+}
+
+/// Opens an exchange with a peer that lists nothing; answers it with the tags that were offered.
+fn offer(post: &mut Post, peer: ContactId) -> (ContactId, Exchange, Vec<Tag>) {
+    let mut exchange = Exchange::closed();
+    post.fresh_exchange(&mut exchange, peer).unwrap();
+    let record = post.inventory(&mut exchange, peer, &Window::EMPTY, &[]);
+    let Record::Taken(replies) = record.unwrap() else {
+        panic!("malformed");
+    };
+    let offered = |reply| match reply {
+        Reply::Envelope(envelope) => Some(envelope.header.tag),
+        _ => None,
+    };
+    (peer, exchange, replies.filter_map(offered).collect())
 }
 
 /// After a power cut each held row is one of before or of after the call, and none is gone that is in both.
@@ -251,6 +251,66 @@ fn nothing_is_lost_by_a_power_cut() {
     }
     assert!(100 < host.cuts && 0 < host.messages, "{}", host.cuts);
     assert!(0 < empty_rows, "no row has lost all its copies");
+}
+
+/// Three peers took all 4 copies of tag 2 in slot 1: each was offered half of them before the first one answered.
+/// Slot 0 went, slot 2 is a tombstone, and slot 3, which came last, has the first cell.
+fn all_handed_on() -> Host {
+    let mut host = Host::new();
+    let mut soon = envelope(1, 4);
+    soon.header.expiry_min = 11;
+    host.deposit(VERIFIED, soon);
+    host.deposit(VERIFIED, envelope(2, 4));
+    host.post.set_clock(660);
+    host.call(Post::maintenance);
+    host.call(|post| post.stored_tombstone(tag(3), SECRET, 90));
+    host.hand_on();
+    let other = Envelope {
+        ciphertext: &[0x04; 80],
+        ..envelope(4, 3)
+    };
+    host.deposit(UNVERIFIED, other);
+    host
+}
+
+#[test]
+fn a_post_of_which_three_peers_took_all_copies_is_saved_and_started_again() {
+    let host = all_handed_on();
+    let before = &host.post;
+    let copies: Vec<_> = before
+        .carried()
+        .map(|row| (row.slot, row.envelope.header.copies))
+        .collect();
+    assert_eq!(copies, [(Slot(1), 0), (Slot(3), 3)]);
+    let file = file_of(before);
+    let mut again = post();
+    again.load(&file).unwrap();
+    assert_eq!(held(&again), held(before));
+    assert!(again.carried().eq(before.carried()), "ciphertexts too");
+    assert!(again.tombstones().eq(before.tombstones()));
+    assert_eq!(again.next_slot(), before.next_slot());
+    assert_eq!(file_of(&again), file);
+    let stored = host.store.start(660);
+    assert_eq!(file_of(&stored), file, "what actions stored is the file");
+    let kept = SavedFile::from_bytes(&file).unwrap();
+    let mut good = post();
+    assert_eq!(kept.load_good(&mut good), Ok(vec![]), "nothing is left out");
+    assert_eq!(file_of(&good), file);
+}
+
+#[test]
+fn a_row_whose_copies_are_all_handed_on_serves_its_recipient_after_a_start() {
+    let mut again = all_handed_on().store.start(660);
+    let (_, _, offered) = offer(&mut again, COMPROMISED);
+    assert_eq!(offered, [tag(4)], "a row without copies is not offered");
+    let fetched = again.fetch(UNVERIFIED, tag(2)).unwrap();
+    assert_eq!(fetched, Some(envelope(2, 0)));
+    let sent_again = |post: &mut Post| code(post, COMPROMISED, envelope(2, 4));
+    assert_eq!(sent_again(&mut again), Custody::Duplicate);
+    let turned = tomb(&mut again, tag(2), SECRET);
+    assert_eq!(turned, Some(vec![Action::Put(Slot(1))]));
+    assert_eq!(tombstone(&again, Slot(1)), (tag(2), SECRET, 100));
+    assert_eq!(sent_again(&mut again), Custody::Duplicate);
 }
 
 /// A tomb of an own row, cut after its tombstone was stored: the next start finds both, and ends the row.

@@ -1,6 +1,8 @@
--- The ciphertext of a carried row has a length that a courier carries: every call keeps that.
+-- A carried row is read back: its ciphertext has a length that a courier carries, and, where the lifetime is above 0, its expiry is above 0.
+-- Every call keeps both.
 -- Assumes nothing.
-use Rattle.std.proofs.Common.{◌≡◌, ℕ, Bool, true, false, cond, not, List, [], ◌∷◌, length, get_or, sym, refl, ap, ◌∙◌, subst, arith, Option, Some, None, Result, Ok, Err}
+use Rattle.std.proofs.Common.{◌≡◌, ℕ, ◌<◌, min, Bool, true, false, cond, not, List, [], ◌∷◌, length, get_or, sym, refl, ap, ◌∙◌, subst, arith, Option, Some, None, Result, Ok, Err}
+use Rattle.std.proofs.Math.Nat.{le-min}
 use mathlib.Core.Bool.{false≢true}
 use Rattle.courier_core.specs.declared.ContactId.{ContactId}
 use Rattle.courier_core.specs.declared.Refusal.{Refusal}
@@ -17,7 +19,7 @@ use Rattle.model.specs.Basics.{match_found}
 use Rattle.model.specs.State.{State}
 use Rattle.model.specs.Calls
 use Rattle.model.specs.Calls.{Call, Result as Outcome, step_of}
-use Rattle.model.specs.Contacts.{minute_of}
+use Rattle.model.specs.Contacts.{minute_of, lifetime_end, end_of}
 use Rattle.model.specs.Window.{no_reachable, window_rows, lookup}
 use Rattle.model.specs.Custody.{custody_of, new_carried, ours_at, answer_custody, envelope_tests, receive_envelope}
 use Rattle.model.specs.Step.{Post, Lent, tests, perform, step, state_for, answer_to, after}
@@ -31,6 +33,9 @@ use Rattle.load.proofs.CallLaws as calls
 
 abbrev pub Lengths : List Carried → Type 0
 Lengths rs = All (λ (r : Carried). carried_length r.len ≡ true) rs
+
+abbrev pub Expiries : List Carried → Type 0
+Expiries rs = All (λ (r : Carried). 0 < r.expiry_min) rs
 
 -- a call that is not refused is what it performs
 pub performed : (ts : List (Bool × Refusal)) (o : Outcome) → is_refused (step_of ts o).answer ≡ false → step_of ts o ≡ o
@@ -58,29 +63,51 @@ module _ (s : State) (replies actions : ℕ) (window : List ℕ) (peer : Contact
   accepted None custody.Off e = absurd (omega (arith, ap (λ (o : Outcome). length o.actions) e))
   accepted None custody.Invalid e = absurd (omega (arith, ap (λ (o : Outcome). length o.actions) e))
 
-  given_length : step s (Calls.envelope replies actions window peer head ct) ≡ answer_custody s peer head ct custody.Accepted → carried_length (length ct) ≡ true
+  -- it was valid: its length is carried, and its expiry after the minute
+  given : step s (Calls.envelope replies actions window peer head ct) ≡ answer_custody s peer head ct custody.Accepted
+      → (carried_length (length ct) ≡ true) × (0 < head.expiry_min)
   unfolding step tests perform receive_envelope custody_of answer_custody
-  given_length e =
+  given e =
       let o : Outcome = receive_envelope s (window_rows window) peer head ct in
       let q : o ≡ answer_custody s peer head ct custody.Accepted =
       sym (performed (envelope_tests s replies actions window peer head (length ct)) o (ap (λ (x : Outcome). is_refused x.answer) e)) ∙ e in
       let c = accepted (lookup (window_rows window) head.tag) (custody_of s peer head (length ct)) q in
-      (valid_parts (length ct) head.copies head.expiry_min (minute_of s)
-      (valid_first s.courier.enabled (envelope_valid (length ct) head.copies head.expiry_min (minute_of s)) _ c)).0
+      let v =
+      valid_parts (length ct) head.copies head.expiry_min (minute_of s)
+      (valid_first s.courier.enabled (envelope_valid (length ct) head.copies head.expiry_min (minute_of s)) _ c) in
+      (v.0, omega (arith, v.2))
 
-module _ (s : State) (o : Outcome) where
-  gift_lengths : {c : Call} {n : ℕ} {cells : List ℕ} (gift : List Carried) → o ≡ step s c → Gift s o c gift n cells → Lengths gift
-  unfolding new_carried
-  gift_lengths [] q (nothing le) = lists.none
-  gift_lengths (x ∷ xs) q (one replies actions window peer head ct pl e) = lists.more (given_length s replies actions window peer head ct (sym q ∙ e)) lists.none
+-- what holds of a row's length and expiry, and of those of a row that an accepted envelope gives
+module _ (P : (len expiry : ℕ) → Type 0) where
+  abbrev Rows : List Carried → Type 0
+  Rows rs = All (λ (r : Carried). P r.len r.expiry_min) rs
 
-  kept_lengths : (c : Call) {kept : List Carried} → Lengths s.carried → Thinned s o c kept → Lengths kept
-  kept_lengths c a b = became_all (λ x y p h. ap carried_length (stays_later s o (role c) x y p).len ∙ h) b a
+  abbrev Gives : State → Type 0
+  Gives s = (head : Header) (ct : List ℕ) → carried_length (length ct) ≡ true → 0 < head.expiry_min → P (length ct) (min head.expiry_min (end_of s))
 
-module _ (p : Post) (l : Lent) where
-  pub lengths_after : Kept p.state → Lengths p.state.carried → Lengths (after p l).state.carried
+  module _ (s : State) (o : Outcome) where
+    gift_rows : {c : Call} {n : ℕ} {cells : List ℕ} (gift : List Carried) → Gives s → o ≡ step s c → Gift s o c gift n cells → Rows gift
+    unfolding new_carried
+    gift_rows [] f q (nothing le) = lists.none
+    gift_rows (x ∷ xs) f q (one replies actions window peer head ct pl e) =
+        let v = given s replies actions window peer head ct (sym q ∙ e) in lists.more (f head ct v.0 v.1) lists.none
+
+    -- a row keeps its length and its expiry
+    kept_rows : (c : Call) {kept : List Carried} → Rows s.carried → Thinned s o c kept → Rows kept
+    kept_rows c a b =
+        became_all (λ x y p h. let l = stays_later s o (role c) x y p in subst (λ (n : ℕ). P y.len n) (sym l.expiry) (subst (λ (n : ℕ). P n x.expiry_min) (sym l.len) h)) b a
+
+  rows_after : (p : Post) (l : Lent) → Kept p.state → Gives (state_for p l) → Rows p.state.carried → Rows (after p l).state.carried
   unfolding after answer_to state_for
-  lengths_after k a =
+  rows_after p l k f a =
       let s : State = state_for p l in
       let r = rows s (answer_to p l) k.limits.tags_differ (effect_at p l).held in
-      subst Lengths (sym r.after) (all_append r.kept r.gift (kept_lengths s (answer_to p l) l.call a r.became) (gift_lengths s (answer_to p l) r.gift refl r.given))
+      subst Rows (sym r.after)
+      (all_append r.kept r.gift (kept_rows s (answer_to p l) l.call a r.became) (gift_rows s (answer_to p l) r.gift f refl r.given))
+
+pub lengths_after : (p : Post) (l : Lent) → Kept p.state → Lengths p.state.carried → Lengths (after p l).state.carried
+lengths_after p l k = rows_after (λ len expiry. carried_length len ≡ true) p l k (λ head ct c e. c)
+
+pub expiries_after : (p : Post) (l : Lent) → Kept p.state → 0 < p.state.courier.lifetime_min → Expiries p.state.carried → Expiries (after p l).state.carried
+unfolding state_for lifetime_end
+expiries_after p l k t = rows_after (λ len expiry. 0 < expiry) p l k (λ head ct c e. le-min (omega (arith, e)) (le-min (omega (arith, t)) (omega arith)))
