@@ -16,6 +16,7 @@
  * that no call left is read as what fits. A refused call (1 to 13) changes no byte of any area.
  *
  * docs/HOST.md says how a host runs a post with these calls: how much memory it lends, a meeting call by call, what it stores, how it starts again.
+ * goosetable_post.h has the areas of a post as one struct, and each call with them.
  *
  * The device area is made by goosetable_fresh, an exchange by goosetable_fresh_exchange, over any bytes; zeros are an exchange that was opened
  * for nobody. The areas for its prefixes and offers go with it. The other areas may hold anything at first: the counts in the device and exchange
@@ -682,10 +683,10 @@ goosetable_row goosetable_row_read(const uint8_t *blob, size_t blob_len);
 /* ---- the version */
 
 /* Of header and library alike. The first two numbers change whenever a struct, a size, what a number means or a function's parameters do. */
-#define GOOSETABLE_VERSION "0.2.5"
+#define GOOSETABLE_VERSION "0.2.6"
 #define GOOSETABLE_VERSION_MAJOR 0
 #define GOOSETABLE_VERSION_MINOR 2
-#define GOOSETABLE_VERSION_PATCH 5
+#define GOOSETABLE_VERSION_PATCH 6
 
 /*
  * The version of the library: major * 10,000 + minor * 100 + patch. Its name has the first two numbers.

@@ -19,20 +19,17 @@ fn filled(call: impl FnOnce(&mut Sixteen)) -> Sixteen {
 }
 
 fn route_tag() -> Sixteen {
-    // SAFETY: key and area have the sizes of their types.
-    filled(|tag| unsafe {
-        sys::goosetable_route_tag(black_box(&KEY), b'R', 255, INDEX, tag);
+    filled(|tag| {
+        sys::route_tag(black_box(&KEY), b'R', 255, INDEX, tag);
     })
 }
 
 fn delivered() -> Sixteen {
-    // SAFETY: as above.
-    filled(|secret| unsafe { sys::goosetable_delivered(black_box(&KEY), secret) })
+    filled(|secret| sys::delivered(black_box(&KEY), secret))
 }
 
 fn commitment() -> Sixteen {
-    // SAFETY: as above.
-    filled(|commitment| unsafe { sys::goosetable_commitment(black_box(&SECRET), commitment) })
+    filled(|commitment| sys::commitment(black_box(&SECRET), commitment))
 }
 
 type Pair = (&'static str, fn() -> Sixteen, fn() -> Sixteen);

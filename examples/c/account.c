@@ -51,7 +51,7 @@ static void stored(const struct post *p, uint64_t slot)
 {
     static const char *const kinds[] = {"no row", "carried", "tombstone"};
     uint8_t *blob = area(GOOSETABLE_BLOB_SIZE);
-    goosetable_answer a = post_row_blob(p, slot, blob);
+    goosetable_answer a = goosetable_post_row_blob(&p->areas, slot, blob);
     goosetable_row row = goosetable_row_read(blob, a.length);
     printf("%s of %zu bytes", kinds[row.kind], a.length);
     if (row.kind == GOOSETABLE_KIND_CARRIED)
@@ -61,8 +61,8 @@ static void stored(const struct post *p, uint64_t slot)
 
 static void action(const struct post *p, size_t i)
 {
-    uint64_t number = goosetable_action_number(p->actions, i);
-    switch (goosetable_action_kind(p->actions, i)) {
+    uint64_t number = goosetable_action_number(p->areas.actions, i);
+    switch (goosetable_action_kind(p->areas.actions, i)) {
     case GOOSETABLE_ACTION_PUT:
         printf("; put slot %" PRIu64 ", ", number);
         stored(p, number);
@@ -71,7 +71,7 @@ static void action(const struct post *p, size_t i)
         printf("; delete slot %" PRIu64, number);
         break;
     case GOOSETABLE_ACTION_OWN_PUT:
-        printf("; own put, contact %" PRIu64 " message %" PRIu32, number, goosetable_action_msgno(p->actions, i));
+        printf("; own put, contact %" PRIu64 " message %" PRIu32, number, goosetable_action_msgno(p->areas.actions, i));
         break;
     }
 }
@@ -80,7 +80,7 @@ static void rows(const struct post *p, goosetable_answer a)
 {
     size_t i;
     for (i = 0; i < a.replies; i++)
-        reply(p->replies, i);
+        reply(p->areas.replies, i);
     for (i = 0; i < a.actions; i++)
         action(p, i);
     putchar('\n');

@@ -32,22 +32,22 @@ static void open_envelope(struct post *from, struct post *to, const struct envel
     begin(to, "its secret");
     printf("%s\n", goosetable_same_tag(commitment, goosetable_body_commitment(e->header)) ? "opens the commitment" : "is another's");
     begin(to, "opened it");
-    end(to, post_opened(to, from->id, tag, secret, goosetable_body_expiry(e->header)));
+    end(to, goosetable_post_opened(&to->areas, from->id, tag, secret, goosetable_body_expiry(e->header)));
     begin(from, "tomb of %s", to->name);
-    end(from, post_tomb(from, to->id, tag, goosetable_body_secret(goosetable_reply_body(to->replies, 0))));
+    end(from, goosetable_post_tomb(&from->areas, to->id, tag, goosetable_body_secret(goosetable_reply_body(to->areas.replies, 0))));
 }
 
 /* An envelope arrives: the code for one of the offers goes back, or the tomb of one that was ours. */
-static void hand_envelope(struct post *from, struct post *to, struct exchange *offers, const struct envelope *e)
+static void hand_envelope(struct post *from, struct post *to, goosetable_session *offers, const struct envelope *e)
 {
-    const uint8_t *tag = goosetable_body_tag(e->header), *reply = goosetable_reply_body(to->replies, 0);
-    goosetable_answer a = post_envelope(to, from->id, e);
+    const uint8_t *tag = goosetable_body_tag(e->header), *reply = goosetable_reply_body(to->areas.replies, 0);
+    goosetable_answer a = goosetable_post_envelope(&to->areas, from->id, e->header, e->ct, e->ct_len);
     begin(to, "envelope of %s, %zu bytes", from->name, e->ct_len);
     end(to, a);
     if (a.said == GOOSETABLE_OURS) {
         open_envelope(from, to, e);
     } else if (a.said == GOOSETABLE_DONE && offers) {
-        a = post_custody_code(from, offers, to->id, tag, goosetable_body_code(reply));
+        a = goosetable_post_custody_code(&from->areas, offers, to->id, tag, goosetable_body_code(reply));
         begin(from, "custody code of %s", to->name);
         end(from, a);
     }
@@ -57,18 +57,18 @@ static void hand_envelope(struct post *from, struct post *to, struct exchange *o
 static void hand_fetched(struct post *from, struct post *to, const uint8_t *tag)
 {
     struct envelope e;
-    goosetable_answer a = post_fetch(from, to->id, tag);
+    goosetable_answer a = goosetable_post_fetch(&from->areas, to->id, tag);
     begin(from, "fetch of %s", to->name);
     end(from, a);
     if (a.said != GOOSETABLE_DONE)
         return;
-    e = envelope_of(from, from->replies, 0);
+    e = envelope_of(from, from->areas.replies, 0);
     hand_envelope(from, to, NULL, &e);
     free(e.ct);
 }
 
 /* An envelope is offered, unless its row has gone since. */
-static void hand_offer(struct post *from, struct post *to, struct exchange *offers, const uint8_t *replies, size_t i)
+static void hand_offer(struct post *from, struct post *to, goosetable_session *offers, const uint8_t *replies, size_t i)
 {
     struct envelope e = envelope_of(from, replies, i);
     if (e.ct_len)
@@ -76,7 +76,7 @@ static void hand_offer(struct post *from, struct post *to, struct exchange *offe
     free(e.ct);
 }
 
-static void hand_reply(struct post *from, struct post *to, struct exchange *e, const uint8_t *replies, size_t i)
+static void hand_reply(struct post *from, struct post *to, goosetable_session *e, const uint8_t *replies, size_t i)
 {
     const uint8_t *body = goosetable_reply_body(replies, i);
     switch (goosetable_reply_kind(replies, i)) {
@@ -88,26 +88,26 @@ static void hand_reply(struct post *from, struct post *to, struct exchange *e, c
         break;
     case GOOSETABLE_REPLY_TOMB:
         begin(to, "tomb of %s", from->name);
-        end(to, post_tomb(to, from->id, goosetable_body_tag(body), goosetable_body_secret(body)));
+        end(to, goosetable_post_tomb(&to->areas, from->id, goosetable_body_tag(body), goosetable_body_secret(body)));
         break;
     }
 }
 
 /* What one side has goes to the other in lists of at most 500, and then the empty one, which is answered and says for how many rows it searched. */
-static goosetable_answer list(struct post *answers, struct post *lists, struct exchange *e)
+static goosetable_answer list(struct post *answers, struct post *lists, goosetable_session *e)
 {
     uint8_t *prefixes = area(GOOSETABLE_PREFIXES_SIZE);
-    goosetable_answer a = post_inventory_of_ours(lists, answers->id, prefixes);
+    goosetable_answer a = goosetable_post_inventory_of_ours(&lists->areas, answers->id, prefixes);
     size_t at, count = a.length;
     begin(lists, "inventory of ours for %s", answers->name);
     end_with(lists, a, "prefixes");
     for (at = 0; at < count; at += LIST) {
         size_t listed = count - at < LIST ? count - at : LIST;
-        a = post_inventory(answers, e, lists->id, prefixes + at * GOOSETABLE_PREFIX_SIZE, listed * GOOSETABLE_PREFIX_SIZE);
+        a = goosetable_post_inventory(&answers->areas, e, lists->id, prefixes + at * GOOSETABLE_PREFIX_SIZE, listed * GOOSETABLE_PREFIX_SIZE);
         begin(answers, "inventory of %s", lists->name);
         end(answers, a);
     }
-    a = post_inventory(answers, e, lists->id, prefixes, 0);
+    a = goosetable_post_inventory(&answers->areas, e, lists->id, prefixes, 0);
     begin(answers, "end of the inventory of %s", lists->name);
     end_with(answers, a, "searched");
     free(prefixes);
@@ -120,20 +120,18 @@ static goosetable_answer list(struct post *answers, struct post *lists, struct e
  */
 static void meet(struct post *answers, struct post *lists)
 {
-    struct exchange e;
+    goosetable_session *e = &answers->areas.sessions[0];
     goosetable_answer a;
     uint8_t *replies;
     size_t i;
     printf("\n%s meets %s\n", lists->name, answers->name);
-    exchange_open(&e);
     begin(answers, "exchange with %s", lists->name);
-    end(answers, post_fresh_exchange(answers, &e, lists->id));
-    a = list(answers, lists, &e);
-    replies = memcpy(area(a.replies * GOOSETABLE_REPLY_ROW), answers->replies, a.replies * GOOSETABLE_REPLY_ROW);
+    end(answers, goosetable_post_fresh_exchange(&answers->areas, e, lists->id));
+    a = list(answers, lists, e);
+    replies = memcpy(area(a.replies * GOOSETABLE_REPLY_ROW), answers->areas.replies, a.replies * GOOSETABLE_REPLY_ROW);
     for (i = 0; i < a.replies; i++)
-        hand_reply(answers, lists, &e, replies, i);
+        hand_reply(answers, lists, e, replies, i);
     free(replies);
-    exchange_close(&e);
 }
 
 /* ---- the phones */
@@ -144,8 +142,8 @@ static void write_message(uint32_t message, uint32_t index)
     uint8_t secret[GOOSETABLE_TAG_SIZE], commitment[GOOSETABLE_TAG_SIZE], *row = area(GOOSETABLE_OWN_ROW);
     goosetable_answer a;
     goosetable_delivered(message_key, secret);
-    a = goosetable_own_envelope(sender.device, recipient.id, message, route_key, GOOSETABLE_DIRECTION_I, 0, index, secret,
-                                ciphertext, sizeof ciphertext, sender.contacts, sender.own, sender.own_cells, GOOSETABLE_CELLS_SIZE(CELLS), row);
+    a = goosetable_post_own_envelope(&sender.areas, recipient.id, message, route_key, GOOSETABLE_DIRECTION_I, 0, index, secret,
+                                     ciphertext, sizeof ciphertext, row);
     begin(&sender, "own envelope for %s", recipient.name);
     end(&sender, a);
     begin(&sender, "its row");
@@ -167,17 +165,14 @@ static int by_key(const void *a, const void *b)
 /* A window row of each key row, in rising order. The keys are of one contact here. */
 static void make_window(struct post *p, uint64_t contact, const uint8_t *keys, size_t count)
 {
-    uint8_t tag[GOOSETABLE_TAG_SIZE];
+    uint8_t tag[GOOSETABLE_TAG_SIZE], *window = post_window(p, count);
     size_t i;
-    free(p->window);
-    p->window_len = GOOSETABLE_WINDOW_SIZE(count);
-    p->window = area(p->window_len);
     for (i = 0; i < count; i++) {
         const uint8_t *key = keys + i * GOOSETABLE_KEY_ROW;
         goosetable_route_tag(route_key, goosetable_key_direction(key), goosetable_key_generation(key), goosetable_key_index(key), tag);
-        goosetable_window_row_put(p->window + i * GOOSETABLE_WINDOW_ROW, contact, key, tag);
+        goosetable_window_row_put(window + i * GOOSETABLE_WINDOW_ROW, contact, key, tag);
     }
-    qsort(p->window, count, GOOSETABLE_WINDOW_ROW, by_key);
+    qsort(window, count, GOOSETABLE_WINDOW_ROW, by_key);
 }
 
 /* The recipient expects messages of the sender: key 3 of the chain was skipped, and 7 is its next. */
@@ -203,25 +198,25 @@ static void expect_messages(void)
 static void set_up(struct post *p, const char *name, uint64_t id)
 {
     post_open(p, name, id);
-    goosetable_clock(p->device, 600);
+    goosetable_post_clock(&p->areas, 600);
 }
 
 /* A post restarts: its holdings go to a file, and from there to fresh areas. */
 static void restart(struct post *p, const struct post *first, const struct post *second)
 {
     uint8_t *file = area(GOOSETABLE_FILE_SIZE(CELLS, TOMBSTONES));
-    goosetable_answer a = post_save(p, file);
+    goosetable_answer a = goosetable_post_save(&p->areas, file, GOOSETABLE_FILE_SIZE(CELLS, TOMBSTONES));
     printf("\n%s restarts\n", p->name);
     begin(p, "save");
     end_with(p, a, "bytes");
     post_close(p);
     set_up(p, p->name, p->id);
     begin(p, "load before its contacts are known");
-    end(p, post_load(p, file, a.length));
-    post_contact(p, first, GOOSETABLE_UNVERIFIED);
-    post_contact(p, second, GOOSETABLE_VERIFIED);
+    end(p, goosetable_post_load(&p->areas, file, a.length));
+    goosetable_post_contact(&p->areas, first->id, GOOSETABLE_UNVERIFIED);
+    goosetable_post_contact(&p->areas, second->id, GOOSETABLE_VERIFIED);
     begin(p, "load");
-    end(p, post_load(p, file, a.length));
+    end(p, goosetable_post_load(&p->areas, file, a.length));
     free(file);
 }
 
@@ -231,23 +226,23 @@ static void forge_tomb(struct post *p, const struct post *peer)
     static const uint8_t wrong[GOOSETABLE_TAG_SIZE] = "was it delivered";
     printf("\na forged tomb\n");
     begin(p, "tomb of %s", peer->name);
-    end(p, post_tomb(p, peer->id, goosetable_own_tag(sender.own), wrong));
+    end(p, goosetable_post_tomb(&p->areas, peer->id, goosetable_own_tag(sender.areas.own), wrong));
 }
 
 static void at_minute(struct post *p, uint64_t minute)
 {
-    goosetable_clock(p->device, minute * 60);
+    goosetable_post_clock(&p->areas, minute * 60);
     begin(p, "maintenance at minute %" PRIu64, minute);
-    end(p, post_maintenance(p));
+    end(p, goosetable_post_maintenance(&p->areas));
 }
 
 /* What a technician sees at a post: every page that has rows, and page 0 if none has. */
 static void show(const struct post *p)
 {
     uint8_t *screen = area(GOOSETABLE_PAGE_SIZE);
-    uint64_t page = 0, pages = goosetable_device_pages(p->device, GOOSETABLE_TOMBSTONES_SIZE(TOMBSTONES));
+    uint64_t page = 0, pages = goosetable_post_pages(&p->areas);
     do {
-        goosetable_answer a = post_page(p, page, screen);
+        goosetable_answer a = goosetable_post_page(&p->areas, page, screen);
         begin(p, "page %" PRIu64, page);
         end_with(p, a, "bytes");
         fwrite(screen, 1, a.length, stdout);
@@ -261,7 +256,7 @@ static void a_day_later(void)
     printf("\na day later\n");
     at_minute(&post_a, 1449);
     show(&post_a);
-    goosetable_clock(post_a.device, 1450 * 60);
+    goosetable_post_clock(&post_a.areas, 1450 * 60);
     show(&post_a);
     at_minute(&post_a, 1450);
     at_minute(&post_b, 1450);
@@ -274,14 +269,14 @@ int main(void)
     set_up(&recipient, "recipient", 2);
     set_up(&post_a, "post A", 10);
     set_up(&post_b, "post B", 11);
-    post_contact(&sender, &recipient, GOOSETABLE_VERIFIED);
-    post_contact(&sender, &post_a, GOOSETABLE_UNVERIFIED);
-    post_contact(&recipient, &sender, GOOSETABLE_VERIFIED);
-    post_contact(&recipient, &post_b, GOOSETABLE_UNVERIFIED);
-    post_contact(&post_a, &sender, GOOSETABLE_UNVERIFIED);
-    post_contact(&post_a, &post_b, GOOSETABLE_VERIFIED);
-    post_contact(&post_b, &post_a, GOOSETABLE_VERIFIED);
-    post_contact(&post_b, &recipient, GOOSETABLE_UNVERIFIED);
+    goosetable_post_contact(&sender.areas, recipient.id, GOOSETABLE_VERIFIED);
+    goosetable_post_contact(&sender.areas, post_a.id, GOOSETABLE_UNVERIFIED);
+    goosetable_post_contact(&recipient.areas, sender.id, GOOSETABLE_VERIFIED);
+    goosetable_post_contact(&recipient.areas, post_b.id, GOOSETABLE_UNVERIFIED);
+    goosetable_post_contact(&post_a.areas, sender.id, GOOSETABLE_UNVERIFIED);
+    goosetable_post_contact(&post_a.areas, post_b.id, GOOSETABLE_VERIFIED);
+    goosetable_post_contact(&post_b.areas, post_a.id, GOOSETABLE_VERIFIED);
+    goosetable_post_contact(&post_b.areas, recipient.id, GOOSETABLE_UNVERIFIED);
 
     write_message(1, 7);
     expect_messages();

@@ -1,6 +1,6 @@
--- Laws of the rows that are written: their bytes, and the bodies of replies.
+-- Laws of the rows that are written: their bytes, the bodies of replies, and a result that lists actions alone.
 -- Assumes nothing.
-use Rattle.std.specs.Prelude.{◌≡◌, ℕ, ◌+◌, List, ◌++◌, length, drop, replicate}
+use Rattle.std.specs.Prelude.{◌≡◌, ℕ, ◌+◌, List, [], ◌++◌, length, drop, replicate}
 use mathlib.Core.Path.{sym, ap, ap₂, ◌∙◌}
 use mathlib.Core.List.{append_assoc}
 use native.Mathlib.Omega.{arith}
@@ -8,8 +8,15 @@ use lib.ListN.{length-append}
 use lib.Seq.{take_at, drop-append-add}
 use Rattle.octets.specs.Bytes.{splice, be}
 use Rattle.octets.proofs.Numbers.{length_be}
+use Rattle.table.specs.Rows.{join, written}
+use Rattle.table.specs.Codec.{with_table}
+use Rattle.rows.specs.declared.Action.{Action}
 use Rattle.rows.specs.declared.Reply.{Reply}
-use Rattle.rows.specs.Rows.{reply_bytes}
+use Rattle.rows.specs.Rows.{reply_bytes, action_codec}
+use Rattle.model.specs.State.{Change}
+use Rattle.model.specs.Calls.{Answer, result}
+use Rattle.model.specs.Areas.{answer_areas}
+use Rattle.model.specs.Lent.{actions_lent}
 
 -- a reply with its whole body has 40 bytes
 pub length_reply : (r : Reply) → length r.body ≡ 37 → length (reply_bytes r) ≡ 40
@@ -27,3 +34,9 @@ tag_and_more tag more y z l e f =
     ∙ ap₂ (λ (x w : List ℕ). x ++ more ++ w) (take_at tag R 16 l)
     (ap (λ (n : ℕ). drop (n + length more) (tag ++ R)) (sym l) ∙ drop-append-add tag R (length more))
     ∙ append_assoc tag more (drop (length more) R)
+
+-- a result that lists actions alone
+pub acted : (v : Answer) (acts : List Action) (c : Change) (ac y : List ℕ) → y ≡ with_table action_codec ac acts
+    → actions_lent y ≡ answer_areas (result v [] acts c) (actions_lent ac)
+unfolding answer_areas with_table written join splice
+acted v acts c ac y e = ap actions_lent e

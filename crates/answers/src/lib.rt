@@ -1,9 +1,10 @@
-// The rows of the reply and action areas: what is in them, and functions that write one row at a place.
+// The rows of the reply and action areas: what is in them, and functions that write one row at a place; and what calls answer beside them.
 #![tactic(auto)]
 
 ghost use Rattle.std.specs.Prelude.{◌≡◌, ◌+◌, ◌*◌, ◌/◌, ◌≤◌, ◌++◌, length, drop, replicate, nat_lt};
 ghost use Rattle.octets.specs.Bytes.{splice};
 ghost use Rattle.rows.specs.Rows.{action_width, reply_width, tombstone_width, action_bytes, reply_bytes};
+ghost use Rattle.rows.specs.Limits.{max_cells, action_area};
 ghost use Rattle.model.specs.Exchange.{own_envelope_of, carried_envelope_of};
 ghost use Rattle.model.specs.Calls.{short_replies, of_own, of_carried, cell_from, reply_cell, put_courier, delete_courier, put_queued, fetch_reply, envelope_row, custody_reply, tomb_reply};
 
@@ -13,6 +14,14 @@ use rows::{
     ACTION_WIDTH, Action, Carried, LISTED_ACTIONS, MAX_CELLS, Own, REPLY_AREA, REPLY_BODY, Reply,
     Row, TOMBSTONE_WIDTH,
 };
+
+// What the calls tomb, report opened and report failed answer that are not refused: malformed, or how many actions are listed.
+// (Not `Option<usize>`: its `None` would not say malformed. Crate inventory says why its `Said` is another.)
+#[derive(Drop)]
+pub enum Said {
+    Malformed,
+    Done(usize),
+}
 
 // ---- the header of a row's envelope, and its cell as a reply says it
 
@@ -64,7 +73,7 @@ pub const FIRST_CARRIED: u16 = MAX_CELLS as u16;
 
 // A cell that counts, from the first number of its kind on.
 fn cell_from(first: u16, cell: u16) -> u16
-    requires { first ≤ 256 }
+    requires { first ≤ max_cells }
     ensures { result ≡ cell_from first cell }
 {
     if usize::from(cell) < MAX_CELLS {
@@ -96,7 +105,7 @@ pub fn short_replies(replies: usize) -> bool
 
 // An action area has room for LISTED_ACTIONS rows, and for one more for each row of the tombstones' area, which has so many bytes.
 pub fn short_actions(actions: usize, tombstones: usize) -> bool
-    ensures { result ≡ nat_lt actions (action_width * (512 + tombstones / tombstone_width)) }
+    ensures { result ≡ nat_lt actions (action_area (tombstones / tombstone_width)) }
 {
     actions < ACTION_WIDTH * (LISTED_ACTIONS + tombstones / TOMBSTONE_WIDTH)
 }

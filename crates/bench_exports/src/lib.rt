@@ -3,6 +3,7 @@
 
 ghost use Rattle.std.specs.Prelude.{◌≡◌};
 ghost use Rattle.sha384.specs.Sha384.{sha384};
+ghost use Rattle.rows.specs.Limits.{max_carried};
 ghost use Rattle.bench_exports.specs.Tags.{tagged};
 
 use octets::same;
@@ -19,7 +20,7 @@ pub extern "C" fn bench_sha384(m: &[u8], out: &mut [u8; 48])
 // How many of the carried rows of a full table have the tag.
 #[unsafe(no_mangle)]
 pub extern "C" fn bench_tagged(rows: &[u8; CARRIED_AREA], tag: &[u8; 16]) -> usize
-    ensures { result ≡ tagged rows.now tag.now 256 }
+    ensures { result ≡ tagged rows.now tag.now max_carried }
 {
     table::count(rows, CARRIED_WIDTH, MAX_CARRIED, |row| {
         same(row, Carried::TAG, tag)

@@ -1,6 +1,6 @@
 // What goes by value in a call lies in small areas at a host of another language: the device in 60 bytes, an exchange in 26, numbers
 // with the highest byte first. A flag is on unless its byte is 0. What a call leaves as it is keeps its bytes, whatever they are.
-// (Sizes and offsets are those of the C header, and numbers: include/check reads them off `device_of` and `exchange_of`. Each offset stands once
+// (Sizes and offsets are those of the C header: include/check reads them off `device_of` and `exchange_of`. Offsets are numbers: each stands once
 // more where the field is written, and those of flags and peer where what was there is kept; the proof refuses any other there: a name for
 // each of the fifteen would say no more.)
 #![tactic(auto)]
@@ -12,6 +12,11 @@ ghost use Rattle.boundary.specs.Boundary.{is_on, flag_over, device_of, device_by
 use courier_core::ContactId;
 use rows::{Device, Exchange};
 use state::CourierConfig;
+
+// The bytes of the small areas: the device's, and an exchange's.
+pub const DEVICE: usize = 60;
+
+pub const EXCHANGE: usize = 26;
 
 // ---- flags
 
@@ -42,7 +47,7 @@ fn flag_over(byte: u8, on: bool) -> u8
 // ---- the device: enabled, copies, lifetime, clock, the counts of contacts, own rows, carried rows, tombstones and bad tags, next slot
 
 #[tactic(auto, unfolding(crate::specs::Boundary::device_of))]
-pub fn device_of(area: &[u8; 60]) -> Device
+pub fn device_of(area: &[u8; DEVICE]) -> Device
     ensures { result ≡ device_of area.now }
 {
     let courier = CourierConfig {
@@ -62,10 +67,10 @@ pub fn device_of(area: &[u8; 60]) -> Device
     }
 }
 
-fn device_bytes(enabled: u8, device: Device) -> [u8; 60]
+fn device_bytes(enabled: u8, device: Device) -> [u8; DEVICE]
     ensures { result ≡ device_bytes enabled device }
 {
-    let mut b = [0u8; 60];
+    let mut b = [0u8; DEVICE];
     octets::put_u8(&mut b, 0, enabled);
     octets::put_u8(&mut b, 1, device.courier.copies);
     octets::put_u16(&mut b, 2, device.courier.lifetime_min);
@@ -80,7 +85,7 @@ fn device_bytes(enabled: u8, device: Device) -> [u8; 60]
 }
 
 #[tactic(auto, using(crate::proofs::AreaLaws::device_back, crate::proofs::AreaLaws::device_stays, crate::proofs::AreaLaws::flag_says), unfolding(crate::specs::Boundary::device_area))]
-pub fn put_device(area: &mut [u8; 60], device: Device)
+pub fn put_device(area: &mut [u8; DEVICE], device: Device)
     ensures { HoldsDevice area.old device area.new }
 {
     let enabled = flag_over(byte_in(area, 0), device.courier.enabled);
@@ -89,7 +94,7 @@ pub fn put_device(area: &mut [u8; 60], device: Device)
 
 // A fresh device, whatever the area was.
 #[tactic(auto, using(crate::proofs::AreaLaws::device_back))]
-pub fn fresh_device(area: &mut [u8; 60])
+pub fn fresh_device(area: &mut [u8; DEVICE])
     ensures { FreshArea area.new }
 {
     *area = device_bytes(1, Device::fresh());
@@ -98,7 +103,7 @@ pub fn fresh_device(area: &mut [u8; 60])
 // ---- an exchange: whether it was opened, whether the terminator came, its peer, the counts of listed prefixes and of offers
 
 #[tactic(auto, unfolding(crate::specs::Boundary::exchange_of))]
-pub fn exchange_of(area: &[u8; 26]) -> Exchange
+pub fn exchange_of(area: &[u8; EXCHANGE]) -> Exchange
     ensures { result ≡ exchange_of area.now }
 {
     let opened = is_on(octets::get_u8(area, 0));
@@ -111,10 +116,16 @@ pub fn exchange_of(area: &[u8; 26]) -> Exchange
     }
 }
 
-fn exchange_bytes(opened: u8, complete: u8, peer: u64, listed: usize, offered: usize) -> [u8; 26]
+fn exchange_bytes(
+    opened: u8,
+    complete: u8,
+    peer: u64,
+    listed: usize,
+    offered: usize,
+) -> [u8; EXCHANGE]
     ensures { result ≡ exchange_bytes opened complete peer listed offered }
 {
-    let mut b = [0u8; 26];
+    let mut b = [0u8; EXCHANGE];
     octets::put_u8(&mut b, 0, opened);
     octets::put_u8(&mut b, 1, complete);
     octets::put_u64(&mut b, 2, peer);
@@ -125,7 +136,7 @@ fn exchange_bytes(opened: u8, complete: u8, peer: u64, listed: usize, offered: u
 
 // The peer's number stays as it was where the exchange is opened for none.
 #[tactic(auto, using(crate::proofs::AreaLaws::exchange_back, crate::proofs::AreaLaws::exchange_stays, crate::proofs::AreaLaws::peer_back, crate::proofs::AreaLaws::flag_says), unfolding(crate::specs::Boundary::exchange_area))]
-pub fn put_exchange(area: &mut [u8; 26], exchange: Exchange)
+pub fn put_exchange(area: &mut [u8; EXCHANGE], exchange: Exchange)
     ensures { HoldsExchange area.old exchange area.new }
 {
     let opened = flag_over(byte_in(area, 0), exchange.peer.is_some());

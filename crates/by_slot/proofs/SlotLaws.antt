@@ -16,7 +16,7 @@ use Rattle.table.specs.Tables.{rows_in}
 use Rattle.std.proofs.lemmas.List.{drop-map}
 use Rattle.table.proofs.RowLaws.{held_all}
 use Rattle.table.specs.declared.lent.Table.{Table}
-use Rattle.table.proofs.TableLaws.{length_table, table_held, table_next}
+use Rattle.table.proofs.TableLaws.{length_whole, table_held, table_next}
 use Rattle.rows.specs.declared.Carried.{Carried}
 use Rattle.rows.specs.declared.Tombstone.{Tombstone}
 use Rattle.rows.specs.Rows.{carried_codec, carried_of, tombstone_codec, tombstone_of}
@@ -60,16 +60,13 @@ module _ {A E : Type 0} (c : Codec A) (f : A → E) (n : ℕ) (a : List ℕ) (wi
   abbrev R : List E
   R = map f (table_of c n a)
 
-  pub length_rows_in : length (table_of c n a) ≡ n
-  length_rows_in = length_table c n a ∙ held_all (length a) c.width n wide fits
-
   row_next : (i : ℕ) → i < n → drop i R ≡ f (c.decode (part a (i * c.width) c.width)) ∷ drop (i + 1) R
   row_next i h =
       drop-map f i (table_of c n a) ∙ ap (map f) (table_next c n a i (omega (arith, held_all (length a) c.width n wide fits)))
       ∙ ap (λ (l : List E). f (c.decode (part a (i * c.width) c.width)) ∷ l) (sym (drop-map f (i + 1) (table_of c n a)))
 
   no_row : (i : ℕ) → n ≤ i → drop i R ≡ []
-  no_row i h = drop_of_length-le R {i = i} (omega (arith, length-map (table_of c n a) f, length_rows_in))
+  no_row i h = drop_of_length-le R {i = i} (omega (arith, length-map (table_of c n a) f, length_whole c n a wide fits))
 
 -- ---- the rows that fit are those of the tables by the counts that were given
 
@@ -118,8 +115,8 @@ module _ {A : Type 0} (slot : A → ℕ) (f : Carried → A) (g : Tombstone → 
   unfolding rows_left
   length_all =
       length_merge slot (map f (rows_in carried_codec h.carried)) (map g (rows_in tombstone_codec h.tombstones))
-      ∙ ap₂ ◌+◌ (length-map (rows_in carried_codec h.carried) f ∙ length_rows_in carried_codec f n h.carried.area.now (omega arith) h.carried_fit)
-      (length-map (rows_in tombstone_codec h.tombstones) g ∙ length_rows_in tombstone_codec g m h.tombstones.area.now (omega arith) h.tombstones_fit)
+      ∙ ap₂ ◌+◌ (length-map (rows_in carried_codec h.carried) f ∙ length_whole carried_codec n h.carried.area.now (omega arith) h.carried_fit)
+      (length-map (rows_in tombstone_codec h.tombstones) g ∙ length_whole tombstone_codec m h.tombstones.area.now (omega arith) h.tombstones_fit)
 
   pub none_left : (p q : ℕ) → n ≤ p → m ≤ q → L p q ≡ []
   unfolding rows_left merge

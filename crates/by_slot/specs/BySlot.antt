@@ -6,16 +6,16 @@ use Rattle.table.specs.Rows.{held}
 use Rattle.table.specs.Tables.{rows_in}
 use Rattle.rows.specs.declared.Carried.{Carried}
 use Rattle.rows.specs.declared.Tombstone.{Tombstone}
-use Rattle.rows.specs.Rows.{carried_codec, tombstone_codec}
+use Rattle.rows.specs.Rows.{carried_codec, tombstone_codec, carried_width, tombstone_width}
 use Rattle.model.specs.Basics.{merge}
 use Rattle.by_slot.specs.declared.held.Held.{Held}
 use Rattle.by_slot.specs.declared.Cursor.{Cursor}
 
 -- the rows of two tables by counts that may be anything
-pub record Fitted (carried : Table 57) (tombstones : Table 44) (h : Held) : Type 0 where
-  pub carried_count : h.carried.count ≡ held (length carried.area.now) 57 carried.count
+pub record Fitted (carried : Table carried_width) (tombstones : Table tombstone_width) (h : Held) : Type 0 where
+  pub carried_count : h.carried.count ≡ held (length carried.area.now) carried_width carried.count
   pub carried_area : h.carried.area.now ≡ carried.area.now
-  pub tombstones_count : h.tombstones.count ≡ held (length tombstones.area.now) 44 tombstones.count
+  pub tombstones_count : h.tombstones.count ≡ held (length tombstones.area.now) tombstone_width tombstones.count
   pub tombstones_area : h.tombstones.area.now ≡ tombstones.area.now
 
 -- a walk is inside both tables, and a row is left

@@ -96,19 +96,13 @@ unfoldable pub window_tests : List ℕ → List ℕ → List ℕ → List (Bool 
 window_tests answer skipped chains =
     (nat_lt (length answer) answer_size, refusal.ShortArea) ∷ (wrong_rows skipped chains, refusal.WindowRows) ∷ []
 
--- an answer in document 01's terms: the number of its refusal (0 for none), and how many rows it lists
-abbrev pub window_values : Result ℕ Refusal → ℕ × ℕ
-window_values (Err why) = (refusal_number why, 0)
-window_values (Ok n) = (0, n)
-
--- the window call: its answer, the same in document 01's terms, and the answer area with the listed rows at its front
+-- the window call: its answer, the number of its refusal, and the answer area with the listed rows at its front
 unfoldable pub window_says : List ℕ → List ℕ → List ℕ → Result ℕ Refusal
 window_says answer skipped chains =
     first_of (window_tests answer skipped chains) Err (Ok (length (window skipped chains)))
 
-unfoldable pub window_answer : List ℕ → List ℕ → List ℕ → ℕ × ℕ
-window_answer answer skipped chains =
-    first_of (window_tests answer skipped chains) (λ why. (refusal_number why, 0)) (0, length (window skipped chains))
+unfoldable pub window_number : List ℕ → List ℕ → List ℕ → ℕ
+window_number answer skipped chains = first_of (window_tests answer skipped chains) refusal_number 0
 
 unfoldable pub window_area : List ℕ → List ℕ → List ℕ → List ℕ
 window_area answer skipped chains =

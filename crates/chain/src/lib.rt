@@ -6,7 +6,8 @@ ghost use Rattle.std.specs.Prelude.{◌≡◌, ◌/◌, ◌<◌, ◌≤◌, leng
 ghost use Rattle.octets.specs.Bytes.{splice};
 ghost use Rattle.table.specs.Lists.{any};
 ghost use Rattle.table.specs.Rows.{join, all_rows};
-ghost use Rattle.chain.specs.Chain.{dir_label, dir_of, no_dir, is_bucket, inner_of, key_row, listed_keys, chains_keys, ChainsListed, next_above, wrong_table, wrong_rows, window_says, window_values, window_answer, window_area};
+ghost use Rattle.chain.specs.Chain.{dir_label, dir_of, no_dir, is_bucket, inner_of, key_row, listed_keys, chains_keys, ChainsListed, next_above, wrong_table, wrong_rows, window_says, window_number, window_area};
+ghost use Rattle.courier_core.specs.Core.{number_of};
 
 use courier_core::Refusal;
 
@@ -161,10 +162,10 @@ fn list_chains(room: &mut [u8], chains: &[u8]) -> usize
 
 // `Receiver::window`: writes a row for each message key that a receiver could still derive, from the skipped keys and the chains
 // that it holds, and answers how many.
-#[tactic(auto, using(crate::proofs::Keys::right_rows), unfolding(crate::specs::Chain::window_says, crate::specs::Chain::window_answer, crate::specs::Chain::window_area, crate::specs::Chain::window_tests))]
+#[tactic(auto, using(crate::proofs::Keys::right_rows), unfolding(crate::specs::Chain::window_says, crate::specs::Chain::window_number, crate::specs::Chain::window_area, crate::specs::Chain::window_tests))]
 pub fn window(skipped: &[u8], chains: &[u8], answer: &mut [u8]) -> Result<usize, Refusal>
     ensures value { result ≡ window_says answer.old skipped.now chains.now }
-    ensures result_value { window_values result ≡ window_answer answer.old skipped.now chains.now }
+    ensures number { number_of result ≡ window_number answer.old skipped.now chains.now }
     ensures answer_after { answer.new ≡ window_area answer.old skipped.now chains.now }
 {
     if answer.len() < ANSWER {

@@ -18,7 +18,7 @@ use Rattle.rows.specs.declared.Contact.{Contact}
 use Rattle.rows.specs.Device.{fresh_exchange}
 use Rattle.rows.specs.Rows.{contact_codec}
 use Rattle.model.specs.Basics.{match_found}
-use Rattle.model.specs.State.{contacts_now, courier_now, now_snow}
+use Rattle.model.specs.State.{contacts_now, courier_now, clock_now}
 use Rattle.model.specs.Calls.{contact, setting, clock, open_exchange, done}
 use Rattle.model.specs.Contacts.{set_clock, known, contact_place, put_contact, contact_tests, set_contact, setting_tests, set_config, open_exchange_tests, open_exchanged, opened_for}
 use Rattle.model.specs.Step.{step, tests, perform}
@@ -26,7 +26,7 @@ use Rattle.model.specs.Areas.{Areas, Written, view, view_session, store, store_d
 use Rattle.model.specs.Lent.{Does, no_answers, device_in, contacts_in, exchange_in}
 use Rattle.contacts.specs.Answers.{said_of}
 use Rattle.table.proofs.TableLaws.{length_table}
-use Rattle.contacts.proofs.FindLaws.{is_known_lem}
+use Rattle.holdings.proofs.FindLaws.{is_known_lem}
 use Rattle.model.proofs.CallLaws.{refused_here, not_here, no_test, quiet_call, refused_call}
 
 module _ (d : Device) (x : List ℕ) (id : ContactId) (v : Verification) where
@@ -85,7 +85,7 @@ module _ (d : Device) (x : List ℕ) (id : ContactId) (v : Verification) where
 -- the clock
 pub clocked : (d : Device) (seconds : ℕ) → Does said_of (clock seconds) (Ok tt) (device_in d) (device_in (record d { now_s = seconds })) no_answers no_answers
 unfolding step tests perform set_clock store store_device store_session
-clocked d seconds a = quiet_call done (now_snow seconds) (no_test _) refl refl
+clocked d seconds a = quiet_call done (clock_now seconds) (no_test _) refl refl
 
 -- the setting
 module _ (d : Device) (enabled : Bool) (copies lifetime : ℕ) where

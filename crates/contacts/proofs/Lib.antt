@@ -1,4 +1,2 @@
-pub mod FindLaws
-pub mod WindowLaws
 pub mod ContactLaws
-pub mod LendLaws
+pub mod FreshLaws

@@ -12,6 +12,7 @@ use Rattle.table.specs.Rows.{all_rows}
 use Rattle.table.specs.Lists.{more}
 use Rattle.table.specs.Lists as lists
 use Rattle.chain.specs.Chain.{is_bucket, window}
+use Rattle.courier_core.specs.Core.{number_of}
 use Rattle.courier_core.specs.declared.ContactId.{ContactId}
 use Rattle.courier.specs.declared.Header.{Header}
 use Rattle.courier.specs.declared.Custody.TheVariants as custody
@@ -19,7 +20,7 @@ use Rattle.courier.specs.Courier.{carried_length, envelope_valid}
 use Rattle.courier.proofs.Laws.{valid_if, not_valid}
 use Rattle.state.specs.declared.Carried.{Carried}
 use Rattle.state.specs.declared.Tombstone.{Tombstone}
-use Rattle.state.specs.Config.{in_range, config_new, config_number, config_default}
+use Rattle.state.specs.Config.{in_range, config_new, config_default}
 use Rattle.state.specs.Held.{carried, tombstone, held_row, row_answered, row_area, held_decode}
 use Rattle.state.proofs.RowLaws.{ProperTombstone}
 use Rattle.state.proofs.HeldLaws.{reads_back_not, ProperCarried, carried_back, carried_refused, tombstone_back}
@@ -71,10 +72,10 @@ pub record Corners : Type 0 where
   -- so does the default, 6 and 1,440
   pub default_passes : config_new config_default.enabled config_default.copies config_default.lifetime_min ≡ Ok config_default
   -- 0, 17, 59 and 10,081 fail
-  pub copies_0 : (enabled : Bool) (lifetime : ℕ) → config_number (config_new enabled 0 lifetime) ≡ 7
-  pub copies_17 : (enabled : Bool) (lifetime : ℕ) → config_number (config_new enabled 17 lifetime) ≡ 7
-  pub lifetime_59 : (enabled : Bool) (copies : ℕ) → config_number (config_new enabled copies 59) ≡ 7
-  pub lifetime_10081 : (enabled : Bool) (copies : ℕ) → config_number (config_new enabled copies 10081) ≡ 7
+  pub copies_0 : (enabled : Bool) (lifetime : ℕ) → number_of (config_new enabled 0 lifetime) ≡ 7
+  pub copies_17 : (enabled : Bool) (lifetime : ℕ) → number_of (config_new enabled 17 lifetime) ≡ 7
+  pub lifetime_59 : (enabled : Bool) (copies : ℕ) → number_of (config_new enabled copies 59) ≡ 7
+  pub lifetime_10081 : (enabled : Bool) (copies : ℕ) → number_of (config_new enabled copies 10081) ≡ 7
   -- a carried row whose copies fell to 0 is still written: its bytes, the copies 0, at the front of the area, and the rest of it stays
   pub no_copies_written : (r : Carried) (ct area : List ℕ) → ProperCarried r → r.header.copies ≡ 0 → 2110 ≤ length area
       → (row_answered (held_row (carried r ct)) area ≡ Ok (46 + length (take 2064 ct)))
@@ -102,8 +103,8 @@ carried_length_lem len h =
     has_all (λ (n : ℕ). carried_length n ≡ true) h (more refl (more refl (more refl (more refl (more refl (more refl (more refl lists.none)))))))
 
 -- a configuration out of range fails
-fails : (enabled : Bool) (copies lifetime : ℕ) → (Within copies lifetime → ⊥) → config_number (config_new enabled copies lifetime) ≡ 7
-fails enabled copies lifetime k = ap config_number (sym (refused enabled copies lifetime k).answer)
+fails : (enabled : Bool) (copies lifetime : ℕ) → (Within copies lifetime → ⊥) → number_of (config_new enabled copies lifetime) ≡ 7
+fails enabled copies lifetime k = ap number_of (sym (refused enabled copies lifetime k).answer)
 
 -- a length that no courier carries is not valid, whatever the copies and the expiry
 never_valid : (len : ℕ) → carried_length len ≡ false → (copies expiry minute : ℕ) → envelope_valid len copies expiry minute ≡ false

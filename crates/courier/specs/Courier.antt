@@ -7,6 +7,13 @@ use Rattle.courier.specs.declared.Header.{Header}
 use Rattle.courier.specs.declared.Custody.{Custody}
 use Rattle.courier.specs.declared.Custody.TheVariants as custody
 
+-- the bytes of an envelope before its ciphertext, and the greatest inner length that a courier carries
+abbrev pub envelope_header : ℕ
+envelope_header = 37
+
+abbrev pub courier_inner_max : ℕ
+courier_inner_max = 2048
+
 -- `Envelope::encode`: tag 16, commitment 16, expiry 4, copies 1; the ciphertext follows
 unfoldable pub header_bytes : Header → List ℕ
 header_bytes h = h.tag ++ h.c ++ be 4 h.expiry_min ++ (h.copies ∷ [])
@@ -17,11 +24,11 @@ header_of b = record { tag = part b 0 16; c = part b 16 16; expiry_min = num (pa
 
 -- `Envelope::decode` of the bytes of s from at on: none if they are fewer than 37
 unfoldable pub envelope_decode : List ℕ → ℕ → Option Header
-envelope_decode s at = cond (leb (at + 37) (length s)) (Some (header_of (part s at 37))) None
+envelope_decode s at = cond (leb (at + envelope_header) (length s)) (Some (header_of (part s at envelope_header))) None
 
 -- a ciphertext length that a courier carries: less 16 it is a bucket of at most 2,048
 unfoldable pub carried_length : ℕ → Bool
-carried_length len = leb 16 len && leb (len - 16) 2048 && is_bucket (len - 16)
+carried_length len = leb 16 len && leb (len - 16) courier_inner_max && is_bucket (len - 16)
 
 -- `Envelope::valid`: ciphertext length, copies, expiry, and the minute that is now
 unfoldable pub envelope_valid : ℕ → ℕ → ℕ → ℕ → Bool

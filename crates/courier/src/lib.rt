@@ -4,7 +4,7 @@
 ghost use Rattle.std.specs.Prelude.{◌≡◌, ◌+◌, ◌≤◌, length, leb};
 ghost use Rattle.octets.specs.Bytes.{part};
 ghost use Rattle.courier.specs.Tags.{route_tag, delivered_secret, commitment_of, tombstone_matches};
-ghost use Rattle.courier.specs.Courier.{header_bytes, header_of, envelope_decode, carried_length, envelope_valid, custody_code, from_code};
+ghost use Rattle.courier.specs.Courier.{header_bytes, header_of, envelope_decode, carried_length, envelope_valid, custody_code, from_code, envelope_header};
 
 use chain::Dir;
 
@@ -95,8 +95,8 @@ pub fn header_bytes(h: Header) -> [u8; ENVELOPE_HEADER]
 // The header whose 37 bytes start at an index.
 #[tactic(auto, using(crate::proofs::HeaderLaws::header_read))]
 fn header_at(s: &[u8], at: usize) -> Header
-    requires { at + 37 ≤ length s.now }
-    ensures { result ≡ header_of (part s.now at 37) }
+    requires { at + envelope_header ≤ length s.now }
+    ensures { result ≡ header_of (part s.now at envelope_header) }
 {
     Header {
         tag: octets::get_array(s, at),

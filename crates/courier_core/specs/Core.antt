@@ -1,6 +1,6 @@
 -- Document 01's numbers of the refusals ("Refused calls") and bytes of a verification ("Drill program", PT).
 -- Assumes nothing.
-use Rattle.std.specs.Prelude.{ℕ, Bool, cond, List, [], ◌∷◌, ◌==◌, Option, Some, None}
+use Rattle.std.specs.Prelude.{ℕ, Bool, cond, List, [], ◌∷◌, ◌==◌, Option, Some, None, Result, Ok, Err}
 use Rattle.courier_core.specs.declared.Refusal.{Refusal}
 use Rattle.courier_core.specs.declared.Refusal.TheVariants as refusal
 use Rattle.courier_core.specs.declared.Verification.{Verification}
@@ -20,6 +20,11 @@ refusal_number refusal.MessageNumberTaken = 10  -- own row
 refusal_number refusal.OwnLength = 11  -- own ciphertext less 16 is no inner length
 refusal_number refusal.WindowRows = 12  -- window or prefix area not whole rows, and what else is wrong with them
 refusal_number refusal.LogRecord = 13
+
+-- The number by which an answer is refused, 0 of every other: what a contract tells of it.
+abbrev pub number_of : {A : Type 0} → Result A Refusal → ℕ
+number_of (Err why) = refusal_number why
+number_of (Ok said) = 0
 
 abbrev pub verification_byte : Verification → ℕ
 verification_byte verification.Unverified = 0

@@ -1,8 +1,5 @@
 // What is written: a line for each row or answer, its parts as document 01 names them.
-ghost use Rattle.std.specs.Prelude.{◌<◌};
-
-use courier::Header;
-use courier_core::Refusal;
+use host_answers::{Answer, DONE, MISSING};
 use rows::{Action, Carried, Device, Own, PREFIX_WIDTH, Reply, Row, Tombstone};
 use std::{fmt, io};
 
@@ -11,31 +8,14 @@ const NOTHING: u8 = 255;
 
 // A tag or a secret: its first and its last byte.
 #[derive(Clone, Copy)]
-struct Tag([u8; 16]);
+struct Ends([u8; 16]);
 
-impl fmt::Display for Tag {
+impl fmt::Display for Ends {
     fn fmt<W: fmt::Write>(&self, f: &mut fmt::Formatter<W>) -> fmt::Result {
         let first = self.0[0];
         let last = self.0[15];
         write!(f, "{first:02x}..{last:02x}")
     }
-}
-
-// The first n rows, or all where there are fewer. (replay_calls has the same as `front`, and vectors as `first`, of bytes. The crates below all
-// three are the library's, which has no use for it.)
-pub fn first<T>(rows: &[T], n: usize) -> &[T] {
-    &rows[..n.min(rows.len())]
-}
-
-// The first n rows of an area. (Of the width of a row is asked what `as_chunks` asks.)
-pub fn first_rows<const N: usize>(area: &[u8], n: usize) -> &[[u8; N]]
-    requires { 0 < N × N < 9223372036854775808 }
-{
-    first(area.as_chunks().0, n)
-}
-
-pub fn show_refusal(rt: &impl Print, why: Refusal) -> io::Result<()> {
-    println!(rt; "refused {}", why.number())
 }
 
 // Rows of any kind, by the function that writes one.
@@ -58,7 +38,7 @@ pub fn show_rows<P: Print, R: Row<N>, const N: usize, F: Fn(&P, R) -> io::Result
 // A reply: its kind and tag; then of an envelope its cell, expiry and copies, of a custody the code, of a tomb the secret.
 #[tactic(auto, unfolding(courier::specs::Courier::envelope_decode))]
 pub fn show_reply<P: Print>(rt: &P, row: Reply) -> io::Result<()> {
-    let tag = Tag(octets::get_array(&row.body, 0));
+    let tag = Ends(octets::get_array(&row.body, 0));
     match row.kind {
         Reply::FETCH => println!(rt; "fetch {tag}"),
         Reply::ENVELOPE => {
@@ -72,7 +52,7 @@ pub fn show_reply<P: Print>(rt: &P, row: Reply) -> io::Result<()> {
         Reply::TOMB => {
             println!(rt;
                 "tomb {tag} {}",
-                Tag(octets::get_array(&row.body, Reply::BEHIND_TAG))
+                Ends(octets::get_array(&row.body, Reply::BEHIND_TAG))
             )
         }
         kind => println!(rt; "unknown reply {kind}"),
@@ -80,18 +60,14 @@ pub fn show_reply<P: Print>(rt: &P, row: Reply) -> io::Result<()> {
 }
 
 // A fetch: 0 and the ciphertext's length, with the envelope; or a refusal's number, or that of none, and 0.
-pub fn show_fetched(
-    rt: &impl Print,
-    fetched: Result<Option<&[u8]>, Refusal>,
-    envelope: Reply,
-) -> io::Result<()> {
-    match fetched {
-        Ok(Some(ct)) => {
-            println!(rt; "answer 0 {}", ct.len())?;
+pub fn show_fetched(rt: &impl Print, answer: &Answer, envelope: Reply) -> io::Result<()> {
+    match answer.said {
+        DONE => {
+            println!(rt; "answer 0 {}", answer.length)?;
             show_reply(rt, envelope)
         }
-        Ok(None) => println!(rt; "answer {NOTHING} 0"),
-        Err(why) => println!(rt; "answer {} 0", why.number()),
+        MISSING => println!(rt; "answer {NOTHING} 0"),
+        why => println!(rt; "answer {why} 0"),
     }
 }
 
@@ -113,7 +89,7 @@ pub fn show_carried<P: Print>(rt: &P, row: Carried) -> io::Result<()> {
         "carried {} {} {} expiry {} copies {}",
         row.slot,
         row.depositor.0,
-        Tag(row.tag),
+        Ends(row.tag),
         row.expiry_min,
         row.copies
     )
@@ -125,7 +101,7 @@ pub fn show_own<P: Print>(rt: &P, row: Own) -> io::Result<()> {
         "own {} {} {} expiry {} copies {} renewed {}",
         row.contact.0,
         row.msgno,
-        Tag(row.tag),
+        Ends(row.tag),
         row.expiry_min,
         row.copies,
         row.renewed
@@ -137,8 +113,8 @@ pub fn show_tombstone<P: Print>(rt: &P, row: Tombstone) -> io::Result<()> {
     println!(rt;
         "tombstone {} {} {} expiry {}",
         row.slot,
-        Tag(row.tag),
-        Tag(row.s),
+        Ends(row.tag),
+        Ends(row.s),
         row.expiry_min
     )
 }

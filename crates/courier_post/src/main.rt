@@ -2,6 +2,8 @@
 // or answer.
 #![tactic(auto)]
 
+use crate::post::Post;
+use crate::step::{Step, run};
 use std::io;
 
 mod ended; // tombs and maintenance
@@ -10,20 +12,29 @@ mod lines; // what is written
 mod listed; // what lists and fetches are answered with
 mod post; // the post, and the calls
 mod restart; // a post that is started again
+mod step; // what is put to a post
+mod tags; // tags, secrets, headers, lists
 mod time; // minute, lifetime end, what is accepted
 
+// Each is put to a fresh post.
+const SCENES: [&[Step]; 12] = [
+    time::MINUTES,
+    time::LAST_MINUTE,
+    time::LIFETIME_END,
+    time::ACCEPTED,
+    listed::FETCHES,
+    listed::TOMBSTONED_ROWS,
+    listed::TOMBS,
+    listed::OFFERS,
+    listed::TOMBSTONED,
+    expired::EXPIRED,
+    ended::TOMBS,
+    ended::MAINTENANCE,
+];
+
 fn main(rt: HostRuntime) -> io::Result<()> {
-    time::minute(&rt)?;
-    time::last_minute(&rt)?;
-    time::lifetime_end(&rt)?;
-    time::accepted(&rt)?;
-    listed::fetches(&rt)?;
-    listed::tombstoned_rows(&rt)?;
-    listed::tombs(&rt)?;
-    listed::offers(&rt)?;
-    listed::tombstoned(&rt)?;
-    expired::expired(&rt)?;
-    ended::tombs(&rt)?;
-    ended::maintenance(&rt)?;
+    for steps in SCENES {
+        run(&rt, &mut Post::default(), steps)?;
+    }
     restart::restart(&rt)
 }

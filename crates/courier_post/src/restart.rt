@@ -1,54 +1,68 @@
 // A post that is saved, and started again of that file.
-use crate::lines::{show_carried, show_rows};
-use crate::listed::list_of;
-use crate::post::{FILE_AREA, Post, header, sealed, secret, tag};
-use courier_core::ContactId;
+use crate::post::{FILE_AREA, Post};
+use crate::step::Step::{
+    self, Accepted, CarriedRows, Contact, Deposit, End, Fetch, Listed, Maintenance, Minute, Open,
+    Send, Stored, Title, Tomb,
+};
+use crate::step::{run, show_ended};
+use crate::tags::Head::{Plain, Sealed};
+use crate::tags::Secret;
+use crate::tags::Tag::Of;
 use state::BLOB;
 use std::io;
 
 // What a post is started with beside the file.
-fn contacts_alone() -> Post {
-    Post::default().contact(7).contact(6).contact(5)
-}
+const CONTACTS: &[Step] = &[Contact(7), Contact(6), Contact(5)];
 
-// Slot 0 went by maintenance. Slot 1 has 4 copies, slot 2 is a tombstone, and slot 3 has 1 copy.
-fn post_of_rows(rt: &impl Print) -> io::Result<Post> {
-    let p = contacts_alone().deposit(7, header(0x21, 4, 20));
-    let p = p.deposit(7, sealed(tag(0x22), 4, 100));
-    let p = p
-        .stored_tombstone(tag(0x31), 100)
-        .at_minute(20)
-        .maintenance(rt)?;
-    Ok(p.deposit(6, header(0x23, 1, 100)))
-}
+// Slot 0 goes by maintenance. Slot 1 has 4 copies, slot 2 is a tombstone, and slot 3 has 1 copy. Each of three peers is offered half of slot 1
+// before the first one accepts.
+const ALL_TAKEN: &[Step] = &[
+    Title(
+        "three peers take all copies of a row; the post is saved, and started again with its contacts",
+    ),
+    Deposit(7, Plain(0x21, 4, 20)),
+    Deposit(7, Sealed(Of(0x22), 4, 100)),
+    Stored(Of(0x31), 100),
+    Minute(20),
+    Maintenance,
+    Deposit(6, Plain(0x23, 1, 100)),
+    Open(0, 7),
+    Open(1, 6),
+    Open(2, 5),
+    End(0),
+    End(1),
+    End(2),
+    Accepted(0, Of(0x22)),
+    Accepted(1, Of(0x22)),
+    Accepted(2, Of(0x22)),
+    CarriedRows,
+];
 
-// Each of three peers is offered half of slot 1 before the first one accepts.
-fn all_taken(rt: &impl Print, p: Post) -> io::Result<Post> {
-    let mut first = p.open(rt, ContactId(7))?;
-    let mut second = p.open(rt, ContactId(6))?;
-    let mut third = p.open(rt, ContactId(5))?;
-    p.receive(rt, &mut first, b"", b"")?;
-    p.receive(rt, &mut second, b"", b"")?;
-    p.receive(rt, &mut third, b"", b"")?;
-    let p = p.accepted(rt, &mut first, tag(0x22))?;
-    let p = p.accepted(rt, &mut second, tag(0x22))?;
-    let p = p.accepted(rt, &mut third, tag(0x22))?;
-    show_rows(rt, p.carried_rows(), show_carried)?;
-    Ok(p)
-}
+// The row that has no copies left is not offered. It is fetched, and known: code 2 is Duplicate. Its tomb turns it.
+const KNOWN: &[Step] = &[
+    Title("the row is not offered; it is fetched and known, and its tomb turns it"),
+    Listed(&[Of(0x99)]),
+    Fetch(5, Of(0x22)),
+    Send(6, Sealed(Of(0x22), 4, 100)),
+    Tomb(Of(0x22), Secret::Carried),
+    Send(6, Sealed(Of(0x22), 4, 100)),
+];
 
 pub fn restart(rt: &(impl Print + Eprint)) -> io::Result<()> {
-    println!(rt;
-        "three peers take all copies of a row; the post is saved, and started again with its contacts"
-    )?;
-    let p = all_taken(rt, post_of_rows(rt)?)?;
+    let mut p = Post::default();
+    run(rt, &mut p, CONTACTS)?;
+    run(rt, &mut p, ALL_TAKEN)?;
     let mut area = [0u8; FILE_AREA];
     let file = p.file(&mut area);
     println!(rt; "file {}", file.len())?;
-    let again = contacts_alone().at_minute(20).load(rt, file)?;
-    show_rows(rt, again.carried_rows(), show_carried)?;
+    let mut again = Post::default();
+    run(rt, &mut again, CONTACTS)?;
+    run(rt, &mut again, &[Minute(20)])?;
+    let answer = again.load(file);
+    show_ended(rt, &again, &answer)?;
+    run(rt, &mut again, &[CarriedRows])?;
     compare(rt, &p, &again)?;
-    known(rt, again)
+    run(rt, &mut again, KNOWN)
 }
 
 // ---- the two posts
@@ -78,15 +92,4 @@ fn compare(rt: &(impl Print + Eprint), p: &Post, again: &Post) -> io::Result<()>
     let mut b = [0u8; FILE_AREA];
     print!(rt; "file: ")?;
     show_equal(rt, p.file(&mut a) == again.file(&mut b))
-}
-
-// The row that has no copies left is not offered. It is fetched, and known: code 2 is Duplicate. Its tomb turns it.
-fn known(rt: &impl Print, p: Post) -> io::Result<()> {
-    println!(rt; "the row is not offered; it is fetched and known, and its tomb turns it")?;
-    p.listed(rt, b"", list_of([tag(0x99)]).as_flattened())?;
-    p.fetch(rt, 5, tag(0x22))?;
-    let p = p.send(rt, 6, sealed(tag(0x22), 4, 100))?;
-    let p = p.tomb(rt, tag(0x22), secret())?;
-    p.send(rt, 6, sealed(tag(0x22), 4, 100))?;
-    Ok(())
 }

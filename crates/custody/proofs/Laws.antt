@@ -1,15 +1,14 @@
 -- Laws of the tests of the envelope call: rows by their keys, and each test over its parts.
 -- Assumes nothing.
-use Rattle.std.proofs.Common.{◌≡◌, ℕ, suc, ◌+◌, ◌*◌, ◌<◌, ◌≤◌, Bool, true, false, cond, refl, ◌||◌, eqb, ltb, leb, List, [], ◌∷◌, map, length, drop, zero, sym, ap, ◌∙◌, ap₂, arith, drop_of_length-le, le-ltb}
+use Rattle.std.proofs.Common.{◌≡◌, ℕ, suc, ◌+◌, ◌*◌, ◌<◌, ◌≤◌, Bool, false, refl, ◌||◌, ltb, leb, List, length, drop, zero, sym, ap, ◌∙◌, ap₂, arith, drop_of_length-le, le-ltb}
 use Rattle.std.specs.List.{range_with_len, sum_by}
-use Rattle.std.proofs.lemmas.Bool.{both_ways}
 use Rattle.std.proofs.lemmas.List.Sums.{sum_by-cons}
 use Rattle.octets.specs.Bytes.{part, num, same_bytes}
 use Rattle.octets.proofs.Parts.{part_part}
 use Rattle.courier_core.specs.declared.ContactId.{ContactId}
 use Rattle.courier.specs.declared.Header.{Header}
 use Rattle.courier.specs.Courier.{envelope_valid}
-use Rattle.table.specs.Lists.{any, count_by}
+use Rattle.table.specs.Lists.{any}
 use Rattle.table.specs.Rows.{held, rows, has_key}
 use Rattle.table.specs.Codec.{Codec, table_of}
 use Rattle.table.proofs.FindLaws.{key_run}
@@ -19,7 +18,6 @@ use Rattle.rows.specs.declared.Device.{Device}
 use Rattle.rows.specs.declared.Carried.{Carried}
 use Rattle.rows.specs.declared.Contact.{Contact}
 use Rattle.rows.specs.Rows.{contact_codec, own_codec, carried_codec, tombstone_codec, carried_width, carried_of}
-use Rattle.model.specs.Basics.{same_contact}
 use Rattle.model.specs.State.{State}
 use Rattle.model.specs.Areas.{Areas, view}
 use Rattle.model.specs.Contacts.{now_min, is_verified}
@@ -29,10 +27,6 @@ use Rattle.model.specs.Tombs.{tombstoned}
 use Rattle.model.proofs.Laws.{carried_total_lem}
 use Rattle.model.proofs.KeepRows.{code}
 use Rattle.custody.specs.Lent.{Lends}
-
--- a value is not both
-pub clash : {A : Type 0} (b : Bool) → b ≡ true → b ≡ false → A
-clash _ p q = absurd (both_ways _ q p)
 
 -- a search of the rows of bytes for a tag, at the place where the rows have it, is the search of the typed rows
 pub tagged : {A : Type 0} (c : Codec A) (tag_of : A → List ℕ) (o : ℕ) → ((b : List ℕ) → part b o 16 ≡ tag_of (c.decode b)) → (tag : List ℕ) (count : ℕ) (a : List ℕ) (b : Bool)
@@ -47,21 +41,6 @@ pub duplicate_of : {device : Device} {own carried tombstones : List ℕ} (tag : 
     → tombstoned (table_of tombstone_codec device.tombstones tombstones) tag ≡ t → duplicate (view a) tag ≡ (o || c || t)
 unfolding duplicate tombstoned view
 duplicate_of tag a ed eo ec et o c t po pc pt = rw (ed, eo, ec, et, po, pc, pt)
-
--- ---- carried rows by depositor
-
--- is the number at 8 of a row's bytes the peer's
-abbrev pub deposits : ContactId → List ℕ → Bool
-deposits peer row = eqb (num (part row 8 8)) peer.0
-
-pub deposit_all : (count : ℕ) (a : List ℕ) (peer : ContactId) (found : ℕ)
-    → found ≡ count_by (deposits peer) (rows carried_width (held (length a) carried_width count) a) → found ≡ deposited (table_of carried_codec count a) peer
-unfolding deposited table_of carried_of count_by
-deposit_all count a peer found e = e ∙ go (rows carried_width (held (length a) carried_width count) a)
-  where
-    go : (rs : List (List ℕ)) → count_by (deposits peer) rs ≡ count_by (λ (r : Carried). same_contact r.depositor peer) (map carried_of rs)
-    go [] = refl
-    go (r ∷ rs) = ap (λ (k : ℕ). cond (deposits peer r) (suc k) k) (go rs)
 
 -- ---- the bytes of carried rows
 

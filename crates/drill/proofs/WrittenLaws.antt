@@ -13,11 +13,12 @@ use Rattle.octets.proofs.Parts.{take_written}
 use Rattle.text.specs.Text.{Puts}
 use Rattle.model.specs.State.{State}
 use Rattle.model.specs.Areas.{Areas}
-use Rattle.drill_run.specs.Drill.{drill_start, drill_areas, printed}
+use Rattle.drill_run.specs.Drill.{drill_start, drill_areas, printed, drill_tombstones}
 use Rattle.drill_log.specs.declared.Why.{Why}
 use Rattle.drill_log.specs.declared.Why.TheVariants as cause
 use Rattle.drill_log.specs.Run.{goes_on}
 use Rattle.std.specs.Option.{unwrap_or}
+use Rattle.rows.specs.Limits.{prefix_area, offer_area, contact_area, own_area, carried_area}
 use Rattle.drill_turn.specs.declared.Turn.{Turn}
 use Rattle.drill_turn.specs.Stream.{first_turn, left, read_of, read_turn, Inside, Waits, Keeps, Fed, Turned, AtEnd, Between, Streamed, Printed}
 use Rattle.drill_turn.proofs.StreamLaws.{fed_read, streamed_more, between_start, between_on, between_end}
@@ -102,7 +103,7 @@ module _ (t : Turn) {r : Ran} where
 
 -- before the first turn, over cells that stand as the start has them
 pub sending_start : {t : Turn} {zo zk input : List ℕ} (c o k t' oc rc p f : List ℕ) → oc ≡ zo → rc ≡ zk → t ≡ first_turn
-    → length c ≡ 2304 → length o ≡ 13824 → length k ≡ 14592 → length t' ≡ 45056 → length p ≡ 4096 → length f ≡ 8704
+    → length c ≡ contact_area → length o ≡ own_area → length k ≡ carried_area → length t' ≡ drill_tombstones → length p ≡ prefix_area → length f ≡ offer_area
     → Sending (drill_start zo zk) (drill_areas t.device t.exchange c o k t' oc rc p f) t input 0
 sending_start {t} {zo} {zk} {input} c o k t' oc rc p f eo ek e lc lo lk lt lp lf = record {
   turning = record {

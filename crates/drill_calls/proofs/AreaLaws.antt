@@ -1,6 +1,8 @@
 -- An answer area that a call is not lent has no rows written to it, and so it stays as it was where it is lent after all.
 -- Assumes nothing.
 use Rattle.std.proofs.Common.{◌≡◌, ℕ, ◌<◌, List, [], ◌∷◌, length, refl, ap, arith, length-append}
+use Rattle.std.specs.Prelude
+use Rattle.courier_core.specs.declared.Refusal.{Refusal}
 use Rattle.octets.specs.Bytes.{be}
 use Rattle.table.specs.Rows.{join, written}
 use Rattle.table.specs.Codec.{Codec, with_table}
@@ -31,7 +33,7 @@ action_wide : (x : Action) → 0 < length (action_bytes x)
 unfolding action_bytes be
 action_wide x = omega arith
 
-module _ {A : Type 0} {says : Result → A} {o : Result} {r : A} {before after : Areas} where
+module _ {A : Type 0} {says : Result → A} {o : Result} {r : Prelude.Result A Refusal} {before after : Areas} where
   -- a call that is lent actions, replies or neither does the same where it is lent both
   pub with_replies : {x y : List ℕ} (z : List ℕ) → Written says o r before after (actions_lent x) (actions_lent y)
       → Written says o r before after (answers_lent z x) (answers_lent z y)
@@ -39,7 +41,7 @@ module _ {A : Type 0} {says : Result → A} {o : Result} {r : A} {before after :
   with_replies z w =
       let e = w.answers in
       let s = stays reply_codec reply_wide o.replies z (ap (λ (b : AnswerAreas). b.replies) e) in
-      record { answer = w.answer; areas = w.areas; answers = λ i. record { replies = s i; actions = (e i).actions; bytes = (e i).bytes } }
+      record { answer = w.answer; number = w.number; areas = w.areas; answers = λ i. record { replies = s i; actions = (e i).actions; bytes = (e i).bytes } }
 
   pub with_actions : {x y : List ℕ} (z : List ℕ) → Written says o r before after (replies_lent x) (replies_lent y)
       → Written says o r before after (answers_lent x z) (answers_lent y z)
@@ -47,7 +49,7 @@ module _ {A : Type 0} {says : Result → A} {o : Result} {r : A} {before after :
   with_actions z w =
       let e = w.answers in
       let s = stays action_codec action_wide o.actions z (ap (λ (b : AnswerAreas). b.actions) e) in
-      record { answer = w.answer; areas = w.areas; answers = λ i. record { replies = (e i).replies; actions = s i; bytes = (e i).bytes } }
+      record { answer = w.answer; number = w.number; areas = w.areas; answers = λ i. record { replies = (e i).replies; actions = s i; bytes = (e i).bytes } }
 
   pub with_both : (x y : List ℕ) → Written says o r before after no_answers no_answers → Written says o r before after (answers_lent x y) (answers_lent x y)
   with_both x y w = with_actions y (with_replies x w)

@@ -17,18 +17,19 @@ use Rattle.model.specs.Calls.{Call}
 use Rattle.model.specs.Step.{step}
 use Rattle.model.specs.Areas.{Areas, AnswerAreas, Written, view}
 use Rattle.model.specs.Lent.{Does}
+use Rattle.model.proofs.CallLaws.{retold}
 use Rattle.drill_run.specs.Drill.{record_step, call_of}
 use Rattle.drill_calls.specs.Asking.{Told, told_by, told_with, Asks}
 use Rattle.drill_calls.proofs.StepLaws.{Same}
 
 -- A call that is a record's does what the model's step does: what is told of its answer is told of the record.
-pub asked : {A : Type 0} (told : A → Told) {says : calls.Result → A} {said : A} {r : Told} (m : Record) {c : Call} {before after : Areas → Areas} {lent back : AnswerAreas}
+pub asked : {A : Type 0} (told : Result A Refusal → Told) {says : calls.Result → A} {said : Result A Refusal} {r : Told} (m : Record) {c : Call} {before after : Areas → Areas} {lent back : AnswerAreas}
     → c ≡ call_of m → ((s : State) → Same told says (step s (call_of m))) → Does says c said before after lent back → r ≡ told said
     → Asks (Some m) r before after lent back
 unfolding record_step
 asked told {says} {said} {r} m {c} {before} {after} {lent} {back} e same w q a =
     let v = subst (λ (k : Call). Written says (step (view (before a)) k) said (before a) (after a) lent back) e (w a) in
-    record { answer = ap told_by q ∙ ap (λ x. told_by (told x)) v.answer ∙ same (view (before a)); areas = v.areas; answers = v.answers }
+    retold (λ x. told_by (told x)) (ap told_by q) (same (view (before a))) v
 
 -- What an answer says is mapped, and a refusal stays.
 pub mapped : {A : Type 0} (f : A → Said) {P : A → Said → Type 0} (x : Result A Refusal) {r : Told} → ((a : A) (s : Said) → P a s → s ≡ f a)

@@ -1,11 +1,15 @@
 -- What is told of a record on the areas that its call is lent is told of it on all areas of the drill, of which the others stay as they are.
 -- Assumes nothing.
 use Rattle.std.proofs.Common.{◌≡◌, ℕ, List, refl, sym, ap, ◌∙◌, Option, Some, None, Err}
+use Rattle.std.specs.Prelude
+use Rattle.courier_core.specs.declared.Refusal.{Refusal}
 use Rattle.courier_core.specs.declared.Refusal.TheVariants as refusal
-use Rattle.model.specs.Areas.{Areas, AnswerAreas}
+use Rattle.table.specs.Rows.{join, written}
+use Rattle.table.specs.Codec.{with_table}
+use Rattle.octets.specs.Bytes.{splice}
+use Rattle.model.specs.Areas.{Areas, AnswerAreas, store, store_device, store_session, answer_areas}
 use Rattle.model.specs.Calls.{Call, Result}
 use Rattle.model.specs.Lent.{Does, no_answers, replies_lent, actions_lent, answers_lent}
-use Rattle.model.proofs.CallLaws.{refused_call}
 use Rattle.wire.specs.declared.Mark.{Mark}
 use Rattle.wire.specs.declared.Body.{Body}
 use Rattle.wire.specs.Log.{body_of}
@@ -29,11 +33,11 @@ module _ {m : Mark} {b : List ℕ} {x : Option Body} (t : read.Told m b x) where
   -- a body that is no record
   pub asks_wrong : x ≡ None → (r : Told) (before : Areas → Areas) {lent : AnswerAreas} → r ≡ Err refusal.LogRecord
       → Asks (body_of m b) r before before lent lent
-  unfolding record_step tells told_by
-  asks_wrong e r before q a = rw (read_is None e, q) (refused_call refusal.LogRecord refl refl refl)
+  unfolding record_step tells told_by store store_device store_session answer_areas with_table written join splice
+  asks_wrong e r before q a = rw (read_is None e, q) (record { answer = refl; areas = refl; answers = refl })
 
 -- What a call does on the areas that it is lent it does on the drill's, of which `before` has the others: by the answer areas that it is lent.
-module _ {A : Type 0} {says : Result → A} (c : Call) {said : A} {inner outer : Areas → Areas} (before : Areas → Areas) where
+module _ {A : Type 0} {says : Result → A} (c : Call) {said : Prelude.Result A Refusal} {inner outer : Areas → Areas} (before : Areas → Areas) where
   pub on_both : {x y x' y' : List ℕ} → Does says c said inner outer (answers_lent x y) (answers_lent x' y')
       → Does says c said (λ a. inner (before a)) (λ a. outer (before a)) (answers_lent x y) (answers_lent x' y')
   on_both h a = h (before a)

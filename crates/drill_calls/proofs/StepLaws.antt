@@ -1,6 +1,8 @@
 -- What each call's answer tells is what the model's step of it tells: so many actions and replies, and the last line.
 -- Assumes nothing.
 use Rattle.std.proofs.Common.{◌≡◌, ℕ, Bool, not, eqb, List, [], length, get_or, refl, Option, Some, None}
+use Rattle.std.specs.Prelude
+use Rattle.courier_core.specs.declared.Refusal.{Refusal}
 use Rattle.courier_core.specs.declared.ContactId.{ContactId}
 use Rattle.courier_core.specs.declared.Verification.{Verification}
 use Rattle.table.specs.Lists.{position}
@@ -9,7 +11,7 @@ use Rattle.courier.specs.declared.Custody.{Custody}
 use Rattle.model.specs.Basics.{match_found, match_some, find}
 use Rattle.model.specs.State.{State}
 use Rattle.model.specs.Calls as calls
-use Rattle.model.specs.Calls.{Result, only, missing, done, step_of, short_replies}
+use Rattle.model.specs.Calls.{Result, only, missing, done, step_of, short_replies, done_with, answer_of}
 use Rattle.model.specs.Contacts.{known, set_contact, set_config, set_clock, open_exchanged, contact_tests, setting_tests, open_exchange_tests}
 use Rattle.model.specs.Window.{no_reachable, window_rows, prefix_rows, lookup}
 use Rattle.model.specs.Custody.{custody_of, envelope_tests, ours_at, answer_custody, receive_envelope}
@@ -24,14 +26,14 @@ use Rattle.envelope.specs.Answers.{envelope_says}
 use Rattle.inventory.specs.Inventory.{received_says}
 use Rattle.fetch.specs.Fetch.{fetch_says}
 use Rattle.handover.specs.Handing.{says}
-use Rattle.tombs.specs.Tombs.{says as tomb_says}
+use Rattle.answers.specs.Says.{says as tomb_says}
 use Rattle.maintenance.specs.Expiry.{maintained_of}
 use Rattle.drill_run.specs.Drill.{tells}
-use Rattle.drill_calls.specs.Asking.{Told, told_by, told_with, done_said, acted_said, envelope_said, inventory_said, tomb_said, fetch_told}
+use Rattle.drill_calls.specs.Asking.{Told, told_by, told_with, done_said, acted_said, envelope_said, inventory_said, tomb_said, fetch_said}
 
 -- what an answer tells is what the result tells
-abbrev pub Same : {A : Type 0} → (A → Told) → (Result → A) → Result → Type 0
-Same told says o = told_by (told (says o)) ≡ tells o
+abbrev pub Same : {A : Type 0} → (Prelude.Result A Refusal → Told) → (Result → A) → Result → Type 0
+Same told says o = told_by (told (answer_of says o)) ≡ tells o
 
 module _ (s : State) where
   pub clock_told : (seconds : ℕ) → Same (told_with done_said) said_of (step s (calls.clock seconds))
@@ -103,17 +105,16 @@ module _ (s : State) where
   unfolding step tests perform tells told_by maintain_couriers
   maintenance_told actions = of_step (Same (told_with acted_said) maintained_of) (maintenance_tests s actions) (maintain_couriers s) (λ why. refl) refl
 
-  -- fetch has two refusals, and its number tells them apart
   pub fetch_told_lem : (own carried : List ℕ) (replies : ℕ) (peer : ContactId) (tag : List ℕ)
-      → Same fetch_told (fetch_says own carried) (step s (calls.fetch replies peer tag))
+      → Same (told_with fetch_said) (fetch_says own carried) (step s (calls.fetch replies peer tag))
   unfolding step tests perform tells told_by step_of fetch_tests receive_fetch fetched
   fetch_told_lem own carried replies peer tag =
       by_test Q (short_replies replies) refl (by_test Q (not (known s.contacts peer)) refl
       (go (find (envelope_of_tag tag) (envelopes s.own s.carried peer))))
     where
       Q : Result → Type 0
-      Q = Same fetch_told (fetch_says own carried)
+      Q = Same (told_with fetch_said) (fetch_says own carried)
 
-      go : (f : Option Envelope) → Same fetch_told (fetch_says own carried) (match_some f (fetched s) (only missing))
+      go : (f : Option Envelope) → Same (told_with fetch_said) (fetch_says own carried) (match_some f (fetched s) (only (done_with missing)))
       go (Some e) = refl
       go None = refl

@@ -1,17 +1,15 @@
 -- What the call of a record says, and what it is proved to do: the model's step of the record, on the areas of the drill.
 -- Assumes nothing.
-use Rattle.std.specs.Prelude.{ℕ, cond, ◌==◌, Option, Result, Ok, Err}
+use Rattle.std.specs.Prelude.{ℕ, List, Option, Some, None, Result, Ok, Err}
 use Rattle.courier_core.specs.declared.Refusal.{Refusal}
-use Rattle.courier_core.specs.declared.Refusal.TheVariants as refusal
 use Rattle.wire.specs.Log.{Record}
-use Rattle.model.specs.Areas.{Areas, AnswerAreas, Written, view}
+use Rattle.model.specs.Areas.{Areas, AnswerAreas, Retold, view}
 use Rattle.envelope.specs.declared.Answer.{Answer}
 use Rattle.envelope.specs.declared.Answer.TheVariants as answer
 use Rattle.inventory.specs.declared.Said.{Said as Received}
 use Rattle.inventory.specs.declared.Said.TheVariants as received
-use Rattle.fetch.specs.Fetch.{Fetched}
-use Rattle.tombs.specs.declared.Said.{Said as Met}
-use Rattle.tombs.specs.declared.Said.TheVariants as met
+use Rattle.answers.specs.declared.Said.{Said as Met}
+use Rattle.answers.specs.declared.Said.TheVariants as met
 use Rattle.drill_lines.specs.declared.Said.{Said}
 use Rattle.drill_lines.specs.declared.Said.TheVariants as said
 use Rattle.drill_lines.specs.Lines.{Last, acted_by, replied_by, last_by}
@@ -53,38 +51,20 @@ abbrev pub tomb_said : Met → Said
 tomb_said met.Malformed = said.Malformed
 tomb_said (met.Done actions) = said.Listed actions 0
 
+-- a fetch lists one reply where it finds an envelope
+abbrev pub fetch_said : Option (List ℕ) → Said
+fetch_said (Some ct) = said.Listed 0 1
+fetch_said None = nothing
+
 -- and of an answer, refused or not
 abbrev pub told_with : {A : Type 0} → (A → Said) → Result A Refusal → Told
 told_with f (Ok a) = Ok (f a)
 told_with f (Err why) = Err why
 
--- the refusal that has the number
-abbrev pub refusal_with : ℕ → Refusal
-refusal_with n =
-    cond (n == 1) refusal.ShortArea
-    (cond (n == 2) refusal.UnknownContact
-    (cond (n == 3) refusal.WrongExchange
-    (cond (n == 4) refusal.NoCell
-    (cond (n == 5) refusal.NoTombstoneRow
-    (cond (n == 6) refusal.NoSlot
-    (cond (n == 7) refusal.Configuration
-    (cond (n == 8) refusal.SavedFile
-    (cond (n == 9) refusal.NoBadTagRow
-    (cond (n == 10) refusal.MessageNumberTaken
-    (cond (n == 11) refusal.OwnLength
-    (cond (n == 12) refusal.WindowRows refusal.LogRecord)))))))))))
-
--- a fetch by its number: 0 an envelope, 255 none, or a refusal's
-abbrev pub told_of_number : ℕ → Told
-told_of_number n = cond (n == 0) (Ok (said.Listed 0 1)) (cond (n == 255) (Ok nothing) (Err (refusal_with n)))
-
-abbrev pub fetch_told : Fetched → Told
-fetch_told f = told_of_number f.number
-
 -- ---- the contract: a record, or none where the grammar refuses it, is answered as the model's step of it says, on any areas
 
 abbrev pub Asks : Option Record → Told → (Areas → Areas) → (Areas → Areas) → AnswerAreas → AnswerAreas → Type 0
-Asks m r before after lent back = (a : Areas) → Written tells (record_step (view (before a)) m) (told_by r) (before a) (after a) lent back
+Asks m r before after lent back = (a : Areas) → Retold tells (record_step (view (before a)) m) (told_by r) (before a) (after a) lent back
 
 -- ---- the drill's areas by what it lends
 

@@ -4,9 +4,10 @@
 ghost use Rattle.std.specs.Prelude.{◌≡◌, ◌≤◌, length, drop, replicate, Some};
 ghost use Rattle.octets.specs.Bytes.{part};
 ghost use Rattle.courier.specs.Courier.{header_of};
+ghost use Rattle.rows.specs.Limits.{prefix_area, offer_area};
 ghost use Rattle.wire.specs.Log as log;
 ghost use Rattle.fetch.specs.Fetch.{fetched_said};
-ghost use Rattle.drill_calls.specs.Asking.{envelope_said, inventory_said, tomb_said, fetch_told, Asks, tables_in, answers_of};
+ghost use Rattle.drill_calls.specs.Asking.{envelope_said, inventory_said, fetch_said, tomb_said, told_with, Asks, tables_in, answers_of};
 
 use courier::Custody;
 use courier_core::{ContactId, Refusal};
@@ -51,7 +52,7 @@ impl Tables {
     // the whole is. Tried of another such function, `no_row` of host_answers: the proof did not close.)
     pub fn zeros() -> Tables
         ensures zeros { (result.own_cells ≡ replicate 33024 0) × (result.cells ≡ replicate 33024 0) }
-        ensures sizes { (length result.prefixes ≡ 4096) × (length result.offers ≡ 8704) }
+        ensures sizes { (length result.prefixes ≡ prefix_area) × (length result.offers ≡ offer_area) }
     {
         Tables {
             contacts: [0u8; CONTACT_AREA],
@@ -101,7 +102,7 @@ fn inventory_said(answer: inventory::Said) -> Said
 
 // (A match and no `map`: the contract is by `fetched_said`, a definition of crate fetch that takes the whole answer, a refusal too.)
 fn fetch_said(answer: Result<Option<&[u8]>, Refusal>) -> Result<Said, Refusal>
-    ensures { result ≡ fetch_told (fetched_said answer.entry) }
+    ensures { result ≡ told_with fetch_said (fetched_said answer.entry) }
 {
     match answer {
         Ok(Some(_)) => Ok(Said::Listed {
@@ -113,15 +114,15 @@ fn fetch_said(answer: Result<Option<&[u8]>, Refusal>) -> Result<Said, Refusal>
     }
 }
 
-fn tomb_said(answer: tombs::Said) -> Said
+fn tomb_said(answer: answers::Said) -> Said
     ensures { result ≡ tomb_said answer }
 {
     match answer {
-        tombs::Said::Done(actions) => Said::Listed {
+        answers::Said::Done(actions) => Said::Listed {
             actions,
             replies: 0,
         },
-        tombs::Said::Malformed => Said::Malformed,
+        answers::Said::Malformed => Said::Malformed,
     }
 }
 

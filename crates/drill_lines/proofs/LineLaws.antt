@@ -1,5 +1,5 @@
 -- Laws of lines. Assumes nothing.
-use Rattle.std.proofs.Common.{◌≡◌, ℕ, ◌+◌, ◌*◌, ◌<◌, ◌≤◌, List, [], ◌∷◌, ◌++◌, length, get_or, take, sym, refl, ap, ◌∙◌, subst, append-nil, add-one, arith, take_all, take-suc, ne_eqb}
+use Rattle.std.proofs.Common.{◌≡◌, ℕ, ◌+◌, ◌*◌, ◌<◌, ◌≤◌, List, [], ◌++◌, length, get_or, take, sym, refl, ap, ◌∙◌, subst, arith, take_all, ne_eqb}
 use mathlib.Core.List.{flat_map}
 use Rattle.std.specs.Prelude.{Result, Ok, Err, Option, Some, None}
 use Rattle.std.specs.Option.{unwrap_or}
@@ -8,7 +8,7 @@ use Rattle.courier_core.specs.declared.Refusal.{Refusal}
 use Rattle.octets.specs.Bytes.{part, num}
 use Rattle.table.specs.Codec.{Codec, table_of}
 use Rattle.table.specs.Rows.{held}
-use Rattle.table.proofs.ListLaws.{flat_map_append}
+use Rattle.table.proofs.ListLaws.{flat_map_next}
 use Rattle.table.proofs.TableLaws.{length_table, get_d_table}
 use Rattle.text.specs.Text.{Puts}
 use Rattle.text.proofs.TextLaws.{puts_then, puts_within, puts_none}
@@ -16,12 +16,10 @@ use Rattle.rows.specs.declared.Reply.{Reply}
 use Rattle.rows.specs.declared.Action.{Action}
 use Rattle.model.specs.State.{State}
 use Rattle.model.specs.Calls as calls
-use Rattle.model.specs.Calls.{Answer}
+use Rattle.model.specs.Calls.{Answer, refused_or, detail, wrote_of, answer_of}
 use Rattle.model.specs.Step.{step}
-use Rattle.model.specs.Areas.{Areas, no_session_areas}
-use Rattle.rows.specs.Device.{fresh_device}
 use Rattle.saved.specs.Blobs.{blob_of, blob_says}
-use Rattle.drill_lines.specs.Lines.{put_line, del_line, envelope_line, custody_line, tomb_line, reply_line, action_line, blob_length, wrote_of, count_of}
+use Rattle.drill_lines.specs.Lines.{put_line, del_line, envelope_line, custody_line, tomb_line, reply_line, action_line, blob_length, count_of}
 
 -- a line of two, three and four texts
 module _ {l m : ℕ} {o x y : List ℕ} {at p q : ℕ} {a b : List ℕ} (room : at + 96 ≤ length o) (f : Puts l o at a p x) (g : Puts m x p b q y) where
@@ -69,12 +67,7 @@ module _ {A : Type 0} (c : Codec A) (f : A → List ℕ) (count : ℕ) (t : List
   lines_none o at = puts_none o at
 
   one_more : (i : ℕ) (a : A) → i < length T → get_or T i a ≡ a → flat_map f (take (i + 1) T) ≡ flat_map f (take i T) ++ f a
-  unfolding flat_map
-  one_more i a h e =
-      ap (λ (k : ℕ). flat_map f (take k T)) (add-one i)
-      ∙ ap (flat_map f) (take-suc T i a h ∙ ap (λ (x : A). take i T ++ (x ∷ [])) e)
-      ∙ flat_map_append f (take i T) (a ∷ [])
-      ∙ ap (λ (l : List ℕ). flat_map f (take i T) ++ l) (append-nil (f a))
+  one_more i a h e = flat_map_next f T i a h ∙ ap (λ (x : A). flat_map f (take i T) ++ f x) e
 
   -- the row at i, and its line behind the lines before it
   pub lines_more : (w i : ℕ) (a : A) {o x y : List ℕ} {at p q : ℕ} → w ≡ c.width → i < held (length t) w count → a ≡ c.decode (part t (i * w) c.width)
@@ -109,16 +102,10 @@ module _ (blob : ℕ → ℕ) (a : Action) where
 
 -- ---- what the row blob call answers, as a length
 
-count_blob : (x : Answer) → count_of (blob_of x) ≡ wrote_of x
+count_blob : (x : Answer) → count_of (refused_or Err (Ok (blob_of (detail x))) x) ≡ wrote_of (detail x)
 count_blob (calls.refused why) = refl
-count_blob calls.malformed = refl
-count_blob calls.done = refl
-count_blob (calls.ours contact generation idx) = refl
-count_blob (calls.found cells position len) = refl
-count_blob calls.missing = refl
-count_blob (calls.own_row row) = refl
-count_blob calls.no_envelope = refl
-count_blob (calls.wrote count) = refl
+count_blob (calls.done_with (calls.wrote count)) = refl
+count_blob other = refl
 
 -- what unwrapping twice gives
 count_unwrapped : (n : Result (Option ℕ) Refusal) → unwrap_or (result_unwrap_or n None) 0 ≡ count_of n
@@ -126,21 +113,7 @@ count_unwrapped (Ok (Some k)) = refl
 count_unwrapped (Ok None) = refl
 count_unwrapped (Err why) = refl
 
-pub length_told : (s : State) (len slot r : ℕ) {o : Option ℕ} (n : Result (Option ℕ) Refusal) → len ≡ 2110 → o ≡ result_unwrap_or n None → r ≡ unwrap_or o 0 → n ≡ blob_says (step s (calls.row_blob len slot)) → r ≡ blob_length s slot
+pub length_told : (s : State) (len slot r : ℕ) {o : Option ℕ} (n : Result (Option ℕ) Refusal) → len ≡ 2110 → o ≡ result_unwrap_or n None → r ≡ unwrap_or o 0 → n ≡ answer_of blob_says (step s (calls.row_blob len slot)) → r ≡ blob_length s slot
 unfolding blob_length
 length_told s len slot r n el eo er en =
-    er ∙ ap (λ (x : Option ℕ). unwrap_or x 0) eo ∙ count_unwrapped n ∙ ap count_of en ∙ count_blob (step s (calls.row_blob len slot)).answer ∙ ap (λ (k : ℕ). wrote_of (step s (calls.row_blob k slot)).answer) el
-
--- areas that are nothing, where any will do
-abbrev pub anything : Areas
-anything = record {
-  device = fresh_device;
-  contacts = [];
-  own = [];
-  carried = [];
-  tombstones = [];
-  bad_tags = [];
-  own_cells = [];
-  carried_cells = [];
-  session = no_session_areas;
-}
+    er ∙ ap (λ (x : Option ℕ). unwrap_or x 0) eo ∙ count_unwrapped n ∙ ap count_of en ∙ count_blob (step s (calls.row_blob len slot)).answer ∙ ap (λ (k : ℕ). wrote_of (detail (step s (calls.row_blob k slot)).answer)) el

@@ -11,9 +11,10 @@ use Rattle.model.specs.State.{State}
 use Rattle.model.specs.Areas.{Areas, view}
 use Rattle.saved.specs.Blobs.{held_in}
 use Rattle.model.specs.Calls as calls
-use Rattle.model.specs.Calls.{Answer}
+use Rattle.model.specs.Calls.{Answer, detail, wrote_of}
 use Rattle.model.specs.Step.{step}
 use Rattle.columns.specs.Columns.{hexes}
+use Rattle.state.specs.Sizes.{blob_size}
 use Rattle.text.specs.Text.{spaced}
 use Rattle.drill_lines.specs.declared.HeldRows.{HeldRows}
 use Rattle.drill_lines.specs.declared.Said.{Said}
@@ -50,25 +51,14 @@ reply_line r =
 unfoldable pub action_line : (ℕ → ℕ) → Action → List ℕ
 action_line blob a = cond (a.kind == 0) (put_line a.number (blob a.number)) (cond (a.kind == 1) (del_line a.number) [])
 
--- what the row blob call answers, as a length; and of the model's answer
+-- what the row blob call answers, as a length; and that of the model's call
 abbrev pub count_of : Result (Option ℕ) Refusal → ℕ
 count_of (Ok (Some n)) = n
 count_of (Ok None) = 0
 count_of (Err why) = 0
 
-abbrev pub wrote_of : Answer → ℕ
-wrote_of (calls.refused why) = 0
-wrote_of calls.malformed = 0
-wrote_of calls.done = 0
-wrote_of (calls.ours contact generation idx) = 0
-wrote_of (calls.found cells position len) = 0
-wrote_of calls.missing = 0
-wrote_of (calls.own_row row) = 0
-wrote_of calls.no_envelope = 0
-wrote_of (calls.wrote count) = count
-
 unfoldable pub blob_length : State → ℕ → ℕ
-blob_length s slot = wrote_of (step s (calls.row_blob 2110 slot)).answer
+blob_length s slot = wrote_of (detail (step s (calls.row_blob blob_size slot)).answer)
 
 -- the state of areas that have these held rows, and are anything otherwise
 abbrev pub held_view : HeldRows → Areas → State
@@ -100,13 +90,7 @@ stops_at (Err why) = refusal_number why == 13
 abbrev pub last_of : Answer → Last
 last_of (calls.refused why) = Err why
 last_of calls.malformed = Ok malformed
-last_of calls.done = Ok done
-last_of (calls.ours contact generation idx) = Ok done
-last_of (calls.found cells position len) = Ok done
-last_of calls.missing = Ok done
-last_of (calls.own_row row) = Ok done
-last_of calls.no_envelope = Ok done
-last_of (calls.wrote count) = Ok done
+last_of (calls.done_with d) = Ok done
 
 -- how many actions and replies a call lists, by what it says, and the last line
 abbrev pub acted_by : Result Said Refusal → ℕ

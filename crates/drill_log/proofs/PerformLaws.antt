@@ -9,10 +9,11 @@ use Rattle.table.specs.Codec.{table_of}
 use Rattle.rows.specs.declared.Device.{Device}
 use Rattle.rows.specs.declared.Exchange.{Exchange}
 use Rattle.rows.specs.Rows.{reply_codec, action_codec}
+use Rattle.rows.specs.Limits.{reply_area}
 use Rattle.wire.specs.Log.{Record}
 use Rattle.model.specs.State.{State, apply}
 use Rattle.model.specs.Calls.{Result}
-use Rattle.model.specs.Areas.{Areas, AnswerAreas, Written, view, answer_areas}
+use Rattle.model.specs.Areas.{Areas, AnswerAreas, Retold, view, answer_areas}
 use Rattle.model.specs.Lent.{answers_lent}
 use Rattle.model.specs.Good.{Good, Sized}
 use Rattle.model.proofs.StoreLaws.{sized_store, view_store}
@@ -20,7 +21,7 @@ use Rattle.saved.specs.Blobs.{held_in}
 use Rattle.drill_lines.specs.Lines.{Last, record_lines, last_of, stops_at, acted_by, replied_by, last_by}
 use Rattle.drill_calls.specs.Asking.{Told, told_by}
 use Rattle.drill_lines.proofs.LineLaws.{puts_as}
-use Rattle.drill_run.specs.Drill.{record_step, tells, drill_areas, drill_in, state_after, lines_of, last_record}
+use Rattle.drill_run.specs.Drill.{record_step, tells, drill_areas, drill_in, state_after, lines_of, last_record, drill_actions}
 use Rattle.drill_run.proofs.RecordLaws.{ProperRecord}
 use Rattle.drill_run.proofs.AnswerLaws.{Answers, record_answers, record_keeps, replies_back, actions_back}
 use Rattle.drill_log.specs.Run.{Ready, Performs}
@@ -45,8 +46,8 @@ not_last refusal.LogRecord h = absurd (h refl)
 -- ---- on any areas
 
 module _ (r : Option Record) (proper : ProperRecord r) (a a' : Areas) (ready : Ready a)
-    (told : Told) {replies actions replies' actions' : List ℕ} (lr : length replies' ≡ 61440) (la : length actions' ≡ 19968)
-    (w : Written tells (record_step (view a) r) (told_by told) a a' (answers_lent replies actions) (answers_lent replies' actions')) where
+    (told : Told) {replies actions replies' actions' : List ℕ} (lr : length replies' ≡ reply_area) (la : length actions' ≡ drill_actions)
+    (w : Retold tells (record_step (view a) r) (told_by told) a a' (answers_lent replies actions) (answers_lent replies' actions')) where
   abbrev acted : ℕ
   acted = acted_by told
 
@@ -117,8 +118,8 @@ module _ (r : Option Record) (proper : ProperRecord r) (a a' : Areas) (ready : R
 
 module _ {d d' : Device} {x x' : Exchange} {c c' o o' k k' t t' oc oc' rc rc' p p' f f' : List ℕ} (r : Option Record) (proper : ProperRecord r)
     (told : Told) {replies actions replies' actions' out out' : List ℕ} {at put : ℕ} {stop : Bool}
-    (lr : length replies' ≡ 61440) (la : length actions' ≡ 19968) where
-  pub performs : ((a : Areas) → Written tells (record_step (view (drill_in d x c o k t oc rc p f a)) r) (told_by told) (drill_in d x c o k t oc rc p f a)
+    (lr : length replies' ≡ reply_area) (la : length actions' ≡ drill_actions) where
+  pub performs : ((a : Areas) → Retold tells (record_step (view (drill_in d x c o k t oc rc p f a)) r) (told_by told) (drill_in d x c o k t oc rc p f a)
       (drill_in d' x' c' o' k' t' oc' rc' p' f' a) (answers_lent replies actions) (answers_lent replies' actions'))
       → ((a : Areas) → Puts (held (length actions') 13 (acted_by told) * 96 + held (length replies') 40 (replied_by told) * 96 + 96) out at
       (record_lines (view (held_in d' k' t' rc' a)) (table_of action_codec (acted_by told) actions') (table_of reply_codec (replied_by told) replies') (last_by told)) put out')

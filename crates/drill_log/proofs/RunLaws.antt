@@ -7,6 +7,7 @@ use Rattle.courier_core.specs.declared.Refusal.{Refusal}
 use Rattle.courier_core.specs.declared.Refusal.TheVariants as refusal
 use Rattle.table.specs.Rows.{held}
 use Rattle.table.proofs.RowLaws.{held_le}
+use Rattle.rows.specs.Limits.{reply_area}
 use Rattle.text.specs.Text.{Puts}
 use Rattle.wire.specs.declared.Head.{Head}
 use Rattle.wire.specs.Log.{Record, ReadHead, head_of, body_of}
@@ -14,7 +15,7 @@ use Rattle.wire.proofs.HeadLaws.{of_wrong}
 use Rattle.model.specs.State.{State}
 use Rattle.model.specs.Areas.{Areas, view}
 use Rattle.drill_lines.specs.Lines.{last_line}
-use Rattle.drill_run.specs.Drill.{state_after, lines_of, last_record, records_of, printed, performed, made_of, after_all}
+use Rattle.drill_run.specs.Drill.{state_after, lines_of, last_record, records_of, printed, performed, made_of, after_all, drill_actions}
 use Rattle.drill_run.proofs.LogLaws.{printed_on, printed_stop, printed_wrong, performed_on, performed_stop, performed_wrong}
 use Rattle.drill_run.proofs.RunLaws.{after_one}
 use Rattle.drill_log.specs.declared.Why.{Why}
@@ -30,13 +31,13 @@ rank cause.Ended = 3
 rank cause.Failed = 4
 
 -- the answer areas hold 1,536 actions and 1,536 replies
-pub lines_most : (la lr acted replied : ℕ) → la ≡ 19968 → lr ≡ 61440 → held la 13 acted * 96 + held lr 40 replied * 96 + 96 ≤ 295008
+pub lines_most : (la lr acted replied : ℕ) → la ≡ drill_actions → lr ≡ reply_area → held la 13 acted * 96 + held lr 40 replied * 96 + 96 ≤ 295008
 lines_most la lr acted replied ea er = omega (arith, (held_le la 13 acted).1, (held_le lr 40 replied).1)
 
-pub lines_room : (la lr acted replied at n : ℕ) → la ≡ 19968 → lr ≡ 61440 → at + 295008 ≤ n → at + (held la 13 acted * 96 + held lr 40 replied * 96 + 96) ≤ n
+pub lines_room : (la lr acted replied at n : ℕ) → la ≡ drill_actions → lr ≡ reply_area → at + 295008 ≤ n → at + (held la 13 acted * 96 + held lr 40 replied * 96 + 96) ≤ n
 lines_room la lr acted replied at n ea er h = omega (arith, lines_most la lr acted replied ea er)
 
-pub lines_within : {o w x : List ℕ} {at r : ℕ} (la lr acted replied : ℕ) → la ≡ 19968 → lr ≡ 61440
+pub lines_within : {o w x : List ℕ} {at r : ℕ} (la lr acted replied : ℕ) → la ≡ drill_actions → lr ≡ reply_area
     → Puts (held la 13 acted * 96 + held lr 40 replied * 96 + 96) o at w r x → Within at r
 lines_within la lr acted replied ea er p = record {
   low = omega (arith, p.next);

@@ -16,7 +16,8 @@ use Rattle.history.specs.History.{CustodyHistory}
 use Rattle.model.specs.Good.{Good}
 use Rattle.drill_lines.specs.Lines.{last_line}
 use Rattle.rows.specs.Device.{fresh_device, closed_exchange}
-use Rattle.drill_run.specs.Drill.{drill_areas, drill_start, records_of, printed, performed, after_all, lent_of, post_of}
+use Rattle.rows.specs.Limits.{prefix_area, offer_area, contact_area, own_area, carried_area}
+use Rattle.drill_run.specs.Drill.{drill_areas, drill_start, records_of, printed, performed, after_all, lent_of, post_of, drill_tombstones}
 use Rattle.drill_run.proofs.LogLaws.{printed_end, printed_cut}
 use Rattle.drill_run.proofs.RunLaws.{start_view, start_good, run_records, after_append, records_history}
 use Rattle.drill_run.proofs.RecordLaws.{ProperLent, records_proper, performed_proper}
@@ -59,8 +60,8 @@ log_cut {s₀} {a} {b} {rest} {l} k e some =
 -- ---- from the drill's start
 
 -- the program's areas at the start are ready, and hold the drill's start: `start_view`
-pub start_ready : (contacts own carried tombstones own_cells cells prefixes offers : List ℕ) → length contacts ≡ 2304 → length own ≡ 13824 → length carried ≡ 14592
-    → length tombstones ≡ 45056 → length prefixes ≡ 4096 → length offers ≡ 8704
+pub start_ready : (contacts own carried tombstones own_cells cells prefixes offers : List ℕ) → length contacts ≡ contact_area → length own ≡ own_area → length carried ≡ carried_area
+    → length tombstones ≡ drill_tombstones → length prefixes ≡ prefix_area → length offers ≡ offer_area
     → Ready (drill_areas fresh_device closed_exchange contacts own carried tombstones own_cells cells prefixes offers)
 start_ready contacts own carried tombstones own_cells cells prefixes offers lc lo lr lt lp lf =
     let a : Areas = drill_areas fresh_device closed_exchange contacts own carried tombstones own_cells cells prefixes offers in

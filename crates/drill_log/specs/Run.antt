@@ -8,7 +8,7 @@ use Rattle.model.specs.Areas.{Areas, view, store}
 use Rattle.model.specs.Good.{Good, Sized}
 use Rattle.drill_log.specs.declared.Why.{Why}
 use Rattle.drill_log.specs.declared.Why.TheVariants as cause
-use Rattle.drill_run.specs.Drill.{record_step, state_after, lines_of, last_record, records_of, printed, performed, after_all}
+use Rattle.drill_run.specs.Drill.{record_step, state_after, lines_of, last_record, records_of, printed, performed, after_all, drill_rows}
 
 -- the lines of a record end within 295,008 bytes: 96 a line, 1,536 actions, as many replies, and one
 pub record Within (at put : ℕ) : Type 0 where
@@ -18,7 +18,7 @@ pub record Within (at put : ℕ) : Type 0 where
 -- What the drill's areas keep: the tables' sizes, R = 1,024, and rows in range.
 pub record Ready (a : Areas) : Type 0 where
   pub sized : Sized a
-  pub rows : (view a).tombstone_rows ≡ 1024
+  pub rows : (view a).tombstone_rows ≡ drill_rows
   pub good : Good (view a)
 
 -- A record is performed on areas: they are what its call's change stores, and hold what the model's step leaves; its lines stand in the

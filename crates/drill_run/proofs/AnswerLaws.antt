@@ -24,37 +24,36 @@ use Rattle.rows.specs.declared.Tombstone.{Tombstone}
 use Rattle.rows.specs.declared.Reply.{Reply}
 use Rattle.rows.specs.declared.Action.{Action}
 use Rattle.rows.specs.Rows.{reply_codec, action_codec}
-use Rattle.rows.specs.Proper.{Run, ProperOwn, ProperCarried, ProperTombstone, ProperReply, ProperAction}
+use Rattle.rows.specs.Proper.{Run, ProperTombstone, ProperReply, ProperAction}
 use Rattle.rows.proofs.Laws.{reply_laws, action_laws}
+use Rattle.rows.specs.Limits.{max_cells, reply_area, listed_replies, listed_actions}
 use Rattle.wire.specs.Log as log
 use Rattle.wire.specs.Log.{Record}
 use Rattle.model.specs.Basics.{match_found, match_some, find}
 use Rattle.model.specs.State.{State, Change, apply}
-use Rattle.model.specs.Calls.{Answer, Result, result, only, refused, done, malformed, missing, step_of, Cells, of_own, of_carried, put_courier, delete_courier, put_queued, custody_reply, tomb_reply, no_cell, cell_from, reply_cell}
-use Rattle.model.specs.Cells.{max_cells}
+use Rattle.model.specs.Calls.{Answer, Result, result, only, refused, done, malformed, missing, step_of, Cells, of_own, of_carried, put_courier, delete_courier, put_queued, custody_reply, tomb_reply, no_cell, cell_from, reply_cell, done_with}
 use Rattle.model.specs.Contacts.{contact_tests, set_contact, setting_tests, set_config, set_clock, open_exchange_tests, open_exchanged, minute_of}
 use Rattle.model.specs.Window.{window_rows, prefix_rows, no_reachable, lookup}
 use Rattle.model.specs.Custody.{custody_of, envelope_tests, ours_at, answer_custody, receive_envelope, own_of_tag, carried_of_tag}
-use Rattle.model.specs.Exchange.{Envelope, own_envelope_of, carried_envelope_of, not_for, envelopes, reply_for, fetch_tests, fetched, envelope_of_tag, receive_fetch, receive_inventory_tests, fetch_for, has_prefix, tomb_for, is_offered, halved, offers, offer_of_tag, answer_inventory, list_more, too_many, receive_inventory, no_carried, no_own, handed_actions, custody_tests, settle, receive_custody}
+use Rattle.model.specs.Exchange.{Envelope, envelopes, reply_for, fetch_tests, fetched, envelope_of_tag, receive_fetch, receive_inventory_tests, fetch_for, has_prefix, tomb_for, offers, offer_of_tag, answer_inventory, list_more, too_many, receive_inventory, no_carried, no_own, handed_actions, custody_tests, settle, receive_custody}
 use Rattle.model.specs.Tombs.{no_tombstone, tombstoned, least_expiry, evicted, store_actions, Met, carried_at, own_at, wrong, unknown, meets, turn, end_own, tomb_tests, receive_tomb}
 use Rattle.model.specs.Maintenance.{own_expired, carried_expired, tombstone_expired, own_puts, expired_slots, maintenance_tests, maintain_couriers}
 use Rattle.model.specs.Step.{tests, perform, step}
 use Rattle.model.specs.Good.{Good, ProperHeader, ProperCall}
-use Rattle.model.proofs.KeepRows.{offers_few}
+use Rattle.model.proofs.KeepRows.{envelopes_proper, offers_proper, offers_few}
 use Rattle.model.proofs.RunLaws.{all_get_d}
-use Rattle.history.proofs.OfferLaws.{commitment_run}
 use Rattle.model.proofs.KeepCalls.{keeps}
 use Rattle.maintenance.proofs.MergeLaws.{length_expired}
 use Rattle.model.proofs.Laws.{all_merge}
-use Rattle.drill_run.specs.Drill.{call_of, record_step, state_after}
+use Rattle.drill_run.specs.Drill.{call_of, record_step, state_after, drill_rows, drill_actions}
 use Rattle.drill_run.proofs.RecordLaws.{ProperRecord}
 
--- what a result lists: at most 1,536 replies, and 512 actions beside one for each of the R tombstone rows
+-- what a result lists: at most listed_replies replies, and listed_actions actions beside one for each of the R tombstone rows
 pub record Answers (s : State) (o : Result) : Type 0 where
   pub replies : All ProperReply o.replies
   pub actions : All ProperAction o.actions
-  pub replies_few : length o.replies ≤ 1536
-  pub actions_few : length o.actions ≤ 512 + s.tombstone_rows
+  pub replies_few : length o.replies ≤ listed_replies
+  pub actions_few : length o.actions ≤ listed_actions + s.tombstone_rows
 
 -- ---- lists
 
@@ -211,27 +210,12 @@ module _ (s : State) (g : Good s) where
 
   -- ---- fetch and inventory
 
-  own_envelope_lem : (o : Own) → ProperOwn o → ProperEnvelope (own_envelope_of o)
-  unfolding own_envelope_of
-  own_envelope_lem o p = record { tag = p.tag; c = commitment_run o.s; expiry_min = p.expiry_min; copies = p.copies }
-
-  carried_envelope : (r : Carried) → ProperCarried r → ProperEnvelope (carried_envelope_of r)
-  unfolding carried_envelope_of
-  carried_envelope r p = record { tag = p.tag; c = p.c; expiry_min = p.expiry_min; copies = p.copies }
-
-  envelopes_proper : (peer : ContactId) → All ProperEnvelope (envelopes s.own s.carried peer)
-  unfolding envelopes
-  envelopes_proper peer =
-      all_append (map own_envelope_of (filter (not_for peer) s.own)) (map carried_envelope_of s.carried)
-      (all_map own_envelope_of (filter (not_for peer) s.own) (all_imp own_envelope_lem (filter (not_for peer) s.own) (all_filter (not_for peer) s.own g.own)))
-      (all_map carried_envelope_of s.carried (all_imp carried_envelope s.carried g.carried))
-
   fetch_answers : (peer : ContactId) (tag : List ℕ) → Answers s (receive_fetch s peer tag)
   unfolding receive_fetch fetched
-  fetch_answers peer tag = go (find (envelope_of_tag tag) (envelopes s.own s.carried peer)) (all_find (envelope_of_tag tag) (envelopes s.own s.carried peer) (envelopes_proper peer))
+  fetch_answers peer tag = go (find (envelope_of_tag tag) (envelopes s.own s.carried peer)) (all_find (envelope_of_tag tag) (envelopes s.own s.carried peer) (envelopes_proper s g peer))
     where
-      go : (o : Option Envelope) → Of ProperEnvelope o → Answers s (match_some o (fetched s) (only missing))
-      go None p = silent s missing _
+      go : (o : Option Envelope) → Of ProperEnvelope o → Answers s (match_some o (fetched s) (only (done_with missing)))
+      go None p = silent s (done_with missing) _
       go (Some e) p = replying s _ (reply_for e) _ (envelope_proper e p)
 
   -- the window is empty: nothing is fetched
@@ -249,17 +233,8 @@ module _ (s : State) (g : Good s) where
       go None p = (none, omega arith)
       go (Some t) p = (more (tomb_proper t.tag t.s p.tag p.s) none, omega arith)
 
-  half_proper : (e : Envelope) → ProperEnvelope e → ProperEnvelope (halved e)
-  unfolding halved
-  half_proper e p = record { tag = p.tag; c = p.c; expiry_min = p.expiry_min; copies = omega (arith, p.copies) }
-
   offers_whole : (peer : ContactId) → All ProperReply (map reply_for (offers s peer))
-  unfolding offers
-  offers_whole peer =
-      let es : List Envelope = envelopes s.own s.carried peer in
-      let is : Envelope → Bool = is_offered s.tombstones s.session.exchange.listed in
-      all_map reply_for (map halved (filter is es))
-      (all_imp envelope_proper (map halved (filter is es)) (all_map halved (filter is es) (all_imp half_proper (filter is es) (all_filter is es (envelopes_proper peer)))))
+  offers_whole peer = all_map reply_for (offers s peer) (all_imp envelope_proper (offers s peer) (offers_proper s g peer))
 
   terminator_answers : (peer : ContactId) → Answers s (answer_inventory s (window_rows []) peer)
   unfolding answer_inventory
@@ -437,15 +412,15 @@ module _ (s : State) (g : Good s) where
   call_answers (log.contact id v) h = answers_step s (contact_tests s id) (set_contact s id v) (silent s done _)
   call_answers (log.session peer) h = answers_step s (open_exchange_tests s peer) (open_exchanged peer) (silent s done _)
   call_answers (log.envelope peer head ct) h =
-      answers_step s (envelope_tests s 61440 19968 [] peer head (length ct)) (receive_envelope s (window_rows []) peer head ct) (envelope_answers peer head ct h.1.tag)
+      answers_step s (envelope_tests s reply_area drill_actions [] peer head (length ct)) (receive_envelope s (window_rows []) peer head ct) (envelope_answers peer head ct h.1.tag)
   call_answers (log.inventory peer listed) h =
-      answers_step s (receive_inventory_tests s 61440 [] peer listed) (receive_inventory s (window_rows []) peer (prefix_rows listed)) (inventory_answers peer (prefix_rows listed))
-  call_answers (log.fetch peer tag) h = answers_step s (fetch_tests s 61440 peer) (receive_fetch s peer tag) (fetch_answers peer tag)
-  call_answers (log.custody peer tag code) h = answers_step s (custody_tests s 19968 peer) (receive_custody s tag code) (custody_answers tag code)
+      answers_step s (receive_inventory_tests s reply_area [] peer listed) (receive_inventory s (window_rows []) peer (prefix_rows listed)) (inventory_answers peer (prefix_rows listed))
+  call_answers (log.fetch peer tag) h = answers_step s (fetch_tests s reply_area peer) (receive_fetch s peer tag) (fetch_answers peer tag)
+  call_answers (log.custody peer tag code) h = answers_step s (custody_tests s drill_actions peer) (receive_custody s tag code) (custody_answers tag code)
   call_answers (log.tomb peer tag secret) h =
-      answers_step s (tomb_tests s 19968 peer tag (meets s.own s.carried tag secret)) (receive_tomb s tag secret (meets s.own s.carried tag secret))
+      answers_step s (tomb_tests s drill_actions peer tag (meets s.own s.carried tag secret)) (receive_tomb s tag secret (meets s.own s.carried tag secret))
       (tomb_answers tag secret (meets s.own s.carried tag secret))
-  call_answers log.maintenance h = answers_step s (maintenance_tests s 19968) (maintain_couriers s) maintenance_answers
+  call_answers log.maintenance h = answers_step s (maintenance_tests s drill_actions) (maintain_couriers s) maintenance_answers
   call_answers (log.setting enabled copies lifetime) h = answers_step s (setting_tests copies lifetime) (set_config enabled copies lifetime) (silent s done _)
 
   pub record_answers : (r : Option Record) → ProperRecord r → Answers s (record_step s r)
@@ -469,9 +444,9 @@ back {c = c} laws a x ts p e h =
     ∙ table_with laws x ts p h
 
 -- the areas hold 1,536 replies, and as many actions
-module _ (s : State) (o : Result) (p : Answers s o) (r1024 : s.tombstone_rows ≡ 1024) (a x : List ℕ) where
-  pub replies_back : x ≡ with_table reply_codec a o.replies → length x ≡ 61440 → table_of reply_codec (length o.replies) x ≡ o.replies
+module _ (s : State) (o : Result) (p : Answers s o) (r1024 : s.tombstone_rows ≡ drill_rows) (a x : List ℕ) where
+  pub replies_back : x ≡ with_table reply_codec a o.replies → length x ≡ reply_area → table_of reply_codec (length o.replies) x ≡ o.replies
   replies_back e l = back reply_laws a x o.replies p.replies e (omega (arith, p.replies_few))
 
-  pub actions_back : x ≡ with_table action_codec a o.actions → length x ≡ 19968 → table_of action_codec (length o.actions) x ≡ o.actions
+  pub actions_back : x ≡ with_table action_codec a o.actions → length x ≡ drill_actions → table_of action_codec (length o.actions) x ≡ o.actions
   actions_back e l = back action_laws a x o.actions p.actions e (omega (arith, p.actions_few))

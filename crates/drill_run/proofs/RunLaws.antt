@@ -7,17 +7,19 @@ use Rattle.table.specs.Lists.{All, none, more}
 use Rattle.table.proofs.TableLaws.{table_none}
 use Rattle.rows.specs.Rows.{contact_codec, own_codec, carried_codec, tombstone_codec, bad_tag_codec, offer_codec}
 use Rattle.rows.specs.Device.{fresh_device, closed_exchange}
+use Rattle.rows.specs.Limits.{prefix_area, offer_area}
 use Rattle.wire.specs.Log.{Record}
-use Rattle.model.specs.State.{State, apply, nobody}
+use Rattle.model.specs.State.{State, apply, nobody, Session}
 use Rattle.model.specs.Window.{prefix_codec}
 use Rattle.model.specs.Step.{Post, Lent, state_for, answer_to, after, run, results}
 use Rattle.model.specs.Calls.{Result}
 use Rattle.model.specs.Areas.{Areas, view, view_session}
 use Rattle.model.specs.Good.{Good}
+use Rattle.model.proofs.AloneLaws.{sessions_after}
 use Rattle.drill_lines.specs.Lines.{record_lines, last_line}
 use Rattle.history.specs.History.{Empty, CustodyHistory}
 use Rattle.history.proofs.HistoryLaws.{custody_history}
-use Rattle.drill_run.specs.Drill.{record_step, drill_in, state_after, lines_of, last_record, records_of, lines_from, printed, performed, made_of, ends_wrong, after_all, answers_of, lent_of, post_of, run_lines, drill_start}
+use Rattle.drill_run.specs.Drill.{record_step, drill_in, state_after, lines_of, last_record, records_of, lines_from, printed, performed, made_of, ends_wrong, after_all, answers_of, lent_of, post_of, run_lines, drill_start, drill_tombstones}
 use Rattle.drill_run.proofs.RecordLaws.{ProperLent, records_proper, performed_proper}
 
 -- ---- one record
@@ -25,7 +27,7 @@ use Rattle.drill_run.proofs.RecordLaws.{ProperLent, records_proper, performed_pr
 -- the one exchange stays the one that is lent
 after_record : (s : State) (r : Record) → after (post_of s) (lent_of r) ≡ post_of (state_after s (Some r))
 unfolding after answer_to state_for state_after record_step
-after_record s r = refl
+after_record s r = ap (λ (es : List Session). record { state = state_after s (Some r); sessions = es }) (sessions_after (post_of s) (lent_of r))
 
 answer_record : (s : State) (r : Record) → answer_to (post_of s) (lent_of r) ≡ record_step s (Some r)
 unfolding answer_to state_for record_step
@@ -69,7 +71,7 @@ wrong_line = last_line (Err refusal.LogRecord)
 -- the lines of a record are those of its call in the model's run
 run_line : (s : State) (r : Record) (ls : List Lent) → run_lines (post_of s) (lent_of r ∷ ls) ≡ lines_of s (Some r) ++ run_lines (post_of (state_after s (Some r))) ls
 unfolding run_lines lines_of after answer_to state_for state_after record_step
-run_line s r ls = refl
+run_line s r ls = ap (λ (p : Post). lines_of s (Some r) ++ run_lines p ls) (after_record s r)
 
 -- What records print is what the model's run of their calls answers, line by line, and the line of one that the grammar refuses.
 pub lines_run : (s : State) (rs : List (Option Record)) → lines_from s rs ≡ run_lines (post_of s) (map lent_of (performed s rs)) ++ cond (ends_wrong s rs) wrong_line []
@@ -103,6 +105,7 @@ module _ (own_cells cells : List ℕ) where
     tombstones = refl;
     bad_tags = refl;
     next_slot = refl;
+    others = refl;
     sessions = more refl none;
   }
 
@@ -122,6 +125,7 @@ module _ (own_cells cells : List ℕ) where
     next_slot = omega arith;
     copies = omega arith;
     session = record { listed = none; offered = none; listed_few = omega arith; offered_few = omega arith; listed_fit = omega arith; offered_fit = omega arith };
+    sessions = none;
   }
 
   -- demand 3 holds of every list of records
@@ -142,7 +146,7 @@ module _ (own_cells cells : List ℕ) where
 
   -- the program's areas at the start, whatever their bytes, hold that state
   pub start_view : (contacts own carried tombstones prefixes offers : List ℕ) (a : Areas)
-      → length tombstones ≡ 45056 → length prefixes ≡ 4096 → length offers ≡ 8704
+      → length tombstones ≡ drill_tombstones → length prefixes ≡ prefix_area → length offers ≡ offer_area
       → view (drill_in fresh_device closed_exchange contacts own carried tombstones own_cells cells prefixes offers a) ≡ drill_start own_cells cells
   unfolding view view_session
   start_view contacts own carried tombstones prefixes offers a et ep ef = λ i. record {
@@ -168,4 +172,5 @@ module _ (own_cells cells : List ℕ) where
       prefix_area = ep i;
       offer_area = ef i;
     };
+    sessions = [];
   }

@@ -1,34 +1,46 @@
 -- The drill (document 01, "Drill program"): the records of a log, the call that each makes, and the lines of a whole log.
 -- Assumes nothing.
-use Rattle.std.specs.Prelude.{ℕ, zero, suc, ◌+◌, Bool, true, false, cond, List, [], ◌∷◌, ◌++◌, length, drop, Option, Some, None, Ok, Err}
+use Rattle.std.specs.Prelude.{ℕ, zero, suc, ◌+◌, ◌*◌, Bool, true, false, cond, List, [], ◌∷◌, ◌++◌, length, drop, Option, Some, None, Ok, Err}
 use Rattle.octets.specs.Bytes.{part}
 use Rattle.courier_core.specs.declared.Refusal.TheVariants as refusal
 use Rattle.wire.specs.Log as log
 use Rattle.wire.specs.Log.{Record, ReadHead, head_of, body_of}
 use Rattle.rows.specs.declared.Device.{Device}
 use Rattle.rows.specs.declared.Exchange.{Exchange}
+use Rattle.rows.specs.Limits.{prefix_area, offer_area, reply_area, action_area}
+use Rattle.rows.specs.Rows.{tombstone_width}
 use Rattle.state.specs.Config.{config_default}
 use Rattle.model.specs.State.{State, Session, apply, nobody, with_session}
 use Rattle.model.specs.Calls as calls
 use Rattle.model.specs.Calls.{Call, Result, only, refused}
 use Rattle.model.specs.Step.{Post, Lent, empty_state, step, answer_to, after}
-use Rattle.model.specs.Areas.{Areas}
-use Rattle.model.specs.Lent.{device_in, contacts_in, own_in, carried_in, tombstones_in, bad_tags_in, own_cells_in, carried_cells_in, exchange_in}
+use Rattle.model.specs.Areas.{Areas, no_areas}
+use Rattle.model.specs.Lent.{device_in, contacts_in, own_in, carried_in, tombstones_in, bad_tags_in, own_cells_in, carried_cells_in, exchange_in, sessions_in}
 use Rattle.drill_lines.specs.Lines.{Last, record_lines, last_of, stops_at}
 
 -- ---- a record
 
--- the call that a record makes: the answer areas have their whole size for R = 1,024, and the window is empty
+-- R, and the bytes of the tombstones' area and of an action area for it
+abbrev pub drill_rows : ℕ
+drill_rows = 1024
+
+abbrev pub drill_tombstones : ℕ
+drill_tombstones = tombstone_width * drill_rows
+
+abbrev pub drill_actions : ℕ
+drill_actions = action_area drill_rows
+
+-- the call that a record makes: the answer areas have their whole size for R, and the window is empty
 abbrev pub call_of : Record → Call
 call_of (log.clock seconds) = calls.clock seconds
 call_of (log.contact id v) = calls.contact id v
 call_of (log.session peer) = calls.open_exchange peer
-call_of (log.envelope peer header ct) = calls.envelope 61440 19968 [] peer header ct
-call_of (log.inventory peer prefixes) = calls.inventory_received 61440 [] peer prefixes
-call_of (log.fetch peer tag) = calls.fetch 61440 peer tag
-call_of (log.custody peer tag code) = calls.custody_answer 19968 peer tag code
-call_of (log.tomb peer tag s) = calls.tomb 19968 peer tag s
-call_of log.maintenance = calls.maintenance 19968
+call_of (log.envelope peer header ct) = calls.envelope reply_area drill_actions [] peer header ct
+call_of (log.inventory peer prefixes) = calls.inventory_received reply_area [] peer prefixes
+call_of (log.fetch peer tag) = calls.fetch reply_area peer tag
+call_of (log.custody peer tag code) = calls.custody_answer drill_actions peer tag code
+call_of (log.tomb peer tag s) = calls.tomb drill_actions peer tag s
+call_of log.maintenance = calls.maintenance drill_actions
 call_of (log.setting enabled copies lifetime) = calls.setting enabled copies lifetime
 
 -- none is a record that the grammar refuses: number 13
@@ -40,23 +52,14 @@ record_step s (Some r) = step s (call_of r)
 unfoldable pub tells : Result → ℕ × (ℕ × Last)
 tells o = (length o.actions, (length o.replies, last_of o.answer))
 
--- the areas that the drill lends with every call: none for bad tags
-abbrev pub drill_areas : Device → Exchange → (contacts own carried tombstones own_cells cells prefixes offers : List ℕ) → Areas
-drill_areas d x contacts own carried tombstones own_cells cells prefixes offers = record {
-  device = d;
-  contacts = contacts;
-  own = own;
-  carried = carried;
-  tombstones = tombstones;
-  bad_tags = [];
-  own_cells = own_cells;
-  carried_cells = cells;
-  session = record { exchange = x; prefixes = prefixes; offers = offers };
-}
-
--- the same, each set into any areas
+-- the areas that the drill lends with every call, none for bad tags and no exchange but its own, set into any
 abbrev pub drill_in : Device → Exchange → (contacts own carried tombstones own_cells cells prefixes offers : List ℕ) → Areas → Areas
-drill_in d x c o r t oc rc p f a = device_in d (contacts_in c (own_in o (carried_in r (tombstones_in t (bad_tags_in [] (own_cells_in oc (carried_cells_in rc (exchange_in x p f a))))))))
+drill_in d x c o r t oc rc p f a = device_in d (contacts_in c (own_in o (carried_in r (tombstones_in t (bad_tags_in [] (own_cells_in oc (carried_cells_in rc (exchange_in x p f (sessions_in [] a)))))))))
+
+-- these alone
+abbrev pub drill_areas : Device → Exchange → (contacts own carried tombstones own_cells cells prefixes offers : List ℕ) → Areas
+drill_areas d x contacts own carried tombstones own_cells cells prefixes offers =
+    drill_in d x contacts own carried tombstones own_cells cells prefixes offers no_areas
 
 -- what a record leaves
 unfoldable pub state_after : State → Option Record → State
@@ -142,8 +145,8 @@ run_lines p (l ∷ ls) =
 -- ---- at the start
 
 abbrev pub drill_session : Session
-drill_session = record { exchange = nobody; prefix_area = 4096; offer_area = 8704 }
+drill_session = record { exchange = nobody; prefix_area = prefix_area; offer_area = offer_area }
 
--- clock 0, `CF` 1, 6, 1,440; no row or contact; R = 1,024, no bad-tag row; the two cell areas
+-- clock 0, `CF` 1, 6, 1,440; no row or contact; R tombstone rows, no bad-tag row; the two cell areas
 abbrev pub drill_start : (own_cells cells : List ℕ) → State
-drill_start own_cells cells = with_session (empty_state 0 config_default own_cells cells 1024 0) drill_session
+drill_start own_cells cells = with_session (empty_state 0 config_default own_cells cells drill_rows 0) drill_session

@@ -14,10 +14,11 @@ use Rattle.wire.proofs.HeadLaws.{of_more}
 use Rattle.rows.specs.declared.Device.{Device}
 use Rattle.rows.specs.declared.Exchange.{Exchange}
 use Rattle.rows.specs.Device.{fresh_device, closed_exchange}
+use Rattle.rows.specs.Limits.{prefix_area, offer_area, contact_area, own_area, carried_area}
 use Rattle.model.specs.State.{State}
 use Rattle.model.specs.Areas.{Areas, view}
 use Rattle.drill_lines.specs.Lines.{last_line}
-use Rattle.drill_run.specs.Drill.{drill_areas, drill_start}
+use Rattle.drill_run.specs.Drill.{drill_areas, drill_start, drill_tombstones}
 use Rattle.drill_run.proofs.RunLaws.{start_view}
 use Rattle.drill_log.specs.declared.Why.{Why}
 use Rattle.drill_log.specs.declared.Why.TheVariants as cause
@@ -186,7 +187,7 @@ unfolding head_of
 none_wants = refl
 
 pub between_start : {turn : Turn} (contacts own carried tombstones own_cells cells prefixes offers input : List ℕ) → turn ≡ first_turn
-    → length contacts ≡ 2304 → length own ≡ 13824 → length carried ≡ 14592 → length tombstones ≡ 45056 → length prefixes ≡ 4096 → length offers ≡ 8704
+    → length contacts ≡ contact_area → length own ≡ own_area → length carried ≡ carried_area → length tombstones ≡ drill_tombstones → length prefixes ≡ prefix_area → length offers ≡ offer_area
     → Between (drill_start own_cells cells) (drill_areas turn.device turn.exchange contacts own carried tombstones own_cells cells prefixes offers) turn input []
 between_start contacts own carried tombstones own_cells cells prefixes offers input start lc lo lr lt lp lf =
     let a : Areas = drill_areas fresh_device closed_exchange contacts own carried tombstones own_cells cells prefixes offers in

@@ -1,8 +1,7 @@
 -- Laws of the envelope call: what holding an envelope leaves, each choice as a result of the model's step, and what it leaves in the areas.
 -- Assumes nothing.
-use Rattle.std.proofs.Common.{◌≡◌, ℕ, ◌+◌, ◌*◌, ◌/◌, ◌^◌, ◌<◌, ◌≤◌, min, Bool, true, false, cond, List, [], ◌∷◌, ◌++◌, length, get_or, sym, refl, ap, ◌∙◌, subst, ap₂, arith, Option, Some, None, Result, Ok, Err}
+use Rattle.std.proofs.Common.{◌≡◌, ℕ, ◌+◌, ◌*◌, ◌/◌, ◌^◌, ◌<◌, ◌≤◌, min, cond, List, [], ◌∷◌, ◌++◌, length, get_or, sym, refl, ap, ◌∙◌, subst, ap₂, arith, Option, Some, None, Result, Ok, Err}
 use Rattle.octets.specs.Bytes.{part, splice}
-use Rattle.courier_core.specs.Core.{first_of}
 use Rattle.courier_core.specs.declared.ContactId.{ContactId}
 use Rattle.courier_core.specs.declared.Refusal.{Refusal}
 use Rattle.courier.specs.declared.Header.{Header}
@@ -19,15 +18,16 @@ use Rattle.rows.specs.declared.Reachable.{Reachable}
 use Rattle.rows.specs.declared.Reply.{Reply}
 use Rattle.rows.specs.declared.Action.{Action}
 use Rattle.rows.specs.Rows.{reachable_codec, reachable_of, carried_codec, reply_codec, reply_bytes, action_codec, action_bytes}
+use Rattle.rows.specs.Limits.{reply_area, carried_area}
 use Rattle.model.specs.Basics.{match_found}
 use Rattle.model.specs.State.{State, Change, nothing}
-use Rattle.model.specs.Calls.{Call, Answer, Result as Outcome, result, only, refused, ours, done, step_of, envelope, put_courier, custody_reply}
+use Rattle.model.specs.Calls.{Call, Answer, Result as Outcome, result, ours, done, envelope, put_courier, custody_reply, done_with}
 use Rattle.model.specs.Contacts.{lifetime_end}
 use Rattle.model.specs.Window.{no_reachable, window_rows, lookup}
 use Rattle.model.specs.Custody.{is_accepted, custody_of, carried_cell, new_carried, carry, envelope_tests, ours_at, answer_custody, receive_envelope}
 use Rattle.model.specs.Step.{tests, perform, step}
 use Rattle.model.specs.Areas.{Areas, Written, view, store, store_device, store_session, answer_areas}
-use Rattle.model.proofs.CallLaws.{quiet_call, refused_call, answering_call}
+use Rattle.model.proofs.CallLaws.{result_by, tested_call, quiet_call, refused_call, answering_call}
 use Rattle.model.specs.Lent.{answers_lent}
 use Rattle.envelope.specs.declared.Choice.{Choice}
 use Rattle.envelope.specs.declared.Choice.TheVariants as choice
@@ -65,11 +65,13 @@ carries {d} {n = n} {a = a} {x = x} e N s p =
 -- ---- each choice as a result
 
 module _ (s : State) (window : List ℕ) (peer : ContactId) (head : Header) (ct : List ℕ) where
+  abbrev chosen : Choice → Outcome
+  chosen (choice.Ours i) = ours_at (get_or (window_rows window) i no_reachable)
+  chosen (choice.Code code) = result done (custody_reply head.tag code ∷ []) [] nothing
+  chosen (choice.Take cell) = result done (custody_reply head.tag custody.Accepted ∷ []) (put_courier s.next_slot ∷ []) (carry s peer head ct)
+
   abbrev result_of : Result Choice Refusal → Outcome
-  result_of (Err why) = only (refused why)
-  result_of (Ok (choice.Ours i)) = ours_at (get_or (window_rows window) i no_reachable)
-  result_of (Ok (choice.Code code)) = result done (custody_reply head.tag code ∷ []) [] nothing
-  result_of (Ok (choice.Take cell)) = result done (custody_reply head.tag custody.Accepted ∷ []) (put_courier s.next_slot ∷ []) (carry s peer head ct)
+  result_of k = result_by chosen k
 
   -- what the window and the code leave
   performed : (f : Option ℕ) (code : Custody) → result_of (match_found f (λ i. Ok (choice.Ours i)) (cond (is_accepted code) (Ok (choice.Take (carried_cell s))) (Ok (choice.Code code))))
@@ -82,20 +84,10 @@ module _ (s : State) (window : List ℕ) (peer : ContactId) (head : Header) (ct 
   performed None custody.Off = refl
   performed None custody.Invalid = refl
 
-  -- a refusal is the same of a choice and of a result
-  of_first : (ts : List (Bool × Refusal)) (k : Result Choice Refusal) (o : Outcome) → result_of k ≡ o
-      → first_of ts (λ (why : Refusal). only (refused why)) o ≡ result_of (first_of ts Err k)
-  of_first [] k o e = sym e
-  of_first (t ∷ ts) k o e = go t.0 _ _ (of_first ts k o e)
-    where
-      go : (b : Bool) (x : Outcome) (y : Result Choice Refusal) → x ≡ result_of y → cond b (only (refused t.1)) x ≡ result_of (cond b (Err t.1) y)
-      go true x y q = refl
-      go false x y q = q
-
   step_is : (replies actions : ℕ) → step s (envelope replies actions window peer head ct) ≡ result_of (envelope_choice s replies actions window peer head (length ct))
-  unfolding step step_of tests perform receive_envelope envelope_choice
+  unfolding step tests perform receive_envelope envelope_choice
   step_is replies actions =
-      of_first (envelope_tests s replies actions window peer head (length ct)) _ _
+      tested_call chosen (envelope_tests s replies actions window peer head (length ct)) _
       (performed (lookup (window_rows window) head.tag) (custody_of s peer head (length ct)))
 
 -- ---- the four ways
@@ -114,13 +106,13 @@ module _ (d : Device) (peer : ContactId) (head : Header) (ct window contacts own
 
   -- what the writes rely on
   module _ (cell : ℕ) (e : ch ≡ Ok (choice.Take cell)) where
-    pub room_to_take : d.next_slot < 2 ^ 64 → length carried ≡ 14592 → Room d (length ct) cell (length carried) (length cells)
+    pub room_to_take : d.next_slot < 2 ^ 64 → length carried ≡ carried_area → Room d (length ct) cell (length carried) (length cells)
     room_to_take = taken_room d contacts own carried tombstones cells window (length replies) (length actions) peer head (length ct) cell (here (Ok (choice.Take cell)) e)
 
     pub room_to_list : Listed (length replies) (length actions) (carried_cell (view nowhere)) cell
     room_to_list = taken_listed d contacts own carried tombstones cells window (length replies) (length actions) peer head (length ct) cell (here (Ok (choice.Take cell)) e)
 
-  pub room_to_say : (code : Custody) → ch ≡ Ok (choice.Code code) → 61440 ≤ length replies
+  pub room_to_say : (code : Custody) → ch ≡ Ok (choice.Code code) → reply_area ≤ length replies
   room_to_say code e = code_is (view nowhere) (length replies) (length actions) window peer head (length ct) code (here (Ok (choice.Code code)) e)
 
   ours_inside : (i : ℕ) → ch ≡ Ok (choice.Ours i) → i < held (length window) 30 (length window / 30)
@@ -160,7 +152,7 @@ module _ (d : Device) (peer : ContactId) (head : Header) (ct window contacts own
     unfolding envelope_says ours_at window_rows store store_device store_session
     says_ours i v e f =
         let row : Reachable = get_or (window_rows window) i no_reachable in
-        quiet_call (ours row.contact row.generation row.idx) nothing (is (Ok (choice.Ours i)) e)
+        quiet_call (done_with (ours row.contact row.generation row.idx)) nothing (is (Ok (choice.Ours i)) e)
         (ap Ok (f ∙ ap ours_of (sym (get_d_table reachable_codec (length window / 30) window i no_reachable (ours_inside i e))))) refl
 
     pub says_code : (code : Custody) (rep : List ℕ) → ch ≡ Ok (choice.Code code) → rep ≡ splice replies 0 (reply_bytes (custody_reply head.tag code))

@@ -14,9 +14,11 @@ use Rattle.courier.specs.Courier.{envelope_valid}
 use Rattle.table.specs.Lists.{All, none, more, is_at, unwrap_or}
 use Rattle.table.specs.Codec.{table_of}
 use Rattle.table.proofs.TableLaws.{length_table}
+use Rattle.state.specs.Sizes.{cell_size}
 use Rattle.rows.specs.declared.Device.{Device}
 use Rattle.rows.specs.declared.Carried.{Carried}
 use Rattle.rows.specs.Rows.{contact_codec, carried_codec}
+use Rattle.rows.specs.Limits.{max_cells, reply_area, carried_area, action_area}
 use Rattle.model.specs.Basics.{match_found}
 use Rattle.model.specs.State.{State}
 use Rattle.model.specs.Calls.{short_replies, short_actions}
@@ -24,7 +26,7 @@ use Rattle.model.specs.Contacts.{minute_of, known}
 use Rattle.model.specs.Window.{window_rows, wrong_window, strangers, lookup}
 use Rattle.model.specs.Cells.{free_cell, cells_used, new_cell}
 use Rattle.model.specs.Custody.{is_accepted, duplicate, full, custody_of, accepts, carried_named, carried_cell, last_slot, envelope_tests}
-use Rattle.model.specs.Areas.{Areas, no_session_areas, view}
+use Rattle.model.specs.Areas.{Areas, view, no_areas}
 use Rattle.model.proofs.CellLaws.{free_inside}
 use Rattle.model.proofs.KeepRows.{and_false, or_false, next_small, accepted, valid_length}
 use Rattle.envelope.specs.declared.Choice.{Choice}
@@ -161,7 +163,7 @@ module _ (s : State) (replies actions : ℕ) (window : List ℕ) (peer : Contact
     unfolding envelope_tests
     all_fail = of_five past.0
 
-  pub code_is : (c : Custody) → Ok (choice.Code c) ≡ envelope_choice s replies actions window peer head len → 61440 ≤ replies
+  pub code_is : (c : Custody) → Ok (choice.Code c) ≡ envelope_choice s replies actions window peer head len → reply_area ≤ replies
   code_is c e = ltb-false replies 61440 (or_false (short_replies replies) (short_actions s actions) (all_fail (Ok (choice.Code c)) refl e).0).0
 
   pub ours_is : (i : ℕ) → Ok (choice.Ours i) ≡ envelope_choice s replies actions window peer head len → Some i ≡ place
@@ -221,7 +223,7 @@ module _ {a : Areas} {d : Device} {contacts own carried tombstones : List ℕ} {
 
 -- ---- what a cell that is taken says
 
-new_inside : (size : ℕ) (named : List ℕ) → cells_used size named ≡ false → (new_cell size named < 256) × (new_cell size named * 2064 + 2064 ≤ size)
+new_inside : (size : ℕ) (named : List ℕ) → cells_used size named ≡ false → (new_cell size named < max_cells) × (new_cell size named * cell_size + cell_size ≤ size)
 unfolding cells_used new_cell
 new_inside size named e = go (free_cell size named) refl e
   where
@@ -238,22 +240,13 @@ is_accepted_lem custody.Invalid e = let z : ◌≡◌ {A = ℕ} 0 1 = cc in absu
 
 -- what the call is lent, in areas that have nothing else
 abbrev pub alone : Device → (contacts own carried tombstones cells : List ℕ) → Areas
-alone d contacts own carried tombstones cells = record {
-  device = d;
-  contacts = contacts;
-  own = own;
-  carried = carried;
-  tombstones = tombstones;
-  bad_tags = [];
-  own_cells = [];
-  carried_cells = cells;
-  session = no_session_areas;
-}
+alone d contacts own carried tombstones cells =
+    record no_areas { device = d; contacts = contacts; own = own; carried = carried; tombstones = tombstones; carried_cells = cells }
 
 -- the answer areas are long enough, and the cell is the model's
 pub record Listed (replies actions cell m : ℕ) : Type 0 where
-  pub reply : 61440 ≤ replies
-  pub action : 6656 ≤ actions
+  pub reply : reply_area ≤ replies
+  pub action : action_area 0 ≤ actions
   pub same : m ≡ cell
 
 module _ (d : Device) (contacts own carried tombstones cells window : List ℕ) (replies actions : ℕ) (peer : ContactId) (head : Header) (len : ℕ) where
@@ -261,7 +254,7 @@ module _ (d : Device) (contacts own carried tombstones cells window : List ℕ) 
   S = view (alone d contacts own carried tombstones cells)
 
   module _ (cell : ℕ) (e : Ok (choice.Take cell) ≡ envelope_choice S replies actions window peer head len) where
-    pub taken_room : d.next_slot < 2 ^ 64 → length carried ≡ 14592 → Room d len cell (length carried) (length cells)
+    pub taken_room : d.next_slot < 2 ^ 64 → length carried ≡ carried_area → Room d len cell (length carried) (length cells)
     unfolding custody_of full view
     taken_room n l =
         let t = took_is S replies actions window peer head len cell e in

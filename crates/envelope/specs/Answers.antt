@@ -2,7 +2,7 @@
 -- Assumes nothing.
 use Rattle.std.specs.Prelude.{◌≡◌, ℕ, ◌+◌, ◌*◌, ◌<◌, ◌≤◌, min, cond, List, [], ◌∷◌, ◌++◌, length, ◌==◌, Result, Ok, Err}
 use Rattle.octets.specs.Bytes.{splice}
-use Rattle.courier_core.specs.Core.{first_of, refusal_number}
+use Rattle.courier_core.specs.Core.{first_of}
 use Rattle.courier_core.specs.declared.ContactId.{ContactId}
 use Rattle.courier_core.specs.declared.Refusal.{Refusal}
 use Rattle.courier_core.specs.declared.Refusal.TheVariants as refusal
@@ -10,17 +10,19 @@ use Rattle.courier.specs.declared.Header.{Header}
 use Rattle.courier.specs.declared.Custody.{Custody}
 use Rattle.table.specs.Rows.{held}
 use Rattle.table.specs.Codec.{table_of, with_table}
+use Rattle.state.specs.Sizes.{cell_size}
 use Rattle.rows.specs.declared.Device.{Device}
 use Rattle.rows.specs.declared.Carried.{Carried}
 use Rattle.rows.specs.declared.Reachable.{Reachable}
-use Rattle.rows.specs.Rows.{carried_codec}
+use Rattle.rows.specs.Rows.{carried_codec, carried_width}
+use Rattle.rows.specs.Limits.{max_cells, u64_max}
 use Rattle.model.specs.Basics.{match_found}
 use Rattle.model.specs.State.{State}
 use Rattle.model.specs.Calls as calls
 use Rattle.model.specs.Calls.{Result as Outcome}
 use Rattle.model.specs.Contacts.{lifetime_end}
 use Rattle.model.specs.Window.{window_rows, lookup}
-use Rattle.model.specs.Cells.{cell_size, cells_used, new_cell}
+use Rattle.model.specs.Cells.{cells_used, new_cell}
 use Rattle.model.specs.Custody.{is_accepted, custody_of, carried_named, carried_cell, envelope_tests}
 use Rattle.model.specs.Areas.{Areas}
 use Rattle.model.specs.Lent.{device_in, contacts_in, own_in, carried_in, tombstones_in, carried_cells_in}
@@ -46,7 +48,7 @@ taken (Ok cell) = Ok (choice.Take cell)
 -- `NoCell` and `NoSlot` of an accepted envelope, in a cell area of so many bytes whose rows name these cells, or the cell that it gets
 unfoldable pub placed : ℕ → List ℕ → ℕ → Result Choice Refusal
 placed size named next =
-    first_of ((cells_used size named, refusal.NoCell) ∷ ((next == 18446744073709551615), refusal.NoSlot) ∷ []) Err
+    first_of ((cells_used size named, refusal.NoCell) ∷ ((next == u64_max), refusal.NoSlot) ∷ []) Err
     (Ok (choice.Take (new_cell size named)))
 
 -- what the code says of an envelope that is not in the window
@@ -76,11 +78,11 @@ device_after d n = record d { carried = n; next_slot = d.next_slot + 1 }
 
 -- there is a row, a slot and a cell for a ciphertext of len bytes
 pub record Room (d : Device) (len cell carried cells : ℕ) : Type 0 where
-  pub row : held carried 57 d.carried * 57 + 57 ≤ carried
-  pub slot : d.next_slot < 18446744073709551615
-  pub one : cell < 256
-  pub whole : cell * 2064 + 2064 ≤ cells
-  pub fits : len ≤ 2064
+  pub row : held carried carried_width d.carried * carried_width + carried_width ≤ carried
+  pub slot : d.next_slot < u64_max
+  pub one : cell < max_cells
+  pub whole : cell * cell_size + cell_size ≤ cells
+  pub fits : len ≤ cell_size
 
 -- the device, the carried rows and the cells once an envelope is held
 pub record Carries (d : Device) (depositor : ContactId) (head : Header) (ct : List ℕ) (cell : ℕ) (r : Device) (a x c y : List ℕ) : Type 0 where
@@ -93,26 +95,13 @@ pub record Carries (d : Device) (depositor : ContactId) (head : Header) (ct : Li
 abbrev pub ours_of : Reachable → Answer
 ours_of r = answer.Ours r.contact r.generation r.idx
 
--- the answer: a refusal, what is ours, or how many replies and actions are listed
-abbrev pub says_of : calls.Answer → ℕ → ℕ → Result Answer Refusal
-says_of (calls.refused why) replies actions = Err why
-says_of calls.malformed replies actions = Ok (answer.Done replies actions)
-says_of calls.done replies actions = Ok (answer.Done replies actions)
-says_of (calls.ours contact generation idx) replies actions = Ok (answer.Ours contact generation idx)
-says_of (calls.found cells position len) replies actions = Ok (answer.Done replies actions)
-says_of calls.missing replies actions = Ok (answer.Done replies actions)
-says_of (calls.own_row row) replies actions = Ok (answer.Done replies actions)
-says_of calls.no_envelope replies actions = Ok (answer.Done replies actions)
-says_of (calls.wrote count) replies actions = Ok (answer.Done replies actions)
+-- where it is not refused: what is ours, or how many replies and actions are listed
+abbrev pub says_of : calls.Detail → ℕ → ℕ → Answer
+says_of (calls.ours contact generation idx) replies actions = answer.Ours contact generation idx
+says_of other replies actions = answer.Done replies actions
 
--- the number by which a call is refused, or 0
-abbrev pub answer_number : Result Answer Refusal → ℕ
-answer_number (Err why) = refusal_number why
-answer_number (Ok (answer.Ours contact generation idx)) = 0
-answer_number (Ok (answer.Done replies actions)) = 0
-
-unfoldable pub envelope_says : Outcome → Result Answer Refusal
-envelope_says o = says_of o.answer (length o.replies) (length o.actions)
+unfoldable pub envelope_says : Outcome → Answer
+envelope_says o = says_of (calls.detail o.answer) (length o.replies) (length o.actions)
 
 -- what the call is lent, set into areas that are anything otherwise
 abbrev pub envelope_in : Device → (contacts own carried tombstones carried_cells : List ℕ) → Areas → Areas

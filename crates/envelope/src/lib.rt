@@ -4,18 +4,21 @@
 ghost use Rattle.std.specs.Prelude.{◌≡◌, ◌+◌, ◌*◌, ◌/◌, ◌<◌, ◌≤◌, not, ◌||◌, map, length};
 ghost use Rattle.octets.specs.Bytes.{part};
 ghost use Rattle.table.specs.Tables.{rows_in};
+ghost use Rattle.state.specs.Sizes.{cell_size};
 ghost use Rattle.rows.specs.Rows.{carried_codec, reachable_width, reachable_of};
+ghost use Rattle.rows.specs.Limits.{max_cells};
 ghost use Rattle.model.specs.Calls.{envelope as envelope_call, short_replies};
 ghost use Rattle.model.specs.Areas.{Areas, view};
-ghost use Rattle.model.specs.Cells.{cell_size, max_cells};
 ghost use Rattle.model.specs.Lent.{Does, answers_lent};
 ghost use Rattle.custody.specs.Lent.{Lent};
 ghost use Rattle.envelope.specs.Answers.{taken, placed, envelope_choice, custody_choice, ours_of, new_row, Room, Carries, envelope_says, envelope_in};
 
-use contacts::lifetime_end;
 use courier::{Custody, Header};
 use courier_core::{ContactId, Refusal};
-use custody::{Tables, free_carried_cell, lookup, unknown, wrong_window};
+use custody::Tables;
+use holdings::cells::free_carried_cell;
+use holdings::lifetime_end;
+use holdings::window::{lookup, unknown, wrong_window};
 use rows::{CARRIED_AREA, CARRIED_WIDTH, CONTACT_AREA, Carried, Device, OWN_AREA, Reachable, Row};
 use state::CELL;
 use table::Table;

@@ -1,27 +1,15 @@
--- Laws of the search for an envelope.
+-- Laws of an envelope that is answered: its row of the reply area, and its ciphertext.
 -- Assumes nothing.
-use Rattle.std.proofs.Common.{◌≡◌, ℕ, ◌+◌, ◌-◌, ◌*◌, min, List, length, take, drop, ◌∙◌, subst, ap₂, arith}
-use Rattle.octets.specs.Bytes.{part, splice}
+use Rattle.std.proofs.Common.{◌≡◌, ℕ, List, ◌∙◌, subst, ap₂}
+use Rattle.octets.specs.Bytes.{splice}
 use Rattle.rows.specs.declared.Own.{Own}
 use Rattle.rows.specs.declared.Carried.{Carried}
 use Rattle.rows.specs.Rows.{reply_bytes}
 use Rattle.courier.specs.declared.Header.{Header}
 use Rattle.model.specs.Calls.{of_own, of_carried, reply_cell, envelope_row}
 use Rattle.model.specs.Exchange.{own_envelope_of, carried_envelope_of}
-use Rattle.model.specs.Cells.{cell_size, cell_start, cell_length, ciphertext}
+use Rattle.model.specs.Cells.{ciphertext}
 use Rattle.fetch.specs.Fetch.{Given}
-
--- ---- the ciphertext
-
--- a part that starts inside the area and has the ciphertext's length
-pub part_lent : (a : List ℕ) (cell len : ℕ) {at n : ℕ} → at ≡ min (cell * cell_size) (length a) → n ≡ cell_length (length a) cell len
-    → take (at + n - at) (drop at a) ≡ ciphertext a cell len
-unfolding ciphertext cell_start part
-part_lent a cell len {at} {n} e l =
-    let y : at + n - at ≡ n = omega arith in
-    ap₂ (λ (s k : ℕ). take k (drop s a)) e (y ∙ l)
-
--- ---- what is written
 
 module _ (cells lent ct back : List ℕ) (head : Header) where
   pub given_own : (k : ℕ) (o x : Own) → o ≡ x → k ≡ reply_cell of_own o.cell → head ≡ (own_envelope_of o).head

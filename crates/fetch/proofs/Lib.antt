@@ -1,3 +1,3 @@
 pub mod Laws
-pub mod SearchLaws
+pub mod EnvelopeLaws
 pub mod CallLaws

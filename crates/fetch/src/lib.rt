@@ -1,51 +1,21 @@
 // Fetch: the envelope with a tag, and the part of the cell area that is its ciphertext.
 #![tactic(auto)]
 
-ghost use Rattle.std.specs.Prelude.{◌≡◌, ◌+◌, ◌≤◌, not, ◌&&◌, length};
+ghost use Rattle.std.specs.Prelude.{◌≡◌, ◌+◌, ◌≤◌, length};
 ghost use Rattle.octets.specs.Bytes.{part};
-ghost use Rattle.table.specs.Lists.{position};
-ghost use Rattle.table.specs.Tables.{rows_in};
-ghost use Rattle.rows.specs.Rows.{own_width, carried_width, reply_width, own_codec, carried_codec, own_of, carried_of};
+ghost use Rattle.rows.specs.Rows.{own_width, carried_width, reply_width, own_of, carried_of};
 ghost use Rattle.model.specs.Calls.{fetch as fetch_call};
-ghost use Rattle.model.specs.Cells.{ciphertext};
-ghost use Rattle.model.specs.Custody.{carried_of_tag};
 ghost use Rattle.model.specs.Exchange.{own_envelope_of, carried_envelope_of};
 ghost use Rattle.model.specs.Lent.{Does, replies_lent};
-ghost use Rattle.fetch.specs.Fetch.{for_others, Given, fetched_said, fetch_says, fetch_in};
+ghost use Rattle.fetch.specs.Fetch.{Given, fetched_said, fetch_says, fetch_in};
 
 use courier_core::{ContactId, Refusal};
+use holdings::cells::cell_part;
+use holdings::{carried_of_tag, known, own_for_others};
 use rows::{
     CARRIED_AREA, CARRIED_WIDTH, CONTACT_AREA, Carried, Device, OWN_AREA, OWN_WIDTH, Own, Row,
 };
 use table::Table;
-
-// ---- the envelope
-
-// The first own row with the tag that is not for the peer.
-pub fn own_for_others(own: Table<OWN_WIDTH>, peer: ContactId, tag: [u8; 16]) -> Option<usize>
-    ensures { result ≡ position (for_others peer tag) (rows_in own_codec own.entry) }
-{
-    own.position(|row| ContactId(octets::get_u64(row, 0)) != peer
-        && octets::same(row, Own::TAG, &tag))
-}
-
-// The first carried row with the tag.
-pub fn carried_of_tag(carried: Table<CARRIED_WIDTH>, tag: [u8; 16]) -> Option<usize>
-    ensures { result ≡ position (carried_of_tag tag) (rows_in carried_codec carried.entry) }
-{
-    carried.find(Carried::TAG, &tag)
-}
-
-// ---- its ciphertext
-
-// The ciphertext of a row that names a cell and a length: what lies inside the cell, the area, and the cells that count.
-pub fn cell_part(cells: &[u8], cell: u16, len: u16) -> &[u8]
-    ensures { result.now ≡ ciphertext cells.now cell len }
-{
-    let at = (usize::from(cell) * state::CELL).min(cells.len());
-    let n = custody::cell_length(cells.len(), cell, len);
-    &cells[at..at + n]
-}
 
 // ---- its header, in a reply row
 
@@ -109,7 +79,7 @@ pub fn fetch<'c>(
         area: contacts,
         count: device.contacts,
     };
-    if !contacts::known(contacts, peer) {
+    if !known(contacts, peer) {
         return Err(Refusal::UnknownContact);
     }
     let own_rows = Table {

@@ -10,7 +10,7 @@ use Rattle.courier.specs.declared.Header.{Header}
 use Rattle.courier.specs.declared.Custody.{Custody}
 use Rattle.model.specs.Basics.{match_some, find}
 use Rattle.model.specs.State.{State}
-use Rattle.model.specs.Calls.{Call, Result, contact, setting, clock, open_exchange, envelope, inventory_received, fetch, custody_answer, tomb, opened, failed, stored_tombstone, add_own, maintenance, inventory_of_ours, row_blob, save, page, refused, only, missing, told_at}
+use Rattle.model.specs.Calls.{Call, Result, contact, setting, clock, open_exchange, envelope, inventory_received, fetch, custody_answer, tomb, opened, failed, stored_tombstone, add_own, maintenance, inventory_of_ours, row_blob, save, page, refused, only, missing, told_at, done_with, answer_of}
 use Rattle.model.specs.Contacts.{set_contact, set_config, set_clock, open_exchanged}
 use Rattle.model.specs.Window.{window_rows, prefix_rows, lookup}
 use Rattle.model.specs.Custody.{ours_at, answer_custody, receive_envelope}
@@ -27,8 +27,8 @@ use Rattle.envelope.specs.Answers.{envelope_says}
 use Rattle.fetch.specs.Fetch.{fetch_says}
 use Rattle.own_envelope.specs.OwnEnvelope.{own_says}
 use Rattle.inventory.specs.Inventory.{inventory_says, received_says}
-use Rattle.tombstones.specs.Tombstones.{says_stored}
-use Rattle.tombs.specs.Tombs.{says as tomb_says}
+use Rattle.stored_tombstone.specs.StoredTombstone.{says_stored}
+use Rattle.answers.specs.Says.{says as tomb_says}
 use Rattle.saved.specs.Blobs.{blob_says}
 use Rattle.saved.specs.Saving.{save_says}
 use Rattle.load.specs.Load.{load_held_rows, load_step}
@@ -40,31 +40,31 @@ use Rattle.goosetable.specs.Hosts.{Counted, Length}
 -- ---- what a host gets of a result: by the first three of these, several calls alike
 
 abbrev host_done : Result → Answer
-host_done o = done_answer (said_of o)
+host_done o = done_answer (answer_of said_of o)
 
 abbrev host_acted : Result → Answer
-host_acted o = acted_answer (says_stored o)
+host_acted o = acted_answer (answer_of says_stored o)
 
 abbrev host_wrote : Result → Answer
-host_wrote o = wrote_answer (save_says o)
+host_wrote o = wrote_answer (answer_of save_says o)
 
 abbrev host_envelope : Result → Answer
-host_envelope o = envelope_answer (envelope_says o)
+host_envelope o = envelope_answer (answer_of envelope_says o)
 
 abbrev host_inventory : Result → Answer
-host_inventory o = inventory_answer (received_says o)
+host_inventory o = inventory_answer (answer_of received_says o)
 
 abbrev host_tomb : Result → Answer
-host_tomb o = tomb_answer (length o.replies) (tomb_says o)
+host_tomb o = tomb_answer (length o.replies) (answer_of tomb_says o)
 
 abbrev host_own : Result → Answer
-host_own o = own_answer (own_says o)
+host_own o = own_answer (answer_of own_says o)
 
 abbrev host_listed : Result → Answer
-host_listed o = wrote_answer (inventory_says o)
+host_listed o = wrote_answer (answer_of inventory_says o)
 
 abbrev host_blob : Result → Answer
-host_blob o = blob_answer (blob_says o)
+host_blob o = blob_answer (answer_of blob_says o)
 
 -- ---- a call by its refusals and what it performs
 
@@ -168,7 +168,7 @@ load_counted file s =
 
 -- a tomb or a report of so many replies
 abbrev Replies : ℕ → Result → Type 0
-Replies n o = tomb_answer n (tomb_says o) ≡ host_tomb o
+Replies n o = tomb_answer n (answer_of tomb_says o) ≡ host_tomb o
 
 meeting : (s : State) (tag secret : List ℕ) (m : Met) → Replies 0 (receive_tomb s tag secret m)
 unfolding receive_tomb turn end_own
@@ -191,10 +191,10 @@ failed_counts peer tag s = of_step (Replies 0) _ _ (λ why. refl) refl
 
 module _ (own carried : List ℕ) where
   abbrev Fetches : Result → Type 0
-  Fetches o = fetched_answer 1 (fetch_says own carried o) ≡ fetched_answer (length o.replies) (fetch_says own carried o)
+  Fetches o = fetched_answer 1 (answer_of (fetch_says own carried) o) ≡ fetched_answer (length o.replies) (answer_of (fetch_says own carried) o)
 
   abbrev host_fetch : Result → Answer
-  host_fetch o = fetched_answer (length o.replies) (fetch_says own carried o)
+  host_fetch o = fetched_answer (length o.replies) (answer_of (fetch_says own carried) o)
 
   pub fetch_counted : (replies : ℕ) (peer : ContactId) (tag : List ℕ) → Counts host_fetch (fetch replies peer tag)
   unfolding perform receive_fetch fetched
@@ -202,7 +202,7 @@ module _ (own carried : List ℕ) where
       of_call host_fetch _ (λ why. counts (grind arith) (grind arith) (grind arith))
       (λ s. by_found (CountedBy host_fetch) (find (envelope_of_tag tag) (envelopes s.own s.carried peer)) (λ e. counts refl refl tt) (counts refl refl refl))
 
-  finding : (s : State) (f : Option Envelope) → Fetches (match_some f (fetched s) (only missing))
+  finding : (s : State) (f : Option Envelope) → Fetches (match_some f (fetched s) (only (done_with missing)))
   unfolding fetched
   finding s f = grind arith
 

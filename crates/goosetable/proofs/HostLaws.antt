@@ -1,9 +1,12 @@
 -- From what a call does by value to what it does on small areas, whatever they are.
 -- Assumes nothing.
 use Rattle.std.proofs.Common.{◌≡◌, ℕ, List, sym, refl, ap, ◌∙◌, subst}
+use Rattle.std.specs.Prelude.{Result as Outcome}
+use Rattle.courier_core.specs.declared.Refusal.{Refusal}
 use Rattle.model.specs.State.{State}
-use Rattle.model.specs.Calls.{Result}
-use Rattle.model.specs.Areas.{Areas, AnswerAreas, Written, view}
+use Rattle.model.specs.Calls.{Result, answer_of}
+use Rattle.model.specs.Areas.{Areas, AnswerAreas, Written, Retold, view}
+use Rattle.model.proofs.CallLaws.{retold}
 use Rattle.rows.specs.declared.Device.{Device}
 use Rattle.rows.specs.declared.Exchange.{Exchange}
 use Rattle.boundary.specs.Boundary.{Kept, device_read, device_kept, device_of, exchange_of, HoldsDevice, HoldsExchange, exchange_kept, both_kept}
@@ -13,16 +16,16 @@ use Rattle.goosetable.proofs.StayLaws.{Tells, OnlyAnswers, Places, held_by, refu
 
 -- A call of e, which the small areas d hold, leaves y; y is put into them, so that they are x. Its answer q, turned into f q, is what is said of the model's result.
 -- `place` finds in all areas what the small ones hold.
-pub hosts : {D S A B : Type 0} (k : Kept D S) {host : B → Answer} (f : A → B) {says : Result → A} {says' : Result → B} {call : State → Result} {q : A} {r : B} {d x : D} {e y : S}
-    {before after : S → Areas → Areas} {lent back : AnswerAreas} → Tells host says' → OnlyAnswers call → ((s : State) → f (says (call s)) ≡ says' (call s)) → ((s : State) → Counted (host (says' (call s))) (call s))
+pub hosts : {D S A B : Type 0} (k : Kept D S) {host : B → Answer} (f : Outcome A Refusal → B) {says : Result → A} {says' : Result → B} {call : State → Result} {q : Outcome A Refusal} {r : B} {d x : D} {e y : S}
+    {before after : S → Areas → Areas} {lent back : AnswerAreas} → Tells host says' → OnlyAnswers call → ((s : State) → f (answer_of says (call s)) ≡ says' (call s)) → ((s : State) → Counted (host (says' (call s))) (call s))
     → (place : Areas → S) → Places place before after → (k.holds x ≡ k.holds d → x ≡ d) → r ≡ f q → e ≡ k.holds d → x ≡ k.put d y → k.holds x ≡ y
     → ((a : Areas) → Written says (call (view (before e a))) q (before e a) (after y a) lent back) → Hosts k host says' call r d x before after lent back
 hosts k {host} f {says} {says'} {call} {q} {r} {d} {x} {e} {y} {before} {after} {lent} {back} tells answers same counts place p stays r-is e-is x-is x-holds w =
-    let does : (a : Areas) → Written says' (call (view (before (k.holds d) a))) r (before (k.holds d) a) (after (k.holds x) a) lent back = λ a.
+    let does : (a : Areas) → Retold says' (call (view (before (k.holds d) a))) r (before (k.holds d) a) (after (k.holds x) a) lent back = λ a.
     let held : Written says (call (view (before (k.holds d) a))) q (before (k.holds d) a) (after (k.holds x) a) lent back =
     subst (λ s. Written says (call (view (before s a))) q (before s a) (after (k.holds x) a) lent back) e-is
     (subst (λ s. Written says (call (view (before e a))) q (before e a) (after s a) lent back) (sym x-holds) (w a)) in
-    record { answer = r-is ∙ ap f held.answer ∙ same (view (before (k.holds d) a)); areas = held.areas; answers = held.answers } in
+    retold f r-is (same (view (before (k.holds d) a))) held in
     record {
       does = does;
       small = x-is ∙ ap (k.put d) (sym x-holds);
@@ -32,8 +35,8 @@ hosts k {host} f {says} {says'} {call} {q} {r} {d} {x} {e} {y} {before} {after} 
 
 -- ---- by the small areas
 
-module _ {A B : Type 0} {host : B → Answer} (f : A → B) {says : Result → A} {says' : Result → B} {call : State → Result} (tells : Tells host says') (answers : OnlyAnswers call)
-    (same : (s : State) → f (says (call s)) ≡ says' (call s)) (counts : (s : State) → Counted (host (says' (call s))) (call s)) {q : A} {r : B} {lent back : AnswerAreas} (r-is : r ≡ f q) where
+module _ {A B : Type 0} {host : B → Answer} (f : Outcome A Refusal → B) {says : Result → A} {says' : Result → B} {call : State → Result} (tells : Tells host says') (answers : OnlyAnswers call)
+    (same : (s : State) → f (answer_of says (call s)) ≡ says' (call s)) (counts : (s : State) → Counted (host (says' (call s))) (call s)) {q : Outcome A Refusal} {r : B} {lent back : AnswerAreas} (r-is : r ≡ f q) where
   -- a device that is only read, and one that may change
   module _ {d : List ℕ} {dev : Device} {before after : Device → Areas → Areas} (p : Places (λ (z : Areas). z.device) before after) (dev-is : dev ≡ device_of d) where
     pub hosts_read : ((a : Areas) → Written says (call (view (before dev a))) q (before dev a) (after dev a) lent back) → Hosts device_read host says' call r d d before after lent back

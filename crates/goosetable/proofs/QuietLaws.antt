@@ -10,7 +10,7 @@ use Rattle.rows.specs.declared.Exchange.{Exchange}
 use Rattle.chain.specs.Chain.{window, window_tests, window_says, window_area}
 use Rattle.std.specs.Prelude.{Ok, Err}
 use Rattle.model.specs.State.{State}
-use Rattle.model.specs.Calls.{Result, tomb, inventory_received, malformed, only}
+use Rattle.model.specs.Calls.{Result, tomb, inventory_received, malformed, only, answer_of}
 use Rattle.model.specs.Window.{prefix_rows}
 use Rattle.model.specs.Exchange.{too_many, answer_inventory, list_more, receive_inventory}
 use Rattle.model.specs.Tombs.{Met, meets, turn, end_own, receive_tomb}
@@ -18,7 +18,7 @@ use Rattle.model.specs.Step.{perform, step}
 use Rattle.model.specs.Areas.{Areas, AnswerAreas, view}
 use Rattle.model.proofs.RefusalLaws.{of_step, by_test}
 use Rattle.inventory.specs.Inventory.{received_says}
-use Rattle.tombs.specs.Tombs.{says as tomb_says}
+use Rattle.answers.specs.Says.{says as tomb_says}
 use Rattle.boundary.specs.Boundary.{device_kept, exchange_kept}
 use Rattle.boundary.proofs.AreaLaws.{device_stays, exchange_stays}
 use Rattle.host_answers.specs.HostAnswers.{tomb_answer, inventory_answer, wrote_answer}
@@ -32,7 +32,7 @@ abbrev Malformed : (Result → Answer) → Result → Type 0
 Malformed says o = (says o).said ≡ 128 → o ≡ only malformed
 
 abbrev tomb_replies : Result → Answer
-tomb_replies o = tomb_answer (length o.replies) (tomb_says o)
+tomb_replies o = tomb_answer (length o.replies) (answer_of tomb_says o)
 
 meeting : (s : State) (tag secret : List ℕ) (m : Met) → Malformed tomb_replies (receive_tomb s tag secret m)
 unfolding receive_tomb turn end_own
@@ -45,7 +45,7 @@ tomb_malformed actions peer tag secret s =
     (meeting s tag secret (meets s.own s.carried tag secret))
 
 abbrev inventory_replies : Result → Answer
-inventory_replies o = inventory_answer (received_says o)
+inventory_replies o = inventory_answer (answer_of received_says o)
 
 inventory_malformed : (replies : ℕ) (area : List ℕ) (peer : ContactId) (listed : List ℕ) (s : State) → Malformed inventory_replies (step s (inventory_received replies area peer listed))
 unfolding step perform receive_inventory answer_inventory list_more

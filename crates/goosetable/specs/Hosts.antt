@@ -8,7 +8,7 @@ use Rattle.model.specs.State.{State}
 use Rattle.model.specs.Calls
 use Rattle.model.specs.Calls.{Call, Answer as ModelAnswer, Result, told_at, refused, only}
 use Rattle.model.specs.Step.{step}
-use Rattle.model.specs.Areas.{Areas, AnswerAreas, Written, view}
+use Rattle.model.specs.Areas.{Areas, AnswerAreas, Retold, view}
 use Rattle.model.specs.Lent.{no_answers}
 use Rattle.rows.specs.declared.Device.{Device}
 use Rattle.boundary.specs.Boundary.{Kept, device_kept}
@@ -34,15 +34,10 @@ pub record IsRefused {D S A : Type 0} (k : Kept D S) (says : Result → A) (r : 
 -- the length beside an answer: how many prefixes or bytes are written, the number that a call which is done tells, and 0 where there is neither; of a
 -- fetch that finds an envelope it is that of its part
 abbrev pub Length : (told : ℕ) → ModelAnswer → ℕ → Type 0
-Length told (Calls.refused why) len = len ≡ 0
-Length told Calls.malformed len = len ≡ 0
-Length told Calls.done len = len ≡ told
-Length told (Calls.ours contact generation idx) len = len ≡ 0
-Length told (Calls.found cells position n) len = Unit {0}
-Length told Calls.missing len = len ≡ 0
-Length told (Calls.own_row row) len = len ≡ 0
-Length told Calls.no_envelope len = len ≡ 0
-Length told (Calls.wrote count) len = len ≡ count
+Length told (Calls.done_with Calls.nothing_more) len = len ≡ told
+Length told (Calls.done_with (Calls.found cells position n)) len = Unit {0}
+Length told (Calls.done_with (Calls.wrote count)) len = len ≡ count
+Length told other len = len ≡ 0
 
 -- the counts of replies and actions are how many the model's result has, and the length is what its answer says
 pub record Counted (r : Answer) (o : Result) : Type 0 where
@@ -53,7 +48,7 @@ pub record Counted (r : Answer) (o : Result) : Type 0 where
 -- Small areas d, which hold the device and the exchange of a call, are x after it. It answers and leaves what `call` gives of the state that all areas hold, and
 -- x has just the bytes of what it holds, put into d. Where the number in its answer (`host` r) is a refusal's nothing changes.
 pub record Hosts {D S A : Type 0} (k : Kept D S) (host : A → Answer) (says : Result → A) (call : State → Result) (r : A) (d x : D) (before after : S → Areas → Areas) (lent back : AnswerAreas) : Type 0 where
-  pub does : (a : Areas) → Written says (call (view (before (k.holds d) a))) r (before (k.holds d) a) (after (k.holds x) a) lent back
+  pub does : (a : Areas) → Retold says (call (view (before (k.holds d) a))) r (before (k.holds d) a) (after (k.holds x) a) lent back
   pub small : x ≡ k.put d (k.holds x)
   pub counted : (a : Areas) → Counted (host r) (call (view (before (k.holds d) a)))
   pub refusal : RefusalNumber (host r).said → IsRefused k says r d x before after lent back

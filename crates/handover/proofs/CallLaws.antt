@@ -1,6 +1,6 @@
 -- Laws of the call: each way out as the model's step, and what it leaves.
 -- Assumes nothing.
-use Rattle.std.proofs.Common.{◌≡◌, ℕ, ◌+◌, ◌*◌, ◌/◌, ◌<◌, min, Bool, true, false, cond, not, ◌||◌, eqb, ltb, List, [], length, sym, refl, ap, ◌∙◌, Option, Some, None, Result, Ok, Err}
+use Rattle.std.proofs.Common.{◌≡◌, ℕ, ◌*◌, ◌/◌, ◌<◌, min, Bool, true, false, cond, not, ◌||◌, eqb, ltb, List, [], length, sym, refl, ap, ◌∙◌, Option, Some, None, Result, Ok, Err}
 use denote.Enum.Bare.{sameb}
 use Rattle.std.specs.Option.{option_eq}
 use Rattle.octets.specs.Bytes.{part}
@@ -11,7 +11,7 @@ use Rattle.table.specs.Lists.{position, remove_at}
 use Rattle.table.specs.Rows.{held}
 use Rattle.table.specs.Codec.{table_of, with_table, TableNow}
 use Rattle.table.proofs.TableLaws.{get_d_table}
-use Rattle.contacts.proofs.FindLaws.{same_peer}
+use Rattle.holdings.proofs.FindLaws.{same_peer}
 use Rattle.courier.specs.contracts.Custody.{the_type}
 use Rattle.courier.specs.declared.Custody.{Custody}
 use Rattle.courier.specs.declared.Custody.TheVariants as custody
@@ -20,7 +20,8 @@ use Rattle.rows.specs.declared.Exchange.{Exchange}
 use Rattle.rows.specs.declared.Own.{Own}
 use Rattle.rows.specs.declared.Carried.{Carried}
 use Rattle.rows.specs.declared.Offer.{Offer}
-use Rattle.rows.specs.Rows.{contact_codec, own_codec, carried_codec, offer_codec, offer_of}
+use Rattle.rows.specs.Rows.{contact_codec, own_codec, carried_codec, offer_codec, offer_of, tombstone_width, offer_width}
+use Rattle.rows.specs.Limits.{max_offers, prefix_area, offer_area, action_area}
 use Rattle.model.specs.Basics.{match_found}
 use Rattle.model.specs.State.{Change, nothing, offered_now, ◌and◌}
 use Rattle.model.specs.Calls.{Call, Result as Outcome, result, only, done, custody_answer}
@@ -31,7 +32,7 @@ use Rattle.model.specs.Step.{tests, perform, step}
 use Rattle.model.specs.Areas.{Areas, Written, view, view_session, store, store_device, store_session, bytes_after}
 use Rattle.model.specs.Lent.{device_in, contacts_in, own_in, carried_in, tombstones_in, exchange_in, actions_lent}
 use Rattle.model.proofs.CallLaws.{refused_here, not_here, no_test, answering_call, quiet_call, refused_call}
-use Rattle.tombs.proofs.WriteLaws.{acted}
+use Rattle.answers.proofs.Laws.{acted}
 use Rattle.handover.specs.Handing.{HandedAs, exchange_with, Cleared, says, code_lent}
 use Rattle.handover.proofs.HandLaws.{change_by}
 
@@ -60,9 +61,9 @@ other_peer eq peer same to e h = sym (same_peer eq peer same to) ∙ not_back _ 
 -- ---- an offer that is settled
 
 -- the offer at i is read, and then taken out
-pub clears : (i : ℕ) (e : Exchange) (offers : List ℕ) → i < held (length offers) 17 (min 512 e.offered) → {o : Offer} {m : ℕ} {f : Exchange} {w : List ℕ}
+pub clears : (i : ℕ) (e : Exchange) (offers : List ℕ) → i < held (length offers) offer_width (min max_offers e.offered) → {o : Offer} {m : ℕ} {f : Exchange} {w : List ℕ}
     → o ≡ offer_of (part offers (i * 17) 17) → f ≡ exchange_with m e
-    → TableNow offer_codec offers (remove_at i (table_of offer_codec (min 512 e.offered) offers)) m w → Cleared i e offers o.copies f w
+    → TableNow offer_codec offers (remove_at i (table_of offer_codec (min max_offers e.offered) offers)) m w → Cleared i e offers o.copies f w
 clears i e offers inside eo ef N = record {
   copies = ap (λ (o : Offer). o.copies) (eo ∙ sym (get_d_table offer_codec (min 512 e.offered) offers i no_offer inside));
   exchange = ef ∙ ap (λ (k : ℕ). exchange_with k e) N.count;
@@ -110,7 +111,7 @@ module _ (i : ℕ) (tag : List ℕ) (code : Custody) (d : Device) (e : Exchange)
     by = change_by d tag n own carried ac
 
     stored_by : (p q : Option ℕ)
-        → with (store_device d (by p q)) (exchange_with (length left) e) (bytes_after own_codec own (by p q).own) (bytes_after carried_codec carried (by p q).carried)
+        → with (store_device d (by p q)) (exchange_with (length left) e) (bytes_after own_codec own (by p q).queue.own) (bytes_after carried_codec carried (by p q).held.carried)
         (with_table offer_codec offers left) ≡ store S (offered_now left and by p q)
     unfolding store store_device store_session
     stored_by (Some i) q = refl
@@ -136,7 +137,7 @@ module _ (d : Device) (e : Exchange) (peer : ContactId) (tag : List ℕ) (code :
   C = custody_answer (length ac) peer tag code
 
   abbrev short : Bool
-  short = (ltb (length prefixes) 4096 || ltb (length offers) 8704) || ltb (length ac) (13 * (512 + length to / 44))
+  short = (ltb (length prefixes) prefix_area || ltb (length offers) offer_area) || ltb (length ac) (action_area (length to / tombstone_width))
 
   abbrev Codes : Result ℕ Refusal → Device → Exchange → (own' carried' offers' ac' : List ℕ) → Type 0
   Codes r d' e' own' carried' offers' ac' =

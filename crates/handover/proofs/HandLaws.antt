@@ -45,7 +45,7 @@ module _ (d : Device) (tag : List ℕ) (n : ℕ) (own carried ac : List ℕ) whe
   actions_by f g = match_found f (λ i. put_of (get_or Tc i no_carried) ∷ []) (match_found g (λ i. put_of_own (get_or To i no_own) ∷ []) [])
 
   handed_as : (f g : Option ℕ) → f ≡ position (carried_of_tag tag) Tc → g ≡ position (own_of_tag tag) To → {r : Device} {k : ℕ} {x y z : List ℕ}
-      → r ≡ store_device d (change_by f g) → x ≡ bytes_after own_codec own (change_by f g).own → y ≡ bytes_after carried_codec carried (change_by f g).carried
+      → r ≡ store_device d (change_by f g) → x ≡ bytes_after own_codec own (change_by f g).queue.own → y ≡ bytes_after carried_codec carried (change_by f g).held.carried
       → z ≡ with_table action_codec ac (actions_by f g) → k ≡ length (actions_by f g) → HandedAs d tag n own carried ac r k x y z
   unfolding handed_over handed_actions
   handed_as f g e q dr dx dy dz dk =
@@ -53,8 +53,8 @@ module _ (d : Device) (tag : List ℕ) (n : ℕ) (own carried ac : List ℕ) whe
       let l : actions_by f g ≡ handed_actions To Tc tag = λ j. actions_by (e j) (q j) in
       record {
         device = dr ∙ ap (store_device d) c;
-        owned = dx ∙ ap (λ (u : Change). bytes_after own_codec own u.own) c;
-        held = dy ∙ ap (λ (u : Change). bytes_after carried_codec carried u.carried) c;
+        owned = dx ∙ ap (λ (u : Change). bytes_after own_codec own u.queue.own) c;
+        held = dy ∙ ap (λ (u : Change). bytes_after carried_codec carried u.held.carried) c;
         actions = dz ∙ ap (with_table action_codec ac) l;
         count = dk ∙ ap length l;
       }

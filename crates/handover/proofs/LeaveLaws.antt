@@ -20,8 +20,8 @@ use Rattle.model.specs.Exchange.{offer_of_tag, no_offer, handed_over, settle, re
 use Rattle.model.specs.Step.{perform}
 use Rattle.model.specs.Areas.{Areas, SessionAreas, AnswerAreas, view, store_session}
 use Rattle.model.specs.Lent.{Does}
-use Rattle.contacts.specs.Lends.{exchange_of, Lends}
-use Rattle.contacts.proofs.LendLaws.{Leaves, lends}
+use Rattle.holdings.specs.Lends.{exchange_of, Lends}
+use Rattle.holdings.proofs.LendLaws.{Leaves, lends}
 use Rattle.handover.specs.Handing.{says, code_lent, code_leaves}
 
 -- ---- what a result's change makes of the exchange that is lent
@@ -29,7 +29,7 @@ use Rattle.handover.specs.Handing.{says, code_lent, code_leaves}
 module _ (e : SessionAreas) (s : State) (tag : List ℕ) (code : Custody) where
   -- copies that are taken off a row change nothing of the exchange
   cleared : (os : List Offer) (rs : ℕ → List Carried) (ts : ℕ → List Own) (b : Bool) (p q : Option ℕ)
-      → (store_session e (offered_now os and cond b (match_found p (λ i. carried_now (rs i)) (match_found q (λ i. own_now (ts i)) nothing)) nothing)).exchange
+      → (store_session e (offered_now os and cond b (match_found p (λ i. carried_now (rs i)) (match_found q (λ i. own_now (ts i)) nothing)) nothing).session).exchange
       ≡ exchange_of e.exchange.peer e.exchange.complete e.exchange.listed (length os)
   unfolding store_session
   cleared os rs ts false p q = refl

@@ -1,8 +1,7 @@
 -- What taking copies off a row leaves, what the call answers, and what it is lent.
 -- Assumes nothing.
-use Rattle.std.specs.Prelude.{◌≡◌, ℕ, ◌-◌, min, List, length, slice_index_or, Result, Ok, Err}
+use Rattle.std.specs.Prelude.{◌≡◌, ℕ, ◌-◌, min, List, length, slice_index_or}
 use Rattle.octets.specs.Bytes.{splice}
-use Rattle.courier_core.specs.declared.Refusal.{Refusal}
 use Rattle.table.specs.Lists.{position, remove_at, replace_at}
 use Rattle.table.specs.Codec.{Codec, table_of, with_table, TableNow}
 use Rattle.rows.specs.declared.Device.{Device}
@@ -11,13 +10,14 @@ use Rattle.rows.specs.declared.Own.{Own}
 use Rattle.rows.specs.declared.Carried.{Carried}
 use Rattle.rows.specs.declared.Action.{Action}
 use Rattle.rows.specs.Rows.{own_codec, carried_codec, offer_codec, action_codec, action_bytes}
+use Rattle.rows.specs.Limits.{max_offers}
 use Rattle.model.specs.Basics.{match_found}
 use Rattle.model.specs.State.{State}
 use Rattle.model.specs.Calls.{Result as Outcome, put_courier, put_queued}
 use Rattle.model.specs.Exchange.{no_carried, no_own, no_offer, lowered, own_lowered, handed_over, handed_actions, offer_of_tag}
 use Rattle.model.specs.Areas.{Areas, store_device, bytes_after}
-use Rattle.model.specs.Lent.{refused_or, device_in, contacts_in, own_in, carried_in, tombstones_in, exchange_in}
-use Rattle.contacts.specs.Lends.{exchange_of}
+use Rattle.model.specs.Lent.{device_in, contacts_in, own_in, carried_in, tombstones_in, exchange_in}
+use Rattle.holdings.specs.Lends.{exchange_of}
 
 -- ---- what is left: a row with fewer copies at i, and its action
 
@@ -44,8 +44,8 @@ device_with own carried d = record d { own = own; carried = carried }
 -- n copies were handed over: the device d is now r, the tables are now x and y, and k actions are listed
 pub record HandedAs (d : Device) (tag : List ℕ) (n : ℕ) (own carried ac : List ℕ) (r : Device) (k : ℕ) (x y z : List ℕ) : Type 0 where
   pub device : r ≡ store_device d (handed_over (table_of own_codec d.own own) (table_of carried_codec d.carried carried) tag n)
-  pub owned : x ≡ bytes_after own_codec own (handed_over (table_of own_codec d.own own) (table_of carried_codec d.carried carried) tag n).own
-  pub held : y ≡ bytes_after carried_codec carried (handed_over (table_of own_codec d.own own) (table_of carried_codec d.carried carried) tag n).carried
+  pub owned : x ≡ bytes_after own_codec own (handed_over (table_of own_codec d.own own) (table_of carried_codec d.carried carried) tag n).queue.own
+  pub held : y ≡ bytes_after carried_codec carried (handed_over (table_of own_codec d.own own) (table_of carried_codec d.carried carried) tag n).held.carried
   pub actions : z ≡ with_table action_codec ac (handed_actions (table_of own_codec d.own own) (table_of carried_codec d.carried carried) tag)
   pub count : k ≡ length (handed_actions (table_of own_codec d.own own) (table_of carried_codec d.carried carried) tag)
 
@@ -57,13 +57,13 @@ exchange_with offered e = record e { offered = offered }
 
 -- the offer at i is cleared, with which n copies were handed: the exchange e is now f, and its offers are now those in w
 pub record Cleared (i : ℕ) (e : Exchange) (offers : List ℕ) (n : ℕ) (f : Exchange) (w : List ℕ) : Type 0 where
-  pub copies : n ≡ (slice_index_or (table_of offer_codec (min 512 e.offered) offers) i no_offer).copies
-  pub exchange : f ≡ exchange_with (length (remove_at i (table_of offer_codec (min 512 e.offered) offers))) e
-  pub table : w ≡ with_table offer_codec offers (remove_at i (table_of offer_codec (min 512 e.offered) offers))
+  pub copies : n ≡ (slice_index_or (table_of offer_codec (min max_offers e.offered) offers) i no_offer).copies
+  pub exchange : f ≡ exchange_with (length (remove_at i (table_of offer_codec (min max_offers e.offered) offers))) e
+  pub table : w ≡ with_table offer_codec offers (remove_at i (table_of offer_codec (min max_offers e.offered) offers))
 
--- a refusal, or how many actions are listed
-abbrev pub says : Outcome → Result ℕ Refusal
-says o = refused_or Err (Ok (length o.actions)) o.answer
+-- how many actions are listed, where it is not refused
+abbrev pub says : Outcome → ℕ
+says o = length o.actions
 
 abbrev pub code_lent : Device → Exchange → (contacts own carried tombstones prefixes offers : List ℕ) → Areas → Areas
 code_lent d e contacts own carried tombstones prefixes offers a =

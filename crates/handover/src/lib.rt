@@ -1,20 +1,21 @@
 // Custody codes: an offer that is answered is cleared, and accepted copies are taken off their row (`handed_over`).
 #![tactic(auto)]
 
-ghost use Rattle.std.specs.Prelude.{◌≡◌, ◌+◌, ◌-◌, ◌*◌, ◌/◌, ◌<◌, ◌≤◌, min, ◌||◌, length, nat_lt};
+ghost use Rattle.std.specs.Prelude.{◌≡◌, ◌-◌, ◌*◌, ◌/◌, ◌<◌, ◌≤◌, min, ◌||◌, length, nat_lt};
 ghost use Rattle.table.specs.Lists.{position};
 ghost use Rattle.table.specs.Rows.{held};
 ghost use Rattle.table.specs.Tables.{rows_in};
 ghost use Rattle.rows.specs.Rows.{own_width, carried_width, tombstone_width, offer_width, action_width, offer_codec};
+ghost use Rattle.rows.specs.Limits.{max_offers, prefix_area, offer_area, action_area};
 ghost use Rattle.model.specs.Calls.{custody_answer};
 ghost use Rattle.model.specs.Exchange.{offer_of_tag};
 ghost use Rattle.model.specs.Lent.{actions_lent};
-ghost use Rattle.contacts.specs.Lends.{Lends};
+ghost use Rattle.holdings.specs.Lends.{Lends};
 ghost use Rattle.handover.specs.Handing.{TakenOffCarried, TakenOffOwn, HandedAs, Cleared, says, code_lent, code_leaves};
 
-use contacts::known;
 use courier::Custody;
 use courier_core::{ContactId, Refusal};
+use holdings::{carried_of_tag, known, own_of_tag, short_exchange};
 use rows::{
     CARRIED_AREA, CARRIED_WIDTH, CONTACT_AREA, Carried, Device, Exchange, MAX_OFFERS, OFFER_WIDTH,
     OWN_AREA, OWN_WIDTH, Offer, Own, Row,
@@ -33,7 +34,7 @@ fn offer_of_tag(offers: Table<OFFER_WIDTH>, tag: [u8; 16]) -> Option<usize>
 // Takes n copies off the carried row at i, and lists its put; answers how many rows there are.
 // (A table that changes is lent by `&mut`, and its count goes back to the device: two values, as the trait's functions have them.)
 // (One function for own rows too would take a trait over `Row`, with a row of fewer copies and its action, and an `impl` for each: no plainer.)
-#[tactic(auto, using(fetch::proofs::SearchLaws::row_within))]
+#[tactic(auto, using(holdings::proofs::SearchLaws::row_within))]
 fn take_off(carried: &mut [u8], count: usize, i: usize, n: u8, actions: &mut [u8]) -> usize
     requires { (i < held (length carried.old) carried_width count) × (action_width ≤ length actions.old) }
     ensures { TakenOffCarried n count i carried.old actions.old result carried.new actions.new }
@@ -48,7 +49,7 @@ fn take_off(carried: &mut [u8], count: usize, i: usize, n: u8, actions: &mut [u8
 }
 
 // The same, of an own row.
-#[tactic(auto, using(fetch::proofs::SearchLaws::row_within))]
+#[tactic(auto, using(holdings::proofs::SearchLaws::row_within))]
 fn take_off_own(own: &mut [u8], count: usize, i: usize, n: u8, actions: &mut [u8]) -> usize
     requires { (i < held (length own.old) own_width count) × (action_width ≤ length actions.old) }
     ensures { TakenOffOwn n count i own.old actions.old result own.new actions.new }
@@ -78,7 +79,7 @@ fn hand_over(
         area: carried,
         count: device.carried,
     };
-    if let Some(i) = fetch::carried_of_tag(carried_rows, tag) {
+    if let Some(i) = carried_of_tag(carried_rows, tag) {
         device.carried = take_off(carried, device.carried, i, n, actions);
         return 1;
     }
@@ -86,7 +87,7 @@ fn hand_over(
         area: own,
         count: device.own,
     };
-    if let Some(i) = tombs::own_of_tag(own_rows, tag) {
+    if let Some(i) = own_of_tag(own_rows, tag) {
         device.own = take_off_own(own, device.own, i, n, actions);
         return 1;
     }
@@ -97,16 +98,16 @@ fn hand_over(
 
 // Is the prefix area, the offer area or the action area too short?
 fn too_short(prefixes: &[u8], offers: &[u8], actions: &[u8], tombstones: &[u8]) -> bool
-    ensures { result ≡ ((nat_lt (length prefixes.now) 4096 || nat_lt (length offers.now) 8704) || nat_lt (length actions.now) (action_width * (512 + length tombstones.now / tombstone_width))) }
+    ensures { result ≡ ((nat_lt (length prefixes.now) prefix_area || nat_lt (length offers.now) offer_area) || nat_lt (length actions.now) (action_area (length tombstones.now / tombstone_width))) }
 {
-    contacts::short_exchange(prefixes.len(), offers.len())
+    short_exchange(prefixes.len(), offers.len())
         || answers::short_actions(actions.len(), tombstones.len())
 }
 
 // Clears the offer at i; answers how many copies were handed with it.
-#[tactic(auto, using(fetch::proofs::SearchLaws::row_within))]
+#[tactic(auto, using(holdings::proofs::SearchLaws::row_within))]
 fn clear_offer(exchange: &mut Exchange, offers: &mut [u8], i: usize) -> u8
-    requires { i < held (length offers.old) offer_width (min 512 exchange.old.offered) }
+    requires { i < held (length offers.old) offer_width (min max_offers exchange.old.offered) }
     ensures { Cleared i exchange.old offers.old result exchange.new offers.new }
 {
     let copies = Offer::read(offers, i * OFFER_WIDTH).copies;

@@ -1,11 +1,10 @@
 -- An envelope call that is answered with code 0 has put its row, with its ciphertext in a cell that no row named.
 -- Assumes nothing.
-use Rattle.std.proofs.Common.{◌≡◌, ℕ, Bool, true, false, cond, not, ◌&&◌, List, [], ◌∷◌, length, get_or, replicate, sym, refl, ap, ◌∙◌, arith, Option, Some, None}
+use Rattle.std.proofs.Common.{◌≡◌, ℕ, Bool, true, false, not, ◌&&◌, List, [], ◌∷◌, length, get_or, replicate, sym, refl, ap, ◌∙◌, arith, Option, Some, None}
 use Rattle.std.proofs.lemmas.List.{get_or_at}
 use borrow.Author.Tests.{not-false}
 use Rattle.courier_core.specs.declared.ContactId.{ContactId}
 use Rattle.courier_core.specs.declared.Refusal.{Refusal}
-use Rattle.courier_core.specs.Core.{first_of}
 use Rattle.table.specs.Lists.{is_at}
 use Rattle.courier.specs.declared.Header.{Header}
 use Rattle.courier.specs.declared.Custody.{Custody}
@@ -15,13 +14,14 @@ use Rattle.rows.specs.declared.Reply.{Reply}
 use Rattle.model.specs.Basics.{match_found}
 use Rattle.model.specs.State.{State}
 use Rattle.model.specs.Calls
-use Rattle.model.specs.Calls.{Result, only, refused, step_of, custody_reply}
+use Rattle.model.specs.Calls.{Result, refused, step_of, custody_reply}
 use Rattle.model.specs.Contacts.{known}
 use Rattle.model.specs.Window.{no_reachable, window_rows, lookup}
 use Rattle.model.specs.Cells.{cells_used}
 use Rattle.model.specs.Custody.{custody_of, is_accepted, accepts, carried_named, ours_at, answer_custody, envelope_tests, receive_envelope}
 use Rattle.model.specs.Step.{tests, perform, step}
 use Rattle.model.proofs.KeepLaws.{Passed}
+use Rattle.model.proofs.RefusalLaws.{of_passed}
 use Rattle.model.proofs.KeepRows.{and_false, or_false}
 use Rattle.history.proofs.Effects.{Placed}
 use Rattle.history.proofs.EffectLaws.{placed}
@@ -35,17 +35,9 @@ code_in n rs = get_or (get_or rs 0 no_reply).body n 9
 
 -- a call that lists replies was not refused
 replied : (ts : List (Bool × Refusal)) (o : Result) (x : Reply) → (step_of ts o).replies ≡ x ∷ [] → Passed ts × (step_of ts o ≡ o)
-unfolding step_of
-replied [] o x e = (tt, refl)
-replied (t ∷ ts) o x e = go t.0 refl e (replied ts o x)
-  where
-    rest : Result
-    rest = first_of ts (λ why. only (refused why)) o
-
-    go : (b : Bool) → t.0 ≡ b → (cond b (only (refused t.1)) rest).replies ≡ x ∷ [] → (rest.replies ≡ x ∷ [] → Passed ts × (rest ≡ o))
-        → ((t.0 ≡ false) × Passed ts) × (cond b (only (refused t.1)) rest ≡ o)
-    go true i e f = let z : ◌≡◌ {A = ℕ} 0 1 = ap length e in absurd (omega arith)
-    go false i e f = let q = f e in ((i, q.0), q.1)
+replied ts o x =
+    of_passed (λ (r : Result). r.replies ≡ x ∷ [] → Passed ts × (r ≡ o)) ts o (λ why e. let z : ◌≡◌ {A = ℕ} 0 1 = ap length e in absurd (omega arith))
+    (λ p e. (p, refl))
 
 module _ (s : State) (replies actions : ℕ) (window : List ℕ) (peer : ContactId) (head : Header) (ct : List ℕ) where
   code_accepted : (code : Custody) → (answer_custody s peer head ct code).replies ≡ custody_reply head.tag custody.Accepted ∷ [] → custody_code code ≡ 0

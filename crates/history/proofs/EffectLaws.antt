@@ -4,7 +4,6 @@ pub use Rattle.std.proofs.lemmas.Bool.{and_parts as and_true}
 use Rattle.std.proofs.Common.{◌≡◌, ℕ, ◌+◌, ◌-◌, ◌<◌, min, Bool, true, false, cond, not, ◌&&◌, eqb, ltb, leb, List, [], ◌∷◌, ◌++◌, length, get_or, sym, refl, ap, ◌∙◌, subst, arith, ltb-false, leb-false, leb-true, Option, Some, None}
 use mathlib.Core.Bool.{false≢true}
 use borrow.Author.Tests.{not-true, not-false}
-use Rattle.courier_core.specs.Core.{first_of}
 use Rattle.courier_core.specs.declared.ContactId.{ContactId}
 use Rattle.courier_core.specs.declared.Verification.{Verification}
 use Rattle.courier_core.specs.declared.Refusal.{Refusal}
@@ -21,7 +20,6 @@ use Rattle.courier.specs.Tags.{route_tag, commitment_of, tombstone_matches}
 use Rattle.state.specs.Held.{held_row}
 use Rattle.rows.specs.declared.Contact.{Contact}
 use Rattle.rows.specs.declared.Own.{Own}
-use Rattle.rows.specs.declared.Carried.{Carried}
 use Rattle.rows.specs.declared.Tombstone.{Tombstone}
 use Rattle.rows.specs.declared.Action.{Action}
 use Rattle.rows.specs.declared.Reply.{Reply}
@@ -29,9 +27,9 @@ use Rattle.rows.specs.declared.Reachable.{Reachable}
 use Rattle.rows.specs.declared.BadTag.{BadTag}
 use Rattle.rows.specs.declared.Offer.{Offer}
 use Rattle.model.specs.Basics.{match_found, match_some, find}
-use Rattle.model.specs.State.{State, Upd, keep, upd, Change, apply, nothing, own_now, carried_now, tombstones_now, bad_tags_now, next_slot_now, offered_now, ◌and◌}
+use Rattle.model.specs.State.{State, Upd, keep, upd, Change, apply, nothing, own_now, carried_now, tombstones_now, bad_tags_now, next_slot_now, offered_now, ◌and◌, QueueChange, HeldChange, keep_queue, keep_held}
 use Rattle.model.specs.Calls
-use Rattle.model.specs.Calls.{Call, Result, result, refused, done, malformed, missing, no_envelope, only, step_of}
+use Rattle.model.specs.Calls.{Call, Result, result, refused, done, malformed, missing, no_envelope, only, step_of, done_with}
 use Rattle.model.specs.Contacts.{minute_of, end_of, known, is_verified, contact_tests, set_contact, set_config, set_clock, open_exchanged, opened_for}
 use Rattle.model.specs.Window.{no_reachable, lookup, window_rows, prefix_rows, is_bad}
 use Rattle.model.specs.Cells.{free_cell, cells_used, new_cell}
@@ -44,6 +42,7 @@ use Rattle.model.specs.Saved.{Slotted, held_rows, writes, row_blob_of, save_held
 use Rattle.model.specs.Screen.{show_page}
 use Rattle.model.specs.Step.{tests, perform, step}
 use Rattle.model.proofs.KeepLaws.{Passed}
+use Rattle.model.proofs.RefusalLaws.{of_passed}
 use Rattle.model.proofs.KeepRows.{and_false, or_false, passed_all, valid_length}
 use Rattle.history.specs.Life.{Role, code_for, contact_says, opens_exchange, lists_prefixes, other, role, offered_copies, handed_by}
 use Rattle.history.proofs.Effects
@@ -58,27 +57,23 @@ either_way : (b : Bool) → ◌≡◌ {A = ℕ} (cond b 0 0) 0
 either_way true = refl
 either_way false = refl
 
--- a change of none of the tables
+-- a change of no table that the theorem speaks of
 pub record Untouched (d : Change) : Type 0 where
-  contacts : d.contacts ≡ keep
-  own : d.own ≡ keep
-  carried : d.carried ≡ keep
-  tombstones : d.tombstones ≡ keep
+  contacts : d.people.contacts ≡ keep
+  queue : d.queue ≡ keep_queue
+  held : d.held ≡ keep_held
   next_slot : d.next_slot ≡ keep
-  own_cells : d.own_cells ≡ keep
-  carried_cells : d.carried_cells ≡ keep
 
-untouched : (d : Change) → d.contacts ≡ keep → d.own ≡ keep → d.carried ≡ keep → d.tombstones ≡ keep → d.next_slot ≡ keep
-    → d.own_cells ≡ keep → d.carried_cells ≡ keep → Untouched d
-untouched d a b c e f g h = record { contacts = a; own = b; carried = c; tombstones = e; next_slot = f; own_cells = g; carried_cells = h }
+untouched : (d : Change) → d.people.contacts ≡ keep → d.queue ≡ keep_queue → d.held ≡ keep_held → d.next_slot ≡ keep → Untouched d
+untouched d a b c e = record { contacts = a; queue = b; held = c; next_slot = e }
 
 idle : Untouched nothing
-idle = untouched nothing refl refl refl refl refl refl refl
+idle = untouched nothing refl refl refl refl
 
 -- nor of the offers
 pub record Idle (d : Change) : Type 0 where
   pub tables : Untouched d
-  pub offers : d.offered ≡ keep
+  pub offers : d.session.offered ≡ keep
 
 idle_nothing : Idle nothing
 idle_nothing = record { tables = idle; offers = refl }
@@ -87,13 +82,12 @@ module _ (s : State) where
   unhanded : (c : Call) (o : Result) → role c ≡ other → Effects.Unhanded s o (role c)
   unhanded c o e = all_each (λ r. ap (λ (ρ : Role). handed_by s o ρ r) e) s.carried
 
-  rest_held : (c : Call) (o : Result) (a : Upd (List Carried)) (b : Upd (List Tombstone)) (n : Upd ℕ) (x : Upd (List ℕ))
-      → a ≡ keep → b ≡ keep → n ≡ keep → x ≡ keep → Effects.Unhanded s o (role c)
-      → Effects.HeldStep s o c (upd s.carried a) (upd s.tombstones b) (upd s.next_slot n) (upd s.carried_cells x)
-  rest_held c o a b n x p q r t h = rw (p, q, r, t) (Effects.same h)
+  rest_held : (c : Call) (o : Result) (h : HeldChange) (n : Upd ℕ) → h ≡ keep_held → n ≡ keep → Effects.Unhanded s o (role c)
+      → Effects.HeldStep s o c (upd s.carried h.carried) (upd s.tombstones h.tombstones) (upd s.next_slot n) (upd s.carried_cells h.carried_cells)
+  rest_held c o h n p q t = rw (p, q) (Effects.same t)
 
-  rest_own : (a : Upd (List Own)) (x : Upd (List ℕ)) → a ≡ keep → x ≡ keep → Effects.OwnStep s (upd s.own a) (upd s.own_cells x)
-  rest_own a x p q = rw (p, q) Effects.same
+  rest_own : (q : QueueChange) → q ≡ keep_queue → Effects.OwnStep s (upd s.own q.own) (upd s.own_cells q.own_cells)
+  rest_own q p = rw p Effects.same
 
   rest_contacts : (ρ : Role) (a : Upd (List Contact)) → a ≡ keep → Effects.Silent ρ → Effects.ContactStep s ρ (upd s.contacts a)
   rest_contacts ρ a p t = rw p (Effects.same t)
@@ -101,9 +95,9 @@ module _ (s : State) where
   at_rest : (c : Call) (o : Result) → Effects.Unhanded s o (role c) → Effects.Silent (role c) → Untouched o.change → Effects.Effect s c o
   unfolding apply
   at_rest c o h t u = record {
-    held = rest_held c o o.change.carried o.change.tombstones o.change.next_slot o.change.carried_cells u.carried u.tombstones u.next_slot u.carried_cells h;
-    own = rest_own o.change.own o.change.own_cells u.own u.own_cells;
-    contacts = rest_contacts (role c) o.change.contacts u.contacts t;
+    held = rest_held c o o.change.held o.change.next_slot u.held u.next_slot h;
+    own = rest_own o.change.queue u.queue;
+    contacts = rest_contacts (role c) o.change.people.contacts u.contacts t;
   }
 
   quiet : (c : Call) (o : Result) → role c ≡ other → Untouched o.change → Effects.Effect s c o
@@ -115,19 +109,6 @@ module _ (s : State) where
   refused_unhanded why opens_exchange = all_each (λ r. refl) s.carried
   refused_unhanded why (lists_prefixes listed) = all_each (λ r. refl) s.carried
   refused_unhanded why other = all_each (λ r. refl) s.carried
-
-  -- the first refusal that holds, or what the call performs
-  effect_of : (c : Call) (ts : List (Bool × Refusal)) (o : Result) → Effects.Silent (role c) → (Passed ts → Effects.Effect s c o) → Effects.Effect s c (step_of ts o)
-  unfolding step_of
-  effect_of c [] o q f = f tt
-  effect_of c (t ∷ ts) o q f = go t.0 refl (λ e. effect_of c ts o q (λ p. f (e, p)))
-    where
-      rest : Result
-      rest = first_of ts (λ why. only (refused why)) o
-
-      go : (b : Bool) → t.0 ≡ b → (t.0 ≡ false → Effects.Effect s c rest) → Effects.Effect s c (cond b (only (refused t.1)) rest)
-      go true e k = at_rest c (only (refused t.1)) (refused_unhanded t.1 (role c)) q idle
-      go false e k = k e
 
   -- ---- contact
 
@@ -233,7 +214,7 @@ module _ (s : State) where
     nods code o e u d = at_rest (Calls.custody_answer actions peer tag code) o (all_each (λ r. rw (d, e)) s.carried) tt u
 
     cleared : (j : ℕ) → Untouched (offered_now (remove_at j offered) and nothing)
-    cleared j = untouched (offered_now (remove_at j offered) and nothing) refl refl refl refl refl refl refl
+    cleared j = untouched (offered_now (remove_at j offered) and nothing) refl refl refl refl
 
     code_effect : (code : Custody) → Effects.Effect s (Calls.custody_answer actions peer tag code) (receive_custody s tag code)
     unfolding receive_custody settle handed_over
@@ -333,8 +314,8 @@ module _ (s : State) where
     unfolding own_tests own_envelope apply make_own new_own none_made cells_used new_cell
     own_effect p = go (none_made s.own (length ct)) refl
       where
-        go : (b : Bool) → none_made s.own (length ct) ≡ b → Effects.Effect s adds (cond b (only no_envelope) (make_own s new_row ct))
-        go true e = quiet adds (only no_envelope) refl idle
+        go : (b : Bool) → none_made s.own (length ct) ≡ b → Effects.Effect s adds (cond b (only (done_with no_envelope)) (make_own s new_row ct))
+        go true e = quiet adds (only (done_with no_envelope)) refl idle
         go false e = record {
           held = Effects.same (all_each (λ r. refl) s.carried);
           own = Effects.makes new_row ct (record {
@@ -353,7 +334,7 @@ module _ (s : State) where
   unfolding receive_fetch fetched
   fetch_idle peer tag = go (find (envelope_of_tag tag) (envelopes s.own s.carried peer))
     where
-      go : (x : Option Envelope) → Idle (match_some x (fetched s) (only missing)).change
+      go : (x : Option Envelope) → Idle (match_some x (fetched s) (only (done_with missing))).change
       go None = idle_nothing
       go (Some e) = idle_nothing
 
@@ -361,7 +342,7 @@ module _ (s : State) where
   unfolding row_blob_of
   blob_idle slot = go (find (λ (h : Slotted). eqb h.slot slot) (held_rows s))
     where
-      go : (x : Option Slotted) → Idle (match_some x (λ h. writes (held_row h.held)) (only missing)).change
+      go : (x : Option Slotted) → Idle (match_some x (λ h. writes (held_row h.held)) (only (done_with missing))).change
       go None = idle_nothing
       go (Some h) = idle_nothing
 
@@ -374,7 +355,7 @@ module _ (s : State) where
 
       go : (b : Bool) → Idle (cond b nothing (bad_tags_now (s.bad_tags ++ (new ∷ []))))
       go true = idle_nothing
-      go false = record { tables = untouched (bad_tags_now (s.bad_tags ++ (new ∷ []))) refl refl refl refl refl refl refl; offers = refl }
+      go false = record { tables = untouched (bad_tags_now (s.bad_tags ++ (new ∷ []))) refl refl refl refl; offers = refl }
 
   inventory_idle : (window : List Reachable) (peer : ContactId) (tags : List (List ℕ)) → Untouched (receive_inventory s window peer tags).change
   unfolding receive_inventory answer_inventory list_more
@@ -382,14 +363,15 @@ module _ (s : State) where
     where
       go : (a b : Bool) → Untouched (cond a (only malformed) (cond b (answer_inventory s window peer) (list_more s.session.exchange tags))).change
       go true b = idle
-      go false true = untouched (answer_inventory s window peer).change refl refl refl refl refl refl refl
-      go false false = untouched (list_more s.session.exchange tags).change refl refl refl refl refl refl refl
+      go false true = untouched (answer_inventory s window peer).change refl refl refl refl
+      go false false = untouched (list_more s.session.exchange tags).change refl refl refl refl
 
   -- ---- every call
 
+  -- the first refusal that holds, or what the call performs
   by_tests : (c : Call) → Effects.Silent (role c) → (Passed (tests s c) → Effects.Effect s c (perform s c)) → Effects.Effect s c (step s c)
   unfolding step
-  by_tests c q f = effect_of c (tests s c) (perform s c) q f
+  by_tests c q = of_passed (Effects.Effect s c) (tests s c) (perform s c) (λ why. at_rest c (only (refused why)) (refused_unhanded why (role c)) q idle)
 
   quietly : (c : Call) → role c ≡ other → Untouched (perform s c).change → Effects.Effect s c (step s c)
   quietly c e u = by_tests c (subst Effects.Silent (sym e) tt) (λ p. quiet c (perform s c) e u)
@@ -398,11 +380,11 @@ module _ (s : State) where
   unfolding step tests perform set_config set_clock open_exchanged opened_for list_inventory save_held show_page stored report_opened
   effect (Calls.contact id v) = contact_effect id v
   effect (Calls.setting enabled copies lifetime) =
-      quietly (Calls.setting enabled copies lifetime) refl (untouched (set_config enabled copies lifetime).change refl refl refl refl refl refl refl)
-  effect (Calls.clock seconds) = quietly (Calls.clock seconds) refl (untouched (set_clock seconds).change refl refl refl refl refl refl refl)
+      quietly (Calls.setting enabled copies lifetime) refl (untouched (set_config enabled copies lifetime).change refl refl refl refl)
+  effect (Calls.clock seconds) = quietly (Calls.clock seconds) refl (untouched (set_clock seconds).change refl refl refl refl)
   effect (Calls.open_exchange peer) =
       let c : Call = Calls.open_exchange peer in
-      by_tests c tt (λ p. at_rest c (perform s c) (all_each (λ r. refl) s.carried) tt (untouched (open_exchanged peer).change refl refl refl refl refl refl refl))
+      by_tests c tt (λ p. at_rest c (perform s c) (all_each (λ r. refl) s.carried) tt (untouched (open_exchanged peer).change refl refl refl refl))
   effect (Calls.envelope replies actions window peer head ct) =
       by_tests (Calls.envelope replies actions window peer head ct) tt (envelope_effect replies actions window peer head ct)
   effect (Calls.inventory_received replies window peer listed) =

@@ -8,21 +8,23 @@ use Rattle.table.specs.Lists.{All, any, filter, position, remove_at, replace_at}
 use Rattle.courier.specs.declared.Header.{Header}
 use Rattle.courier.specs.declared.Custody.TheVariants as custody
 use Rattle.courier.specs.Tags.{tombstone_matches}
+use Rattle.state.specs.Sizes.{cell_size}
 use Rattle.rows.specs.declared.Contact.{Contact}
 use Rattle.rows.specs.declared.Own.{Own}
 use Rattle.rows.specs.declared.Carried.{Carried}
 use Rattle.rows.specs.declared.Tombstone.{Tombstone}
 use Rattle.model.specs.State.{State, apply}
 use Rattle.model.specs.Calls
-use Rattle.model.specs.Calls.{Call, Result}
+use Rattle.model.specs.Calls.{Call, Result, is_refused}
 use Rattle.model.specs.Contacts.{minute_of, end_of, known, is_verified, put_contact}
-use Rattle.model.specs.Cells.{cell_size, free_cell}
+use Rattle.model.specs.Cells.{free_cell}
 use Rattle.model.specs.Custody.{carried_of_tag, quota, deposited, carried_named, carried_cell, new_carried, answer_custody}
 use Rattle.model.specs.Exchange.{no_carried, no_own, lowered, own_lowered}
 use Rattle.model.specs.Tombs.{remaining, insert_by_slot, turned}
 use Rattle.model.specs.Own.{is_message, own_named, insert_own}
 use Rattle.model.specs.Maintenance.{carried_expired, tombstone_expired, maintain_own}
-use Rattle.history.specs.Life.{is_refused, Role, code_for, contact_says, opens_exchange, lists_prefixes, other, role, offered_copies, handed_by}
+use Rattle.history.specs.Life.{Role, code_for, contact_says, opens_exchange, lists_prefixes, other, role, offered_copies, handed_by}
+use Rattle.history.specs.Limits.{max_carried}
 
 -- ---- held rows
 
@@ -34,7 +36,7 @@ Unhanded s o ρ = All (λ (r : Carried). handed_by s o ρ r ≡ 0) s.carried
 pub record Placed (s : State) (peer : ContactId) (head : Header) (len : ℕ) : Type 0 where
   pub peer_known : known s.contacts peer ≡ true
   pub new : any (carried_of_tag head.tag) s.carried ≡ false
-  pub room : length s.carried < 256
+  pub room : length s.carried < max_carried
   pub below : deposited s.carried peer < quota (is_verified s.contacts peer)
   pub small : len ≤ 2064
   pub cell : free_cell (length s.carried_cells) (carried_named s) ≡ Some (carried_cell s)

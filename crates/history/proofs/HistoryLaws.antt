@@ -35,6 +35,7 @@ use Rattle.history.proofs.LifeLaws.{size_run, life_of, origin_of, lives_later, s
 use Rattle.history.proofs.OfferLaws.{OffersDiffer}
 use Rattle.history.proofs.OfferSteps.{Sound, offered_at, offers_run}
 use Rattle.history.proofs.ShareLaws.{owed_at}
+use Rattle.history.specs.Limits.{max_cells}
 
 -- ---- at the start
 
@@ -98,6 +99,7 @@ sound_empty p e c = record {
     next_slot = omega (arith, e.next_slot);
     copies = c;
     session = no_session_good;
+    sessions = subst (All GoodSession) (sym e.others) none;
   };
   sessions = all_imp session_empty p.sessions e.sessions;
 }
@@ -133,12 +135,12 @@ module _ (p : Post) (start : Empty p) (ls : List Lent) (session replies actions 
   abbrev next : Lent
   next = record { session = session; call = Calls.envelope replies actions window peer head ct }
 
-  owed : cell_count (length p.state.carried_cells) ≡ 256 → length head.tag ≡ 16 → Reaches (state_for (run p ls) next) replies actions window peer head (length ct)
+  owed : cell_count (length p.state.carried_cells) ≡ max_cells → length head.tag ≡ 16 → Reaches (state_for (run p ls) next) replies actions window peer head (length ct)
       → others_with_rows (run p ls).state peer ≤ 7 → Owed (state_for (run p ls) next) peer head (quota_of (verified_after peer ls)) (answer_to (run p ls) next)
   unfolding answer_to state_for
   owed cells tag16 r few =
       let k : Kept (run p ls).state = kept_run p ls (kept_empty p start) in
-      let size : cell_count (length (run p ls).state.carried_cells) ≡ 256 = ap cell_count (size_run p ls (kept_empty p start)) ∙ cells in
+      let size : cell_count (length (run p ls).state.carried_cells) ≡ max_cells = ap cell_count (size_run p ls (kept_empty p start)) ∙ cells in
       let is_known : known (run p ls).state.contacts peer ≡ true = not-false (known (run p ls).state.contacts peer) (or_false _ _ r.not2).0 in
       let v : is_verified (run p ls).state.contacts peer ≡ verified_after peer ls =
       verified_run peer p ls is_known ∙ ap (λ (b : Bool). newest_says peer b ls) (none_verified p.state.contacts peer start.contacts) in
@@ -194,6 +196,7 @@ fresh_empty p = record {
   tombstones = refl;
   bad_tags = refl;
   next_slot = refl;
+  others = refl;
   sessions = all_map closed_session p.sessions (all_each (λ e. refl) p.sessions);
 }
 

@@ -10,7 +10,7 @@ use Rattle.courier.specs.declared.Custody.TheVariants as custody
 use Rattle.rows.specs.declared.Carried.{Carried}
 use Rattle.model.specs.State.{State, apply}
 use Rattle.model.specs.Calls
-use Rattle.model.specs.Calls.{Call, Result, only, refused, step_of, short_actions}
+use Rattle.model.specs.Calls.{Call, Result, only, refused, step_of, short_actions, is_refused}
 use Rattle.model.specs.Contacts.{minute_of}
 use Rattle.model.specs.Cells.{ciphertext}
 use Rattle.model.specs.Custody.{carried_cell, carried_named, new_carried, carry, answer_custody}
@@ -18,7 +18,7 @@ use Rattle.model.specs.Exchange.{lowered}
 use Rattle.model.specs.Maintenance.{carried_expired, maintenance_tests, maintain_couriers}
 use Rattle.model.specs.Step.{Post, Lent, tests, perform, step, state_for, answer_to, after, run}
 use Rattle.history.specs.Order.{◌∈◌, here, HeldOrder}
-use Rattle.history.specs.Life.{is_refused, role, handed, Later, Leaves, Holds, Lives, ends, goes_on}
+use Rattle.history.specs.Life.{role, handed, Later, Leaves, Holds, Lives, ends, goes_on}
 use Rattle.history.specs.History.{Deposit, Given, Fate, held, left, Life, Origin}
 use Rattle.history.proofs.SortedLaws.{all_in, all_unmap, none_in, in_one, in_left, in_right, in_append, became_back, became_gone}
 use Rattle.history.proofs.Effects.{Placed}

@@ -26,10 +26,11 @@ use Rattle.history.proofs.EffectLaws.{and_true}
 use Rattle.history.proofs.RowLaws.{TagsDiffer, Stays, Thinned, stays_later, Gift, nothing, one, rows}
 use Rattle.history.proofs.ContactLaws.{Apart, known_put, apart_put}
 use Rattle.history.proofs.CellLaws.{length_split}
+use Rattle.history.specs.Limits.{max_carried}
 
 pub record Limits (contacts : List Contact) (carried : List Carried) : Type 0 where
   pub tags_differ : TagsDiffer carried
-  pub few : length carried ≤ 256
+  pub few : length carried ≤ max_carried
   pub quota : (id : ContactId) → deposited carried id ≤ 32
   pub depositors_known : All (λ (r : Carried). known contacts r.depositor ≡ true) carried
   pub contacts_apart : Apart contacts
@@ -88,7 +89,7 @@ module _ (s : State) (o : Result) where
   module _ (g : Limits s.contacts s.carried) where
     -- what holds of rows whose tags differ and whose depositors are known
     abbrev Fair : List Carried → Type 0
-    Fair rs = TagsDiffer rs × (length rs ≤ 256) × All (λ (r : Carried). known s.contacts r.depositor ≡ true) rs
+    Fair rs = TagsDiffer rs × (length rs ≤ max_carried) × All (λ (r : Carried). known s.contacts r.depositor ≡ true) rs
 
     stay_fair : (c : Call) {kept : List Carried} → Thinned s o c kept → Fair kept
     stay_fair c b =

@@ -1,33 +1,28 @@
 -- Laws of offers: what a list of them says of a tag after each change that an exchange knows.
 -- Assumes nothing.
-use Rattle.std.proofs.Common.{◌≡◌, ℕ, ◌+◌, Bool, true, false, cond, ◌&&◌, ◌||◌, eqb, List, [], ◌∷◌, ◌++◌, map, get_or, take, drop, sym, refl, ap, ◌∙◌, ap₂, arith, take-append-drop, length-take, Option, Some, None}
+use Rattle.std.proofs.Common.{◌≡◌, ℕ, ◌+◌, Bool, true, false, cond, ◌&&◌, ◌||◌, eqb, List, [], ◌∷◌, ◌++◌, map, get_or, take, drop, sym, refl, ap, ◌∙◌, ap₂, Option, Some, None}
 use mathlib.Core.Bool.{false≢true}
 use mathlib.Core.List.{flat_map}
 use Rattle.octets.specs.Bytes.{same_bytes}
 use Rattle.octets.proofs.Compare.{same_eq}
-use Rattle.octets.proofs.Numbers.{bytes_take}
 use Rattle.courier_core.specs.declared.ContactId.{ContactId}
-use Rattle.table.specs.Lists.{All, none, more, any, filter, position, position_from, is_at, remove_at, replace_at}
-use Rattle.std.proofs.lemmas.List.{drop_more}
-use Rattle.table.proofs.ListLaws.{all_each, all_imp, all_append, all_map, all_filter, any_append}
+use Rattle.table.specs.Lists.{All, none, more, any, position, position_from, is_at, remove_at, replace_at}
+use Rattle.table.proofs.ListLaws.{all_each, all_imp, all_append, any_append, split_at}
 use Rattle.table.proofs.FindLaws.{position_any, position_first, any_none}
-use Rattle.kdf.specs.Kdf.{hash}
 use Rattle.courier.specs.Courier.{header_of}
-use Rattle.courier.specs.Tags.{commitment_of}
 use Rattle.courier.proofs.HeaderLaws.{Proper, header_of_bytes}
 use Rattle.rows.specs.declared.Tombstone.{Tombstone}
 use Rattle.rows.specs.declared.Offer.{Offer}
 use Rattle.rows.specs.declared.Reply.{Reply}
 use Rattle.rows.specs.declared.BadTag.{BadTag}
 use Rattle.rows.specs.declared.Reachable.{Reachable}
-use Rattle.rows.specs.Proper.{Run}
 use Rattle.model.specs.Basics.{match_found, match_some, find}
 use Rattle.model.specs.State.{State}
 use Rattle.model.specs.Calls.{fetch_reply, tomb_reply}
 use Rattle.model.specs.Window.{no_reachable, lookup}
-use Rattle.model.specs.Exchange.{Envelope, own_envelope_of, carried_envelope_of, not_for, envelopes, reply_for, is_offered, halved, offers, offer_of_tag, no_offer, insert_offer, insert_offers, not_fetched, fetch_for, has_prefix, tomb_for}
+use Rattle.model.specs.Exchange.{Envelope, reply_for, offers, offer_of_tag, no_offer, insert_offer, insert_offers, not_fetched, fetch_for, has_prefix, tomb_for}
 use Rattle.model.specs.Good.{Good}
-use Rattle.model.proofs.HashLaws.{sha384_run}
+use Rattle.model.proofs.KeepRows.{offers_proper}
 use Rattle.model.proofs.CornerLaws.{offer_for}
 use Rattle.history.specs.Order.{Sorted}
 use Rattle.history.specs.Life.{offered_copies}
@@ -73,7 +68,7 @@ module _ (tag : List ℕ) where
 
   module _ (t : List ℕ) (os : List Offer) (i : ℕ) (p : position (offer_of_tag t) os ≡ Some i) (d : OffersDiffer os) where
     parts : take i os ++ (get_or os i no_offer ∷ drop (i + 1) os) ≡ os
-    parts = ap (λ (l : List Offer). take i os ++ l) (sym (drop_more os i no_offer (position_first (offer_of_tag t) os no_offer i p).inside)) ∙ take-append-drop i os
+    parts = split_at os i no_offer (position_first (offer_of_tag t) os no_offer i p).inside
 
     the_tag : (get_or os i no_offer).tag ≡ t
     the_tag = same_eq (get_or os i no_offer).tag t (position_first (offer_of_tag t) os no_offer i p).holds
@@ -194,31 +189,9 @@ tomb_kind ts prefix = go (find (has_prefix prefix) ts)
 
 -- ---- the headers that are sent are whole
 
-pub commitment_run : (s : List ℕ) → Run 16 (commitment_of s)
-unfolding commitment_of hash
-commitment_run s = go (sha384_run _)
-  where
-    go : {d : List ℕ} → Run 48 d → Run 16 (take 16 d)
-    go {d = d} r = record { size = omega (arith, length-take 16 d, r.size); bytes = bytes_take 16 d r.bytes }
-
 module _ (s : State) (g : Good s) (peer : ContactId) where
-  envelopes_whole : All (λ (e : Envelope). Proper e.head) (envelopes s.own s.carried peer)
-  unfolding envelopes own_envelope_of carried_envelope_of
-  envelopes_whole =
-      all_append (map own_envelope_of (filter (not_for peer) s.own)) (map carried_envelope_of s.carried)
-      (all_map own_envelope_of (filter (not_for peer) s.own)
-      (all_imp (λ o p. record { tag = p.tag.size; c = (commitment_run o.s).size; expiry = p.expiry_min; copies = p.copies }) (filter (not_for peer) s.own)
-      (all_filter (not_for peer) s.own g.own)))
-      (all_map carried_envelope_of s.carried
-      (all_imp (λ r p. record { tag = p.tag.size; c = p.c.size; expiry = p.expiry_min; copies = p.copies }) s.carried g.carried))
-
   offers_whole : All (λ (e : Envelope). Proper e.head) (offers s peer)
-  unfolding offers halved
-  offers_whole =
-      let offered : Envelope → Bool = is_offered s.tombstones s.session.exchange.listed in
-      let es : List Envelope = envelopes s.own s.carried peer in
-      all_map halved (filter offered es)
-      (all_imp (λ e p. record { tag = p.tag; c = p.c; expiry = p.expiry; copies = omega (arith, p.copies) }) (filter offered es) (all_filter offered es envelopes_whole))
+  offers_whole = all_imp (λ e p. record { tag = p.tag.size; c = p.c.size; expiry = p.expiry_min; copies = p.copies }) (offers s peer) (offers_proper s g peer)
 
   -- the replies of the empty inventory say what it offers
   pub terminator_sent : (tag : List ℕ) (window : List Reachable) (listed : List (List ℕ)) → offered_copies (insert_offers (offers s peer) []) tag

@@ -6,7 +6,6 @@ use lib.ListN.{get_or-eq_default}
 use borrow.Author.Tests.{eqb-false}
 use Rattle.octets.specs.Bytes.{same_bytes}
 use Rattle.octets.proofs.Compare.{same_eq}
-use Rattle.courier_core.specs.Core.{first_of}
 use Rattle.courier_core.specs.declared.ContactId.{ContactId}
 use Rattle.courier_core.specs.declared.Refusal.{Refusal}
 use Rattle.table.specs.Lists.{All, more, any, position, position_from, is_at}
@@ -22,7 +21,7 @@ use Rattle.rows.specs.declared.Reachable.{Reachable}
 use Rattle.model.specs.Basics.{match_found}
 use Rattle.model.specs.State.{State, Session, Upd, keep, upd, apply, nothing, no_session, with_session, tombstones_now, next_slot_now, ◌and◌}
 use Rattle.model.specs.Calls
-use Rattle.model.specs.Calls.{Call, Result, only, refused, done, malformed, no_envelope, step_of}
+use Rattle.model.specs.Calls.{Call, Result, only, refused, done, malformed, no_envelope, done_with}
 use Rattle.model.specs.Contacts.{end_of, set_contact, set_config, set_clock, open_exchanged, opened_for}
 use Rattle.model.specs.Window.{no_reachable, lookup, window_rows, prefix_rows, prefix_codec, wrong_window}
 use Rattle.model.specs.Custody.{custody_of, carry, ours_at, answer_custody, receive_envelope}
@@ -34,7 +33,9 @@ use Rattle.model.specs.Saved.{save_held}
 use Rattle.model.specs.Screen.{show_page}
 use Rattle.model.specs.Step.{Post, Lent, tests, perform, step, state_for, answer_to, after, run}
 use Rattle.model.specs.Good.{Good, GoodSession, ProperCall}
+use Rattle.model.proofs.AloneLaws.{sessions_after}
 use Rattle.model.proofs.KeepLaws.{Passed}
+use Rattle.model.proofs.RefusalLaws.{of_passed}
 use Rattle.model.proofs.KeepRows.{or_false}
 use Rattle.model.proofs.KeepCalls.{keeps, lifetime_kept}
 use Rattle.model.proofs.RunLaws.{no_session_good, good_with, all_get_d, all_set}
@@ -51,12 +52,12 @@ module _ (s : State) where
   offered = s.session.exchange.offered
 
   pub record Follows (c : Call) (o : Result) : Type 0 where
-    pub differ : OffersDiffer (upd offered o.change.offered)
-    pub says : (tag : List ℕ) → offered_copies (upd offered o.change.offered) tag ≡ offered_by tag (offered_copies offered tag) (role c) o
+    pub differ : OffersDiffer (upd offered o.change.session.offered)
+    pub says : (tag : List ℕ) → offered_copies (upd offered o.change.session.offered) tag ≡ offered_by tag (offered_copies offered tag) (role c) o
 
   module _ (d : OffersDiffer offered) where
     -- the offers stay, and the call says so
-    still : (c : Call) (o : Result) → o.change.offered ≡ keep → ((tag : List ℕ) → offered_copies offered tag ≡ offered_by tag (offered_copies offered tag) (role c) o)
+    still : (c : Call) (o : Result) → o.change.session.offered ≡ keep → ((tag : List ℕ) → offered_copies offered tag ≡ offered_by tag (offered_copies offered tag) (role c) o)
         → Follows c o
     still c o e f = record {
       differ = subst (λ (u : Upd (List Offer)). OffersDiffer (upd offered u)) (sym e) d;
@@ -70,25 +71,13 @@ module _ (s : State) where
     said_refused why tag n (lists_prefixes listed) = refl
     said_refused why tag n other = refl
 
-    follows_of : (c : Call) (ts : List (Bool × Refusal)) (o : Result) → (Passed ts → Follows c o) → Follows c (step_of ts o)
-    unfolding step_of
-    follows_of c [] o f = f tt
-    follows_of c (t ∷ ts) o f = go t.0 refl (λ e. follows_of c ts o (λ p. f (e, p)))
-      where
-        rest : Result
-        rest = first_of ts (λ why. only (refused why)) o
-
-        go : (b : Bool) → t.0 ≡ b → (t.0 ≡ false → Follows c rest) → Follows c (cond b (only (refused t.1)) rest)
-        go true e k = still c (only (refused t.1)) refl (λ tag. said_refused t.1 tag (offered_copies offered tag) (role c))
-        go false e k = k e
-
     -- ---- a call that is none of an exchange's
 
-    envelope_still : (window : List Reachable) (peer : ContactId) (head : _) (ct : List ℕ) → (receive_envelope s window peer head ct).change.offered ≡ keep
+    envelope_still : (window : List Reachable) (peer : ContactId) (head : _) (ct : List ℕ) → (receive_envelope s window peer head ct).change.session.offered ≡ keep
     unfolding receive_envelope ours_at answer_custody carry
     envelope_still window peer head ct = go (lookup window head.tag) (custody_of s peer head (length ct))
       where
-        go : (f : Option ℕ) (code : Custody) → (match_found f (λ i. ours_at (get_or window i no_reachable)) (answer_custody s peer head ct code)).change.offered ≡ keep
+        go : (f : Option ℕ) (code : Custody) → (match_found f (λ i. ours_at (get_or window i no_reachable)) (answer_custody s peer head ct code)).change.session.offered ≡ keep
         go (Some i) code = refl
         go None custody.Accepted = refl
         go None custody.Full = refl
@@ -96,27 +85,27 @@ module _ (s : State) where
         go None custody.Off = refl
         go None custody.Invalid = refl
 
-    store_still : (tag secret : List ℕ) (expiry : ℕ) → (store_tombstone s tag secret expiry).offered ≡ keep
+    store_still : (tag secret : List ℕ) (expiry : ℕ) → (store_tombstone s tag secret expiry).session.offered ≡ keep
     unfolding store_tombstone
     store_still tag secret expiry = go (tombstoned s.tombstones tag)
       where
         go : (b : Bool) → (cond b nothing (tombstones_now (remaining s.tombstones ++ (record { slot = s.next_slot; tag = tag; s = secret; expiry_min = expiry } ∷ []))
-            and next_slot_now (s.next_slot + 1))).offered ≡ keep
+            and next_slot_now (s.next_slot + 1))).session.offered ≡ keep
         go true = refl
         go false = refl
 
-    tomb_still : (tag secret : List ℕ) (m : Met) → (receive_tomb s tag secret m).change.offered ≡ keep
+    tomb_still : (tag secret : List ℕ) (m : Met) → (receive_tomb s tag secret m).change.session.offered ≡ keep
     unfolding receive_tomb turn end_own
     tomb_still tag secret (carried_at i) = refl
     tomb_still tag secret (own_at i) = store_still tag secret _
     tomb_still tag secret wrong = refl
     tomb_still tag secret unknown = refl
 
-    own_still : (id : ContactId) (msgno : ℕ) (key : List ℕ) (dir : _) (generation idx : ℕ) (secret ct : List ℕ) → (own_envelope s id msgno key dir generation idx secret ct).change.offered ≡ keep
+    own_still : (id : ContactId) (msgno : ℕ) (key : List ℕ) (dir : _) (generation idx : ℕ) (secret ct : List ℕ) → (own_envelope s id msgno key dir generation idx secret ct).change.session.offered ≡ keep
     unfolding own_envelope make_own
     own_still id msgno key dir generation idx secret ct = go (none_made s.own (length ct))
       where
-        go : (b : Bool) → (cond b (only no_envelope) (make_own s (new_own s id msgno (route_tag key dir generation idx) secret (length ct)) ct)).change.offered ≡ keep
+        go : (b : Bool) → (cond b (only (done_with no_envelope)) (make_own s (new_own s id msgno (route_tag key dir generation idx) secret (length ct)) ct)).change.session.offered ≡ keep
         go true = refl
         go false = refl
 
@@ -172,10 +161,11 @@ module _ (s : State) where
 
       by_tests : (c : Call) → (Passed (tests s c) → Follows c (perform s c)) → Follows c (step s c)
       unfolding step
-      by_tests c f = follows_of c (tests s c) (perform s c) f
+      by_tests c =
+          of_passed (Follows c) (tests s c) (perform s c) (λ why. still c (only (refused why)) refl (λ tag. said_refused why tag (offered_copies offered tag) (role c)))
 
       -- a call that is none of an exchange's
-      aside : (c : Call) → ((tag : List ℕ) (n : ℕ) → n ≡ offered_by tag n (role c) (perform s c)) → (perform s c).change.offered ≡ keep → Follows c (step s c)
+      aside : (c : Call) → ((tag : List ℕ) (n : ℕ) → n ≡ offered_by tag n (role c) (perform s c)) → (perform s c).change.session.offered ≡ keep → Follows c (step s c)
       aside c f e = by_tests c (λ p. still c (perform s c) e (λ tag. f tag (offered_copies offered tag)))
 
       pub follows : (c : Call) → Follows c (step s c)
@@ -252,7 +242,8 @@ module _ (p : Post) (l : Lent) (k : Sound p) (h : ProperCall l.call) where
   unfolding after apply
   sound_after = record {
     good = good_with (after p l).state no_session after_good no_session_good;
-    sessions = all_set p.sessions l.session (after p l).state.session k.sessions (after_good.session, after_follows.differ);
+    sessions = subst (All (λ (e : Session). GoodSession e × OffersDiffer e.exchange.offered)) (sym (sessions_after p l))
+        (all_set p.sessions l.session (after p l).state.session k.sessions (after_good.session, after_follows.differ));
   }
 
   module _ (x : ℕ) (tag : List ℕ) where
@@ -264,7 +255,9 @@ module _ (p : Post) (l : Lent) (k : Sound p) (h : ProperCall l.call) where
     offer_after : offered_copies (offered_at (after p l) x) tag
         ≡ cond (eqb l.session x) (offered_by tag (offered_copies (offered_at p x) tag) (role l.call) (answer_to p l)) (offered_copies (offered_at p x) tag)
     unfolding after apply state_for
-    offer_after = go (eqb l.session x) refl (ltb l.session (length p.sessions)) refl
+    offer_after =
+        ap (λ (es : List Session). offered_copies (get_or es x no_session).exchange.offered tag) (sessions_after p l)
+        ∙ go (eqb l.session x) refl (ltb l.session (length p.sessions)) refl
       where
         e : Session
         e = (after p l).state.session

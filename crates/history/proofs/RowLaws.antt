@@ -12,18 +12,18 @@ use Rattle.table.proofs.FindLaws.{First, position_first, any_none}
 use Rattle.courier.specs.declared.Header.{Header}
 use Rattle.courier.specs.declared.Custody.TheVariants as custody
 use Rattle.courier.specs.Tags.{commitment_of, tombstone_matches}
+use Rattle.state.specs.Sizes.{cell_size}
 use Rattle.rows.specs.declared.Carried.{Carried}
 use Rattle.rows.specs.declared.Tombstone.{Tombstone}
 use Rattle.model.specs.State.{State}
 use Rattle.model.specs.Calls
-use Rattle.model.specs.Calls.{Call, Result}
+use Rattle.model.specs.Calls.{Call, Result, is_refused}
 use Rattle.model.specs.Contacts.{minute_of}
-use Rattle.model.specs.Cells.{cell_size}
 use Rattle.model.specs.Custody.{carried_of_tag, carried_cell, new_carried, answer_custody}
 use Rattle.model.specs.Exchange.{no_carried, lowered}
 use Rattle.model.specs.Maintenance.{carried_expired}
 use Rattle.history.specs.Order.{Sorted}
-use Rattle.history.specs.Life.{is_refused, Role, code_for, other, role, offered_copies, handed_by, Leaves, expires, ended, Later}
+use Rattle.history.specs.Life.{Role, code_for, other, role, offered_copies, handed_by, Leaves, expires, ended, Later}
 use Rattle.history.proofs.SortedLaws.{Became, became_same, became_replaced, became_removed, became_filter, sorted_after}
 use Rattle.history.proofs.Effects
 use Rattle.history.proofs.Effects.{Unhanded, Placed, HeldStep}

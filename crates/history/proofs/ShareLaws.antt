@@ -31,6 +31,7 @@ use Rattle.model.proofs.KeepRows.{valid_length}
 use Rattle.history.specs.Share.{others_with_rows, Reaches, Owed}
 use Rattle.history.proofs.LimitLaws.{Limits, quota_32, spread}
 use Rattle.history.proofs.CellLaws.{cells_left}
+use Rattle.history.specs.Limits.{max_carried, max_cells}
 
 -- ---- the window
 
@@ -69,7 +70,7 @@ module _ (s : State) (g : Limits s.contacts s.carried) (peer : ContactId) (few :
   quota_now = quota (is_verified s.contacts peer)
 
   -- P below its quota: fewer than 256 rows
-  room : deposited s.carried peer < quota_now → length s.carried < 256
+  room : deposited s.carried peer < quota_now → length s.carried < max_carried
   room h =
       omega (arith, spread peer s.contacts s.carried g.depositors_known g.quota, quota_32 (is_verified s.contacts peer), h, few)
 
@@ -107,7 +108,7 @@ module _ (s : State) (g : Limits s.contacts s.carried) (peer : ContactId) (few :
     unfolding step tests perform step_of envelope_tests receive_envelope accepts answer_custody
     when_full h = rw (r.not1, r.not12, r.not2, ours_not, custody_is true (le-leb quota_now (deposited s.carried peer) h))
 
-    module _ (cells : cell_count (length s.carried_cells) ≡ 256) (h : deposited s.carried peer < quota_now) where
+    module _ (cells : cell_count (length s.carried_cells) ≡ max_cells) (h : deposited s.carried peer < quota_now) where
       cell_left : cells_used (length s.carried_cells) (carried_named s) ≡ false
       cell_left = cells_left (length s.carried_cells) (carried_named s) (omega (arith, length-map s.carried (λ (x : Carried). x.cell), room h, cells))
 
@@ -115,7 +116,7 @@ module _ (s : State) (g : Limits s.contacts s.carried) (peer : ContactId) (few :
       unfolding step tests perform step_of envelope_tests receive_envelope accepts
       below_quota b e = rw (r.not1, r.not12, r.not2, ours_not, custody_is false (lt-leb quota_now (deposited s.carried peer) h), cell_left, e)
 
-    pub owed_at : cell_count (length s.carried_cells) ≡ 256 → Owed s peer head quota_now answer
+    pub owed_at : cell_count (length s.carried_cells) ≡ max_cells → Owed s peer head quota_now answer
     unfolding answer_custody
     owed_at cells = record {
       full = when_full;

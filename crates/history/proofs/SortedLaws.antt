@@ -3,7 +3,7 @@
 use Rattle.std.proofs.Common.{◌≡◌, ℕ, zero, suc, ◌+◌, ◌<◌, ◌≤◌, Bool, true, false, cond, leb, ◌⊎◌, List, [], ◌∷◌, ◌++◌, map, length, get_or, take, drop, sym, refl, ap, ◌∙◌, subst, inl, inr, add-one, arith, take-append-drop, drop_of_length-le, leb-false, leb-true, Option, Some, None}
 use Rattle.table.specs.Lists.{All, none, more, any, filter, count_by, position, is_at, unwrap_or, insert_at, remove_at, replace_at}
 use Rattle.std.proofs.lemmas.List.{drop_more}
-use Rattle.table.proofs.ListLaws.{all_append, all_take, all_drop, all_imp}
+use Rattle.table.proofs.ListLaws.{all_append, all_take, all_drop, all_imp, split_at}
 use Rattle.table.proofs.FindLaws.{position_any, position_first, any_none}
 use Rattle.model.specs.Basics.{merge}
 use Rattle.model.proofs.Laws.{all_merge}
@@ -41,9 +41,6 @@ module _ {A : Type 0} where
   pub in_one : {x y : A} → x ∈ (y ∷ []) → x ≡ y
   in_one here = refl
   in_one {y = y} (there h) = elim h [ ]
-
-  split_at : (xs : List A) (i : ℕ) (d : A) → i < length xs → take i xs ++ (get_or xs i d ∷ drop (i + 1) xs) ≡ xs
-  split_at xs i d h = ap (λ (l : List A). take i xs ++ l) (sym (drop_more xs i d h)) ∙ take-append-drop i xs
 
   all_between : {P : A → Type 0} (xs ys : List A) (x : A) → All P (xs ++ ys) → P x → All P (xs ++ (x ∷ ys))
   all_between [] ys x a p = more p a

@@ -10,7 +10,7 @@ use Rattle.rows.specs.declared.Contact.{Contact}
 use Rattle.rows.specs.declared.Carried.{Carried}
 use Rattle.model.specs.State.{Session, nobody, no_session}
 use Rattle.model.specs.Calls
-use Rattle.model.specs.Calls.{put_courier, custody_reply}
+use Rattle.model.specs.Calls.{put_courier, custody_reply, is_refused}
 use Rattle.model.specs.Contacts.{minute_of, end_of}
 use Rattle.model.specs.Cells
 use Rattle.model.specs.Cells.{cell_count}
@@ -18,9 +18,10 @@ use Rattle.model.specs.Custody.{deposited}
 use Rattle.model.specs.Step.{Post, Lent, step, state_for, answer_to, after, run}
 use Rattle.model.specs.Areas.{PostAreas, view, view_post, areas_for, run_areas}
 use Rattle.history.specs.Order.{Sorted, ◌∈◌, HeldOrder, OwnOrder}
-use Rattle.history.specs.Life.{is_refused, offered_copies, Later, Leaves, Holds, Lives}
+use Rattle.history.specs.Life.{offered_copies, Later, Leaves, Holds, Lives}
 use Rattle.history.specs.Offers.{offered_after}
 use Rattle.history.specs.Share.{verified_after, ever_verified, quota_of, others_with_rows, Reaches, Owed}
+use Rattle.history.specs.Limits.{max_carried, max_cells, envelope_header, most_held_bytes, max_per_verified, max_per_depositor, most_others, max_tombstones}
 
 -- No row, contact or open exchange. R, the cells of both kinds, the bad-tag rows, the clock, the setting and the sizes of the exchanges'
 -- areas are any.
@@ -31,12 +32,13 @@ pub record Empty (p : Post) : Type 0 where
   pub tombstones : p.state.tombstones ≡ []
   pub bad_tags : p.state.bad_tags ≡ []
   pub next_slot : p.state.next_slot ≡ 0
+  pub others : p.state.sessions ≡ []
   pub sessions : All (λ (e : Session). e.exchange ≡ nobody) p.sessions
 
--- the bytes of headers and ciphertexts: a header has 37
+-- the bytes of headers and ciphertexts
 abbrev pub held_bytes : List ℕ → List Carried → ℕ
 held_bytes cells [] = 0
-held_bytes cells (r ∷ rs) = 37 + length (Cells.ciphertext cells r.cell r.len) + held_bytes cells rs
+held_bytes cells (r ∷ rs) = envelope_header + length (Cells.ciphertext cells r.cell r.len) + held_bytes cells rs
 
 -- an envelope call that is answered, by its own call, with code 0
 pub record Deposit (p : Post) (l : Lent) : Type 0 where
@@ -88,16 +90,16 @@ pub record Origin (p : Post) (ls : List Lent) (e : Carried) : Type 0 where
 
 -- Demand 3, of a list of calls from a post.
 pub record CustodyHistory (p : Post) (ls : List Lent) : Type 0 where
-  -- carried tags differ; there are at most 256 carried rows, and 537,856 header and ciphertext bytes
+  -- carried tags differ; there are at most max_carried carried rows, and most_held_bytes header and ciphertext bytes
   pub tags_differ : Sorted (λ (a b : Carried). a.tag ≢ b.tag) (run p ls).state.carried
-  pub few : length (run p ls).state.carried ≤ 256
-  pub light : held_bytes (run p ls).state.carried_cells (run p ls).state.carried ≤ 537856
-  -- no contact has over 32, nor over 16 if no contact call on it ever said 1
-  pub quota : (id : ContactId) → deposited (run p ls).state.carried id ≤ 32
-  pub quota_unverified : (id : ContactId) → ever_verified id ls ≡ false → deposited (run p ls).state.carried id ≤ 16
-  -- there are at most 1,024 tombstones, whatever R is; and with R at 1,024 or more no call is refused by number 5 (a load is none of these calls)
-  pub tombstones_few : length (run p ls).state.tombstones ≤ 1024
-  pub never_5 : 1024 ≤ p.state.tombstone_rows → (before : List Lent) (l : Lent) (rest : List Lent) → ls ≡ before ++ (l ∷ rest)
+  pub few : length (run p ls).state.carried ≤ max_carried
+  pub light : held_bytes (run p ls).state.carried_cells (run p ls).state.carried ≤ most_held_bytes
+  -- no contact has over max_per_verified, nor over max_per_depositor if no contact call on it ever said 1
+  pub quota : (id : ContactId) → deposited (run p ls).state.carried id ≤ max_per_verified
+  pub quota_unverified : (id : ContactId) → ever_verified id ls ≡ false → deposited (run p ls).state.carried id ≤ max_per_depositor
+  -- there are at most max_tombstones tombstones, whatever R is; and with R at that or more no call is refused by number 5 (a load is none of these calls)
+  pub tombstones_few : length (run p ls).state.tombstones ≤ max_tombstones
+  pub never_5 : max_tombstones ≤ p.state.tombstone_rows → (before : List Lent) (l : Lent) (rest : List Lent) → ls ≡ before ++ (l ∷ rest)
       → (answer_to (run p before) l).answer ≢ Calls.refused refusal.NoTombstoneRow
   -- every envelope call answered with code 0 gave one carried row; it leaves only by maintenance at or after its expiry or by a tomb whose
   -- secret hashes to its commitment
@@ -113,13 +115,13 @@ pub record CustodyHistory (p : Post) (ls : List Lent) : Type 0 where
   pub swept : (before : List Lent) (l : Lent) (rest : List Lent) (actions : ℕ) → ls ≡ before ++ (l ∷ rest) → l.call ≡ Calls.maintenance actions
       → is_refused (answer_to (run p before) l).answer ≡ false → (r : Carried) → r ∈ (after (run p before) l).state.carried
       → minute_of (state_for (run p before) l) < r.expiry_min
-  -- If next an envelope from P reaches the test Full while at most seven contacts other than P have carried rows, P gets its share; no
-  -- contact is counted twice. This sentence alone needs 256 cells.
+  -- If next an envelope from P reaches the test Full while at most most_others contacts other than P have carried rows, P gets its share; no
+  -- contact is counted twice. This sentence alone needs max_cells cells.
   pub contacts_differ : Sorted (λ (a b : Contact). a.id.0 ≢ b.id.0) (run p ls).state.contacts
-  pub share : cell_count (length p.state.carried_cells) ≡ 256
+  pub share : cell_count (length p.state.carried_cells) ≡ max_cells
       → (session replies actions : ℕ) (window : List ℕ) (peer : ContactId) (head : Header) (ct : List ℕ)
       → let next : Lent = record { session = session; call = Calls.envelope replies actions window peer head ct } in
-      length head.tag ≡ 16 → Reaches (state_for (run p ls) next) replies actions window peer head (length ct) → others_with_rows (run p ls).state peer ≤ 7
+      length head.tag ≡ 16 → Reaches (state_for (run p ls) next) replies actions window peer head (length ct) → others_with_rows (run p ls).state peer ≤ most_others
       → Owed (state_for (run p ls) next) peer head (quota_of (verified_after peer ls)) (answer_to (run p ls) next)
   -- the tables stand in the order in which the definitions read them, and a cell is named by at most one row
   pub held_order : HeldOrder (run p ls).state.carried (run p ls).state.tombstones (run p ls).state.next_slot (run p ls).state.carried_cells

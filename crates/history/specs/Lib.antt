@@ -1,4 +1,5 @@
 -- Demand 3: what is claimed of every list of calls.
+pub mod Limits
 pub mod Order
 pub mod Life
 pub mod Share

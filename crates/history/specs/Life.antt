@@ -1,6 +1,6 @@
 -- The life of a carried row: the call that gives it, what calls take off it, and how it leaves. It is read off calls, answers and rows.
 -- Assumes nothing.
-use Rattle.std.specs.Prelude.{◌≡◌, ℕ, ◌≤◌, Bool, true, false, cond, ◌&&◌, List, [], ◌∷◌, slice_index_or}
+use Rattle.std.specs.Prelude.{◌≡◌, ℕ, ◌≤◌, false, cond, ◌&&◌, List, [], ◌∷◌, slice_index_or}
 use Rattle.courier_core.specs.declared.ContactId.{ContactId}
 use Rattle.courier_core.specs.declared.Verification.{Verification}
 use Rattle.table.specs.Lists.{position}
@@ -11,17 +11,13 @@ use Rattle.rows.specs.declared.Offer.{Offer}
 use Rattle.model.specs.Basics.{match_found}
 use Rattle.model.specs.State.{State}
 use Rattle.model.specs.Calls
-use Rattle.model.specs.Calls.{Call, Answer, Result}
-use Rattle.model.specs.Lent.{refused_or}
+use Rattle.model.specs.Calls.{Call, Result, is_refused}
 use Rattle.model.specs.Contacts.{minute_of}
 use Rattle.model.specs.Cells.{ciphertext}
 use Rattle.model.specs.Custody.{carried_of_tag, is_accepted}
 use Rattle.model.specs.Exchange.{offer_of_tag, no_offer, lowered}
 use Rattle.model.specs.Step.{Post, Lent, state_for, answer_to, after}
 use Rattle.history.specs.Order.{◌∈◌}
-
-abbrev pub is_refused : Answer → Bool
-is_refused a = refused_or (λ why. true) false a
 
 -- ---- calls by what demand 3 asks of them
 

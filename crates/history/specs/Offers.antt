@@ -1,24 +1,12 @@
 -- What an exchange has offered and had no code for yet, read off the calls and their replies.
 -- Assumes nothing.
-use Rattle.std.specs.Prelude.{ℕ, Bool, true, false, cond, not, ◌&&◌, List, [], ◌∷◌, length, ◌==◌}
+use Rattle.std.specs.Prelude.{ℕ, cond, not, ◌&&◌, List, [], ◌∷◌, length, ◌==◌}
 use Rattle.octets.specs.Bytes.{same_bytes}
 use Rattle.courier.specs.Courier.{header_of}
 use Rattle.rows.specs.declared.Reply.{Reply}
-use Rattle.model.specs.Calls
-use Rattle.model.specs.Calls.{Answer, Result}
+use Rattle.model.specs.Calls.{Result, is_refused, is_done}
 use Rattle.model.specs.Step.{Post, Lent, answer_to, after}
-use Rattle.history.specs.Life.{is_refused, Role, code_for, contact_says, opens_exchange, lists_prefixes, other, role}
-
-abbrev pub is_done : Answer → Bool
-is_done (Calls.refused why) = false
-is_done Calls.malformed = false
-is_done Calls.done = true
-is_done (Calls.ours contact generation idx) = false
-is_done (Calls.found cells position len) = false
-is_done Calls.missing = false
-is_done (Calls.own_row row) = false
-is_done Calls.no_envelope = false
-is_done (Calls.wrote count) = false
+use Rattle.history.specs.Life.{Role, code_for, contact_says, opens_exchange, lists_prefixes, other, role}
 
 -- the copies in the last envelope of a tag among replies, n if there is none
 abbrev pub last_sent : List ℕ → ℕ → List Reply → ℕ

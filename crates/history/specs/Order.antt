@@ -2,12 +2,13 @@
 -- Assumes nothing.
 use Rattle.std.specs.Prelude.{◌≡◌, ℕ, ◌<◌, ◌≤◌, true, ◌⊎◌, List, [], ◌∷◌, length, ◌≢◌}
 use Rattle.table.specs.Lists.{All}
+use Rattle.state.specs.Sizes.{cell_size}
 use Rattle.rows.specs.declared.Contact.{Contact}
 use Rattle.rows.specs.declared.Own.{Own}
 use Rattle.rows.specs.declared.Carried.{Carried}
 use Rattle.rows.specs.declared.Tombstone.{Tombstone}
 use Rattle.model.specs.Contacts.{known, added_before}
-use Rattle.model.specs.Cells.{cell_size, cell_count}
+use Rattle.model.specs.Cells.{cell_count}
 
 -- the relation holds between each element and every later one
 pub data Sorted {A : Type 0} (R : A → A → Type 0) : List A → Type 0 where

@@ -1,6 +1,6 @@
 -- Who is verified, read off the list of calls; and what a contact is owed whose envelope reaches the test Full.
 -- Assumes nothing.
-use Rattle.std.specs.Prelude.{◌≡◌, ℕ, ◌-◌, ◌^◌, ◌<◌, ◌≤◌, Bool, true, false, cond, not, ◌&&◌, ◌||◌, List, [], ◌∷◌, ◌≢◌, nat_lt}
+use Rattle.std.specs.Prelude.{◌≡◌, ℕ, ◌<◌, ◌≤◌, Bool, true, false, cond, not, ◌&&◌, ◌||◌, List, [], ◌∷◌, ◌≢◌, nat_lt}
 use Rattle.octets.specs.Bytes.{same_bytes}
 use Rattle.courier_core.specs.declared.ContactId.{ContactId}
 use Rattle.courier_core.specs.declared.Verification.{Verification}
@@ -20,6 +20,7 @@ use Rattle.model.specs.Window.{window_rows, wrong_window, strangers}
 use Rattle.model.specs.Custody.{deposited, duplicate}
 use Rattle.model.specs.Step.{Lent}
 use Rattle.history.specs.Life.{Role, code_for, contact_says, opens_exchange, lists_prefixes, other, role}
+use Rattle.history.specs.Limits.{max_per_verified, max_per_depositor, u64_max}
 
 -- ---- who is verified
 
@@ -66,13 +67,13 @@ pub record Reaches (s : State) (replies actions : ℕ) (window : List ℕ) (peer
 abbrev pub others_with_rows : State → ContactId → ℕ
 others_with_rows s id = count_by (λ (q : Contact). not (same_contact q.id id) && nat_lt 0 (deposited s.carried q.id)) s.contacts
 
--- 32 if the contact is verified, 16 otherwise
+-- max_per_verified if the contact is verified, max_per_depositor otherwise
 abbrev pub quota_of : Bool → ℕ
-quota_of verified = cond verified 32 16
+quota_of verified = cond verified max_per_verified max_per_depositor
 
 -- What P is owed there: Full exactly if it has its quota or more, and else Accepted, or refused by 6 if slot numbers have run out.
 pub record Owed (s : State) (peer : ContactId) (head : Header) (quota : ℕ) (o : Result) : Type 0 where
   pub full : quota ≤ deposited s.carried peer → o ≡ result done (custody_reply head.tag custody.Full ∷ []) [] nothing
-  pub no_slot : deposited s.carried peer < quota → s.next_slot ≡ 2 ^ 64 - 1 → o ≡ only (refused refusal.NoSlot)
-  pub accepted : deposited s.carried peer < quota → (s.next_slot ≢ 2 ^ 64 - 1)
+  pub no_slot : deposited s.carried peer < quota → s.next_slot ≡ u64_max → o ≡ only (refused refusal.NoSlot)
+  pub accepted : deposited s.carried peer < quota → (s.next_slot ≢ u64_max)
       → (o.answer ≡ done) × (o.replies ≡ custody_reply head.tag custody.Accepted ∷ []) × (o.actions ≡ put_courier s.next_slot ∷ [])

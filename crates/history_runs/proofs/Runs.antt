@@ -10,7 +10,6 @@ use Rattle.table.specs.Lists as lists
 use Rattle.table.specs.Lists.{All, none, more}
 use Rattle.table.specs.Codec as codec
 use Rattle.table.proofs.ListLaws.{all_append}
-use Rattle.courier.specs.declared.Custody.{Custody}
 use Rattle.courier.specs.declared.Custody.TheVariants as custody
 use Rattle.courier.specs.Courier as courier
 use Rattle.courier.specs.Tags.{commitment_of}
@@ -36,7 +35,7 @@ use Rattle.model.specs.Step.{Post, Lent, tests, perform, step, state_for, answer
 use Rattle.model.proofs.RunLaws.{fresh_post, run_fresh}
 use Rattle.model.proofs.Examples.{session_areas, areas_of, id, of_byte, lend, terminator, code, opens}
 use Rattle.history.specs.History.{CustodyOnAreas}
-use Rattle.history.proofs.OfferLaws.{commitment_run}
+use Rattle.model.proofs.HashLaws.{commitment_run}
 use Rattle.history.proofs.HistoryLaws.{custody_history_areas}
 
 -- fresh areas with n carried cells
@@ -132,6 +131,7 @@ fresh n = record {
   bad_tags = refl;
   next_slot = refl;
   lent = refl;
+  others = refl;
   sessions = more refl (more refl (more refl none));
 }
 

@@ -1,7 +1,7 @@
 -- The answer of each call in the one form that a host gets: document 01's number, or 0 done, 128 malformed, 129 ours, 130 no such row or envelope here, 131 no envelope
 -- made; and how many replies, actions, rows or bytes there are, or for how many rows the tombstones were searched.
 -- Assumes nothing.
-use Rattle.std.specs.Prelude.{ℕ, cond, List, replicate, ◌==◌, Result, Ok, Err, Option, Some, None}
+use Rattle.std.specs.Prelude.{ℕ, List, replicate, Result, Ok, Err, Option, Some, None}
 use Rattle.std.proofs.Math.ListN as lists
 use Rattle.courier_core.specs.Core.{refusal_number}
 use Rattle.courier_core.specs.declared.Refusal.{Refusal}
@@ -13,11 +13,10 @@ use Rattle.state.specs.declared.Carried.{Carried}
 use Rattle.state.specs.declared.Tombstone.{Tombstone}
 use Rattle.envelope.specs.declared.Answer.{Answer as EnvelopeSaid}
 use Rattle.envelope.specs.declared.Answer.TheVariants as envelope_said
-use Rattle.fetch.specs.Fetch.{Fetched}
 use Rattle.inventory.specs.declared.Said.{Said as InventorySaid}
 use Rattle.inventory.specs.declared.Said.TheVariants as inventory_said
-use Rattle.tombs.specs.declared.Said.{Said as TombSaid}
-use Rattle.tombs.specs.declared.Said.TheVariants as tomb_said
+use Rattle.answers.specs.declared.Said.{Said as TombSaid}
+use Rattle.answers.specs.declared.Said.TheVariants as tomb_said
 use Rattle.host_answers.specs.declared.Answer.{Answer}
 use Rattle.host_answers.specs.declared.Row.{Row}
 
@@ -63,12 +62,11 @@ envelope_answer (Ok (envelope_said.Ours contact generation idx)) = record {
 envelope_answer (Ok (envelope_said.Done replies actions)) = answered 0 replies actions 0
 envelope_answer (Err why) = refusing why
 
--- a fetch's number: 0 for an envelope, which has so many replies and whose ciphertext so many bytes, 255 for none, or a refusal's
-abbrev pub fetch_answer : (replies number len : ℕ) → Answer
-fetch_answer replies number len = cond (number == 0) (answered 0 replies 0 len) (cond (number == 255) (answered 130 0 0 0) (answered number 0 0 0))
-
-abbrev pub fetched_answer : ℕ → Fetched → Answer
-fetched_answer replies f = fetch_answer replies f.number (lists.length f.bytes)
+-- a fetch: an envelope, which has so many replies and whose ciphertext so many bytes, or none
+abbrev pub fetched_answer : (replies : ℕ) → Result (Option (List ℕ)) Refusal → Answer
+fetched_answer replies (Ok (Some ct)) = answered 0 replies 0 (lists.length ct)
+fetched_answer replies (Ok None) = answered 130 0 0 0
+fetched_answer replies (Err why) = refusing why
 
 -- own envelope: the answer, and the bytes of the row where there is one
 abbrev pub own_answer : Result (Option Own) Refusal → Answer

@@ -151,12 +151,12 @@ pub fn inventory_answer(said: Result<inventory::Said, Refusal>) -> Answer
 }
 
 // Of a tomb or a report, which replies so many rows where it is done.
-pub fn tomb_answer(said: Result<tombs::Said, Refusal>, replies: usize) -> Answer
+pub fn tomb_answer(said: Result<answers::Said, Refusal>, replies: usize) -> Answer
     ensures { result ≡ tomb_answer replies said }
 {
     match said {
-        Ok(tombs::Said::Done(actions)) => answer_of(DONE, replies, actions, 0),
-        Ok(tombs::Said::Malformed) => answer_of(MALFORMED, 0, 0, 0),
+        Ok(answers::Said::Done(actions)) => answer_of(DONE, replies, actions, 0),
+        Ok(answers::Said::Malformed) => answer_of(MALFORMED, 0, 0, 0),
         Err(why) => refused(why),
     }
 }

@@ -1,21 +1,14 @@
 -- What is made of a list element by element, and rows written of it.
 -- Assumes nothing.
-use Rattle.std.proofs.Common.{◌≡◌, ℕ, ◌+◌, ◌*◌, ◌<◌, ◌≤◌, List, [], ◌∷◌, ◌++◌, map, length, get_or, take, refl, ap, ◌∙◌, ap₂, append-nil, add-one, arith, take_all, take-suc}
+use Rattle.std.proofs.Common.{◌≡◌, ℕ, ◌+◌, ◌*◌, ◌<◌, ◌≤◌, List, [], ◌∷◌, ◌++◌, map, length, get_or, take, refl, ap, ◌∙◌, ap₂, arith, take_all}
 use mathlib.Core.List.{map-append, flat_map}
-use Rattle.table.proofs.ListLaws.{flat_map_append}
+use Rattle.table.proofs.ListLaws.{flat_map_next}
 use Rattle.offers.specs.Appended.{Appended}
 use Rattle.offers.proofs.AppendLaws.{append_none, append_then}
 
 -- ---- element by element
 
 module _ {A B : Type 0} (f : A → List B) where
-  -- one element more
-  pub flat_next : (xs : List A) (i : ℕ) (d : A) → i < length xs → flat_map f (take (i + 1) xs) ≡ flat_map f (take i xs) ++ f (get_or xs i d)
-  unfolding flat_map
-  flat_next xs i d h =
-      ap (λ (k : ℕ). flat_map f (take k xs)) (add-one i) ∙ ap (flat_map f) (take-suc xs i d h) ∙ flat_map_append f (take i xs) (get_or xs i d ∷ [])
-      ∙ ap (λ (l : List B). flat_map f (take i xs) ++ l) (append-nil (f (get_or xs i d)))
-
   -- all of them
   pub flat_end : (xs : List A) (i : ℕ) → length xs ≤ i → flat_map f (take i xs) ≡ flat_map f xs
   flat_end xs i h = ap (flat_map f) (take_all i xs h)
@@ -48,7 +41,7 @@ module _ {A : Type 0} (w : ℕ) (f : A → List (List ℕ)) (xs : List A) (lent 
     pub filling_next : {j : ℕ} {y : List ℕ} {rs : List (List ℕ)} (d : A) → i < length xs → f (get_or xs i d) ≡ rs → Appended w x k rs j y → j ≤ k + 1
         → j * w ≤ length lent → Filling (i + 1) j y
     filling_next {j} {y} {rs} d h e B b room =
-        let s : flat_map f (take (i + 1) xs) ≡ flat_map f (take i xs) ++ rs = flat_next f xs i d h ∙ ap (λ (l : List (List ℕ)). flat_map f (take i xs) ++ l) e in
+        let s : flat_map f (take (i + 1) xs) ≡ flat_map f (take i xs) ++ rs = flat_map_next f xs i d h ∙ ap (λ (l : List (List ℕ)). flat_map f (take i xs) ++ l) e in
         let l = F.below in
         record { within = omega arith; below = omega arith; rows = rw s (append_then w F.rows B room); size = B.size ∙ F.size }
 

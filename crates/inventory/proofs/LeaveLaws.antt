@@ -13,9 +13,9 @@ use Rattle.model.specs.Exchange.{answer_inventory, list_more, too_many, receive_
 use Rattle.model.specs.Step.{perform}
 use Rattle.model.specs.Areas.{Areas, SessionAreas, AnswerAreas, view, store_session}
 use Rattle.model.specs.Lent.{Does}
-use Rattle.contacts.specs.Lends.{exchange_of, Lends}
+use Rattle.holdings.specs.Lends.{exchange_of, Lends}
 use Rattle.model.proofs.RefusalLaws.{by_test}
-use Rattle.contacts.proofs.LendLaws.{Leaves, lends}
+use Rattle.holdings.proofs.LendLaws.{Leaves, lends}
 use Rattle.inventory.specs.declared.Said.{Said}
 use Rattle.inventory.specs.Inventory.{received_says, received_in, inventory_leaves}
 

@@ -12,13 +12,14 @@ use Rattle.rows.specs.declared.Device.{Device}
 use Rattle.rows.specs.declared.Own.{Own}
 use Rattle.rows.specs.declared.Carried.{Carried}
 use Rattle.rows.specs.Rows.{own_codec, carried_codec, contact_codec}
+use Rattle.rows.specs.Limits.{prefix_area}
 use Rattle.model.specs.Basics.{trunc8}
 use Rattle.model.specs.Calls.{Call, inventory_of_ours}
 use Rattle.model.specs.Contacts.{known}
 use Rattle.model.specs.Exchange.{Envelope, envelopes, inventory, no_carried, inventory_tests, list_inventory}
 use Rattle.model.specs.Step.{tests, perform, step}
 use Rattle.model.specs.Areas.{Areas, Written, view, store, store_device, store_session, answer_areas}
-use Rattle.model.proofs.CallLaws.{refused_here, not_here, no_test, refused_call}
+use Rattle.model.proofs.CallLaws.{refused_here, not_here, no_test, answering_call, refused_call}
 use Rattle.model.specs.Lent.{bytes_lent}
 use Rattle.offers.specs.declared.Row.{Row}
 use Rattle.offers.specs.Appended.{Appended}
@@ -91,11 +92,11 @@ module _ (d : Device) (peer : ContactId) (contacts own carried lent : List ℕ) 
   abbrev Says : Result ℕ Refusal → List ℕ → Type 0
   Says r back = Written inventory_says (step (view B) C) r B B (bytes_lent lent) (bytes_lent back)
 
-  pub says_short : length lent < 4096 → Says (Err refusal.ShortArea) lent
+  pub says_short : length lent < prefix_area → Says (Err refusal.ShortArea) lent
   unfolding step tests perform inventory_tests
   says_short h = refused_call refusal.ShortArea (refused_here _ _ _ (lt-ltb (length lent) 4096 h)) refl refl
 
-  module _ (long : 4096 ≤ length lent) where
+  module _ (long : prefix_area ≤ length lent) where
     pub says_stranger : known (table_of contact_codec d.contacts contacts) peer ≡ false → Says (Err refusal.UnknownContact) lent
     unfolding step tests perform inventory_tests view
     says_stranger k =
@@ -113,8 +114,5 @@ module _ (d : Device) (peer : ContactId) (contacts own carried lent : List ℕ) 
           let s : flat_map prefix_of (entries peer os cs) ≡ inventory (view B) peer =
           ap₂ (λ (x : List Own) (y : List Carried). flat_map prefix_of (entries peer x y)) eo ec
           ∙ sym (listed_are peer (table_of own_codec d.own own) (table_of carried_codec d.carried carried)) in
-          rw performed (record {
-            answer = ap Ok (A.count ∙ zero-add _ ∙ ap length s);
-            areas = refl;
-            answers = ap bytes_lent (A.area ∙ ap (λ (l : List (List ℕ)). splice lent 0 (join l)) s);
-          })
+          answering_call (list_inventory (view B) peer) performed (ap Ok (A.count ∙ zero-add _ ∙ ap length s)) refl
+          (ap bytes_lent (A.area ∙ ap (λ (l : List (List ℕ)). splice lent 0 (join l)) s))

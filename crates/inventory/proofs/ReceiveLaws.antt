@@ -19,12 +19,12 @@ use Rattle.rows.specs.declared.Tombstone.{Tombstone}
 use Rattle.rows.specs.declared.Reply.{Reply}
 use Rattle.rows.specs.Rows.{own_codec, carried_codec, tombstone_codec, bad_tag_codec, reply_bytes}
 use Rattle.model.specs.State.{State, nothing}
-use Rattle.model.specs.Calls.{Call, inventory_received, Result as Outcome, only, malformed, refused, step_of}
+use Rattle.model.specs.Calls.{Call, inventory_received, Result as Outcome, malformed}
 use Rattle.model.specs.Window.{window_rows, prefix_rows, prefix_codec}
 use Rattle.model.specs.Exchange.{Envelope, reply_for, tomb_for, searched_rows, offers, answer_inventory, list_more, too_many, receive_inventory, receive_inventory_tests}
 use Rattle.model.specs.Step.{tests, perform, step}
 use Rattle.model.specs.Areas.{Areas, Written, view, view_session, store, store_device, store_session, answer_areas}
-use Rattle.model.proofs.CallLaws.{quiet_call, refused_call}
+use Rattle.model.proofs.CallLaws.{result_by, tested_call, answering_call, quiet_call, refused_call}
 use Rattle.model.specs.Lent.{replies_lent}
 use Rattle.offers.specs.Appended.{Appended}
 use Rattle.offers.specs.Entries.{held_envelopes, entries}
@@ -35,7 +35,7 @@ use Rattle.inventory.specs.declared.Lookup.{Lookup}
 use Rattle.inventory.specs.declared.Said.{Said}
 use Rattle.inventory.specs.declared.Said.TheVariants as said
 use Rattle.inventory.specs.Inventory.{tombs, fetches, Answers, offers_of, searched_of, replies_for, completed_with, lengthened_to, Terminated, Lengthened, received_says, received_in, Reads}
-use Rattle.inventory.proofs.TestLaws.{first_refused, first_passed, Tests}
+use Rattle.inventory.proofs.TestLaws.{Tests}
 
 -- ---- the terminator
 
@@ -168,11 +168,8 @@ module _ (d : Device) (peer : ContactId) (own carried tombs bad window v : List 
       unfolding answer_inventory offers searched_rows view view_session store store_device store_session answer_areas with_table written join splice
       says_answered e' r w back z eo ec T =
           let G : Ended e' r w back S.session.exchange.listed Os Cs = rw (sym eo, sym ec, sym before_is) T in
-          rw (answers z) (record {
-            answer = ap Ok G.said;
-            areas = ap₂ (λ (x : Exchange) (o : List ℕ). B x prefixes o) G.exchange G.table;
-            answers = ap replies_lent G.rows;
-          })
+          answering_call (answer_inventory S (window_rows window) peer) (answers z) (ap Ok G.said)
+          (ap₂ (λ (x : Exchange) (o : List ℕ). B x prefixes o) G.exchange G.table) (ap replies_lent G.rows)
 
       pub says_listed : (e' : Exchange) (p : List ℕ) → (length v / 8 ≡ 0 → ⊥) → Lengthened e (Before ++ prefix_rows v) prefixes e' p
           → Says O (Ok (said.Done 0 0)) e' p area lent
@@ -180,11 +177,8 @@ module _ (d : Device) (peer : ContactId) (own carried tombs bad window v : List 
       says_listed e' p z L =
           let G : Lengthened e (S.session.exchange.listed ++ prefix_rows v) prefixes e' p =
           subst (λ (ls : List (List ℕ)). Lengthened e (ls ++ prefix_rows v) prefixes e' p) before_is L in
-          rw (lists z) (record {
-            answer = refl;
-            areas = ap₂ (λ (x : Exchange) (q : List ℕ). B x q area) G.exchange G.table;
-            answers = refl;
-          })
+          answering_call (list_more S.session.exchange (prefix_rows v)) (lists z) refl
+          (ap₂ (λ (x : Exchange) (q : List ℕ). B x q area) G.exchange G.table) refl
 
   -- the whole call
   abbrev C : Call
@@ -198,10 +192,12 @@ module _ (d : Device) (peer : ContactId) (own carried tombs bad window v : List 
     abbrev Ts : List (Bool × Refusal)
     Ts = receive_inventory_tests S (length lent) window peer v
 
+    tested : {r : Result Unit Refusal} → t ≡ r → step S C ≡ result_by (λ u. O) r
+    unfolding step tests perform
+    tested q = tested_call (λ u. O) Ts (Ok tt) refl ∙ ap (result_by (λ u. O)) (sym (T S reads) ∙ q)
+
     pub says_refused : {why : Refusal} → t ≡ Err why → Says (step S C) (Err why) e prefixes area lent
-    unfolding step step_of tests perform
-    says_refused {why} q = refused_call why (first_refused (λ (w : Refusal). only (refused w)) O Ts (sym q ∙ T S reads)) refl refl
+    says_refused {why} q = refused_call why (tested q) refl refl
 
     pub says_performed : {r : Result Said Refusal} {e' : Exchange} {p os back : List ℕ} → t ≡ Ok tt → Says O r e' p os back → Says (step S C) r e' p os back
-    unfolding step step_of tests perform
-    says_performed q W = rw (first_passed (λ (w : Refusal). only (refused w)) O Ts (sym q ∙ T S reads)) W
+    says_performed q W = rw (tested q) W

@@ -1,6 +1,6 @@
 -- The refusals of inventory received, in document 01's order.
 -- Assumes nothing.
-use Rattle.std.proofs.Common.{◌≡◌, ℕ, ◌*◌, ◌%◌, ◌≤◌, min, Bool, true, false, cond, not, ◌||◌, ltb, List, [], ◌∷◌, length, sym, refl, ap, ◌∙◌, arith, ltb-false, Option, Result, Ok, Err}
+use Rattle.std.proofs.Common.{◌≡◌, ℕ, ◌*◌, ◌%◌, ◌≤◌, min, Bool, true, false, not, ◌||◌, ltb, List, [], ◌∷◌, length, sym, refl, ap, ◌∙◌, arith, ltb-false, Option, Result, Ok, Err}
 use Rattle.courier_core.specs.Core.{first_of}
 use Rattle.courier_core.specs.declared.ContactId.{ContactId}
 use Rattle.courier_core.specs.declared.Refusal.{Refusal}
@@ -9,8 +9,9 @@ use Rattle.table.specs.Rows.{ragged, Fits}
 use Rattle.table.specs.Codec.{table_of}
 use Rattle.table.proofs.RowLaws.{held_all}
 use Rattle.rows.specs.declared.Device.{Device}
-use Rattle.rows.specs.Rows.{contact_codec}
-use Rattle.model.specs.State.{State}
+use Rattle.rows.specs.Rows.{contact_codec, prefix_width}
+use Rattle.rows.specs.Limits.{max_inventory, prefix_area, offer_area, reply_area}
+use Rattle.model.specs.State.{State, no_state, nobody}
 use Rattle.model.specs.Contacts.{known, is_for}
 use Rattle.model.specs.Window.{window_rows, wrong_window, strangers}
 use Rattle.model.specs.Exchange.{receive_inventory_tests}
@@ -21,8 +22,8 @@ use Rattle.inventory.specs.Inventory.{Reads}
 pub or_no : {x y z : Bool} → x ≡ false → z ≡ y → z ≡ (x || y)
 or_no e f = rw e f
 
--- 512 at most, which fit an area that has room for them
-pub capped : (len count : ℕ) {k : ℕ} → 4096 ≤ len → k ≡ min count 512 → Fits len 8 (min 512 count) k × (k ≤ 512)
+-- max_inventory at most, which fit an area that has room for them
+pub capped : (len count : ℕ) {k : ℕ} → prefix_area ≤ len → k ≡ min count max_inventory → Fits len prefix_width (min max_inventory count) k × (k ≤ max_inventory)
 capped len count {k} room e =
     let m : k ≡ min 512 count = omega arith in
     let h : min 512 count * 8 ≤ len = omega arith in
@@ -34,14 +35,14 @@ first_refusal ts = first_of ts Err (Ok tt)
 
 -- ---- the room that a call asks for
 
-pub not_many : (x : Bool) (n : ℕ) → (x || ltb 512 n) ≡ false → n ≤ 512
+pub not_many : (x : Bool) (n : ℕ) → (x || ltb max_inventory n) ≡ false → n ≤ max_inventory
 not_many x n e = ltb-false 512 n (or_false x (ltb 512 n) e).1
 
 pub record Room (r p o : ℕ) (listed : List ℕ) : Type 0 where
-  pub replies : 61440 ≤ r
-  pub prefixes : 4096 ≤ p
-  pub offers : 8704 ≤ o
-  pub whole : length listed % 8 ≡ 0
+  pub replies : reply_area ≤ r
+  pub prefixes : prefix_area ≤ p
+  pub offers : offer_area ≤ o
+  pub whole : length listed % prefix_width ≡ 0
 
 -- ---- the four tests
 
@@ -51,7 +52,7 @@ told short wrong stranger other =
 
 module _ (d : Device) (contacts : List ℕ) (to : Option ContactId) (prefixes offers replies : ℕ) (window : List ℕ) (peer : ContactId) (listed : List ℕ) (s : State) (R : Reads s d contacts to prefixes offers) where
   abbrev Short : Bool
-  Short = ltb replies 61440 || (ltb prefixes 4096 || ltb offers 8704)
+  Short = ltb replies reply_area || (ltb prefixes prefix_area || ltb offers offer_area)
 
   abbrev Wrong : Bool
   Wrong = wrong_window window || ragged 8 listed
@@ -93,20 +94,9 @@ module _ (d : Device) (contacts : List ℕ) (to : Option ContactId) (prefixes of
 
   -- a state of which nothing else is known
   abbrev some_state : State
-  some_state = record {
-    now_s = 0;
-    courier = d.courier;
+  some_state = record (no_state d.courier) {
     contacts = table_of contact_codec d.contacts contacts;
-    own = [];
-    carried = [];
-    tombstones = [];
-    bad_tags = [];
-    next_slot = 0;
-    own_cells = [];
-    carried_cells = [];
-    tombstone_rows = 0;
-    bad_tag_rows = 0;
-    session = record { exchange = record { peer = to; complete = false; listed = []; offered = [] }; prefix_area = prefixes; offer_area = offers };
+    session = record { exchange = record nobody { peer = to }; prefix_area = prefixes; offer_area = offers };
   }
 
   pub has_room : {r : Result Unit Refusal} → Tests r → r ≡ (Ok tt) → Room replies prefixes offers listed
@@ -129,24 +119,3 @@ module _ (d : Device) (contacts : List ℕ) (to : Option ContactId) (prefixes of
       go true b c o e = let z : ◌≡◌ {A = ℕ} 0 1 = cc in absurd (omega arith)
       go false true c o e = let z : ◌≡◌ {A = ℕ} 0 1 = cc in absurd (omega arith)
       go false false c o e = (refl, refl)
-
--- ---- what the tests say of any list of them
-
-module _ {A : Type 0} (f : Refusal → A) (p : A) where
-  abbrev by_test : Result Unit Refusal → A
-  by_test (Err why) = f why
-  by_test (Ok passed) = p
-
-  first_by : (ts : List (Bool × Refusal)) → first_of ts f p ≡ by_test (first_refusal ts)
-  first_by [] = refl
-  first_by (t ∷ ts) = go t.0 (first_by ts)
-    where
-      go : (b : Bool) → first_of ts f p ≡ by_test (first_refusal ts) → cond b (f t.1) (first_of ts f p) ≡ by_test (cond b (Err t.1) (first_refusal ts))
-      go true rest = refl
-      go false rest = rest
-
-  pub first_refused : (ts : List (Bool × Refusal)) {why : Refusal} → Err why ≡ first_refusal ts → first_of ts f p ≡ f why
-  first_refused ts e = first_by ts ∙ ap by_test (sym e)
-
-  pub first_passed : (ts : List (Bool × Refusal)) → Ok tt ≡ first_refusal ts → first_of ts f p ≡ p
-  first_passed ts e = first_by ts ∙ ap by_test (sym e)

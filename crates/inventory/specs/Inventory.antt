@@ -1,9 +1,8 @@
 -- What the calls of the inventory say, by the model's definitions.
 -- Assumes nothing.
-use Rattle.std.specs.Prelude.{◌≡◌, ℕ, ◌+◌, ◌==◌, true, cond, List, [], ◌∷◌, ◌++◌, map, length, Option, Some, None, Result, Ok, Err}
+use Rattle.std.specs.Prelude.{◌≡◌, ℕ, ◌+◌, ◌==◌, true, cond, List, [], ◌∷◌, ◌++◌, map, length, Option, Some, None}
 use mathlib.Core.List.{flat_map}
 use Rattle.courier_core.specs.declared.ContactId.{ContactId}
-use Rattle.courier_core.specs.declared.Refusal.{Refusal}
 use Rattle.table.specs.Lists.{filter}
 use Rattle.table.specs.Codec.{table_of, with_table}
 use Rattle.rows.specs.declared.Own.{Own}
@@ -18,11 +17,11 @@ use Rattle.rows.specs.Rows.{contact_codec, tombstone_codec, bad_tag_codec, offer
 use Rattle.model.specs.Basics.{trunc8}
 use Rattle.model.specs.State.{State}
 use Rattle.model.specs.Window.{window_rows, prefix_codec}
-use Rattle.model.specs.Calls.{Answer, Result as Outcome, refused, malformed, done, ours, found, missing, own_row, no_envelope, wrote, fetch_reply}
+use Rattle.model.specs.Calls.{Result as Outcome, is_malformed, detail, wrote_of, fetch_reply}
 use Rattle.model.specs.Areas.{Areas}
 use Rattle.model.specs.Exchange.{Envelope, envelopes, reply_for, in_question, is_offered, halved, offers, insert_offers, fetch_for, tomb_for, searched_count}
 use Rattle.model.specs.Lent.{device_in, contacts_in, own_in, carried_in, tombstones_in, bad_tags_in, exchange_in}
-use Rattle.contacts.specs.Lends.{exchange_of}
+use Rattle.holdings.specs.Lends.{exchange_of}
 use Rattle.offers.specs.declared.Row.{Row}
 use Rattle.table.specs.Tables.{rows_in}
 use Rattle.offers.specs.Entries.{Entry, row_of}
@@ -40,20 +39,9 @@ prefix_for None = []
 abbrev pub prefix_of : Entry → List (List ℕ)
 prefix_of e = prefix_for (row_of e)
 
--- a refusal, or how many prefixes are written
-abbrev pub listed_of : Answer → Result ℕ Refusal
-listed_of (refused why) = Err why
-listed_of malformed = Ok 0
-listed_of done = Ok 0
-listed_of (ours contact generation idx) = Ok 0
-listed_of (found cells position len) = Ok 0
-listed_of missing = Ok 0
-listed_of (own_row row) = Ok 0
-listed_of no_envelope = Ok 0
-listed_of (wrote count) = Ok count
-
-abbrev pub inventory_says : Outcome → Result ℕ Refusal
-inventory_says o = listed_of o.answer
+-- how many prefixes are written, where it is not refused
+abbrev pub inventory_says : Outcome → ℕ
+inventory_says o = wrote_of (detail o.answer)
 
 -- what the call is lent, set into areas that are anything otherwise
 abbrev pub held_in : Device → (contacts own carried : List ℕ) → Areas → Areas
@@ -87,10 +75,10 @@ replies_for bad window peer ts ls es = flat_map (fetch_for bad ts window peer) l
 -- ---- inventory received: the exchange after it
 
 abbrev pub completed_with : Exchange → ℕ → Exchange
-completed_with e offers = record { peer = e.peer; complete = true; listed = 0; offered = offers }
+completed_with e offers = record e { complete = true; listed = 0; offered = offers }
 
 abbrev pub lengthened_to : Exchange → ℕ → Exchange
-lengthened_to e listed = record { peer = e.peer; complete = e.complete; listed = listed; offered = e.offered }
+lengthened_to e listed = record e { listed = listed }
 
 -- the terminator is answered: with the replies rs and the offers of es, the tombstones searched for so many rows
 pub record Terminated (e : Exchange) (rs : List Reply) (es : List Envelope) (searched : ℕ) (replies offers : List ℕ) (e' : Exchange) (r : Said) (replies' offers' : List ℕ) : Type 0 where
@@ -112,19 +100,9 @@ pub record Lengthened (e : Exchange) (ls : List (List ℕ)) (prefixes : List ℕ
 
 -- ---- the call
 
-abbrev pub said_of : Outcome → Answer → Result Said Refusal
-said_of o (refused why) = Err why
-said_of o malformed = Ok said.Malformed
-said_of o done = Ok (said.Done (length o.replies) (searched_count o))
-said_of o (ours contact generation idx) = Ok said.Malformed
-said_of o (found cells position len) = Ok said.Malformed
-said_of o missing = Ok said.Malformed
-said_of o (own_row row) = Ok said.Malformed
-said_of o no_envelope = Ok said.Malformed
-said_of o (wrote count) = Ok said.Malformed
-
-abbrev pub received_says : Outcome → Result Said Refusal
-received_says o = said_of o o.answer
+-- where it is not refused: malformed, or how many replies are listed, and for how many rows the tombstones were searched
+abbrev pub received_says : Outcome → Said
+received_says o = cond (is_malformed o.answer) said.Malformed (said.Done (length o.replies) (searched_count o))
 
 -- what the call is lent, set into areas that are anything otherwise
 abbrev pub received_in : Device → (contacts own carried tombstones bad_tags : List ℕ) → Exchange → (prefixes offers : List ℕ) → Areas → Areas

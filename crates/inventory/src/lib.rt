@@ -8,22 +8,24 @@ ghost use Rattle.table.specs.Rows.{ragged};
 ghost use Rattle.table.specs.Codec.{table_of};
 ghost use Rattle.table.specs.Tables.{rows_in};
 ghost use Rattle.rows.specs.Rows.{reply_width, own_codec, carried_codec, tombstone_codec, reply_bytes};
+ghost use Rattle.rows.specs.Limits.{max_inventory, max_own, max_carried, prefix_area, offer_area, reply_area};
 ghost use Rattle.model.specs.State.{State};
 ghost use Rattle.model.specs.Calls.{short_replies, inventory_of_ours, inventory_received};
 ghost use Rattle.model.specs.Contacts.{known};
 ghost use Rattle.model.specs.Window.{prefix_rows, prefix_codec, wrong_window};
-ghost use Rattle.model.specs.Exchange.{max_inventory, tomb_for, receive_inventory_tests};
+ghost use Rattle.model.specs.Exchange.{tomb_for, receive_inventory_tests};
 ghost use Rattle.model.specs.Lent.{Does, replies_lent, bytes_lent};
-ghost use Rattle.contacts.specs.Lends.{Lends};
+ghost use Rattle.holdings.specs.Lends.{Lends};
 ghost use Rattle.offers.specs.Appended.{Appended};
 ghost use Rattle.offers.specs.Areas.{rows_of, how_many, own_of, carried_of};
 ghost use Rattle.offers.specs.Entries.{entries};
 ghost use Rattle.inventory.specs.Inventory.{prefix_for, prefix_of, inventory_says, held_in, fetch_of, fetches, Answers, Lengthened, received_says, received_in, inventory_leaves, Reads};
 
 use courier_core::{ContactId, Refusal};
+use holdings::window;
 use offers::{Held, Row, Rows};
 use rows::{
-    BAD_TAG_WIDTH, CARRIED_AREA, CONTACT_AREA, Device, Exchange, MAX_PREFIXES, MAX_ROWS, OWN_AREA,
+    BAD_TAG_WIDTH, CARRIED_AREA, CONTACT_AREA, Device, Exchange, MAX_INVENTORY, MAX_ROWS, OWN_AREA,
     PREFIX_AREA, PREFIX_WIDTH, REACHABLE_WIDTH, REPLY_WIDTH, Reachable, Row as _, TOMBSTONE_WIDTH,
     Tombstone,
 };
@@ -39,7 +41,7 @@ fn held_here<'a>(
 ) -> Held<'a>
     ensures own { own_of result ≡ table_of own_codec device.own own.now }
     ensures carried { carried_of result ≡ table_of carried_codec device.carried carried.now }
-    ensures few { how_many result ≤ 512 }
+    ensures few { how_many result ≤ max_own + max_carried }
 {
     Held {
         own: Rows::fit(Table {
@@ -103,7 +105,7 @@ pub fn inventory(
         area: contacts,
         count: device.contacts,
     };
-    if !contacts::known(contacts, peer) {
+    if !holdings::known(contacts, peer) {
         return Err(Refusal::UnknownContact);
     }
     let held = held_here(device, own, carried);
@@ -128,12 +130,12 @@ impl Lookup<'_, '_, '_> {
     fn tag_to_fetch(&self, prefix: [u8; 8]) -> Option<[u8; 16]>
         ensures { fetch_of result ≡ fetches self.now prefix }
     {
-        let i = custody::lookup_prefix(self.window, prefix)?;
+        let i = window::lookup_prefix(self.window, prefix)?;
         let tag = octets::get_array(self.window, i * REACHABLE_WIDTH + Reachable::TAG);
-        if custody::is_bad(self.bad_tags, self.peer, tag) {
+        if holdings::is_bad(self.bad_tags, self.peer, tag) {
             return None;
         }
-        if tombstones::tombstoned(self.tombstones, tag) {
+        if holdings::tombstoned(self.tombstones, tag) {
             return None;
         }
         Some(tag)
@@ -212,8 +214,8 @@ fn push_tombs(
 // ---- inventory received
 
 // What the call says: malformed, or how many replies there are and for how many rows the tombstones were searched.
-// (No Option: its None would not say malformed, which is an answer and no refusal. Crate tombs has a `Said` of one number: over what `Done` holds, the two would be
-// one type in a crate below both, and say less at each call.)
+// (No Option: its None would not say malformed, which is an answer and no refusal. Crate answers has a `Said` of one number: over what `Done` holds, the two would be
+// one type, and say less at each call.)
 #[derive(Clone, Copy)]
 pub enum Said {
     Malformed,
@@ -229,8 +231,8 @@ fn answer_inventory(
     offers: &mut [u8],
     replies: &mut [u8],
 ) -> Said
-    requires few { (how_many held.now ≤ 512) × (listed.n ≤ max_inventory) }
-    requires in_bounds { (8704 ≤ length offers.old) × (61440 ≤ length replies.old) }
+    requires few { (how_many held.now ≤ max_own + max_carried) × (listed.n ≤ max_inventory) }
+    requires in_bounds { (offer_area ≤ length offers.old) × (reply_area ≤ length replies.old) }
     ensures { Answers exchange.old lookup.now (own_of held.now) (carried_of held.now) (rows_of prefix_codec listed.entry) replies.old offers.old exchange.new result replies.new offers.new }
 {
     let f = push_fetches(replies, listed, lookup);
@@ -254,12 +256,12 @@ fn list_more(exchange: &mut Exchange, prefixes: &mut [u8], l: usize, listed: &[u
     exchange.listed = l + listed.len() / PREFIX_WIDTH;
 }
 
-// More than `MAX_PREFIXES` in all are malformed, and so is any inventory after the terminator.
+// More than `MAX_INVENTORY` in all are malformed, and so is any inventory after the terminator.
 fn too_many(complete: bool, l: usize, more: usize) -> bool
     requires { (l ≤ max_inventory) × (more < 2305843009213693952) }
     ensures { result ≡ (complete || nat_lt max_inventory (l + more)) }
 {
-    complete || MAX_PREFIXES < l + more
+    complete || MAX_INVENTORY < l + more
 }
 
 // ---- its refusals
@@ -273,15 +275,15 @@ struct Room {
 }
 
 fn too_short(room: Room) -> bool
-    ensures { result ≡ (short_replies room.replies || (nat_lt room.prefixes 4096 || nat_lt room.offers 8704)) }
+    ensures { result ≡ (short_replies room.replies || (nat_lt room.prefixes prefix_area || nat_lt room.offers offer_area)) }
 {
-    answers::short_replies(room.replies) || contacts::short_exchange(room.prefixes, room.offers)
+    answers::short_replies(room.replies) || holdings::short_exchange(room.prefixes, room.offers)
 }
 
 fn wrong_rows(window: &[u8], listed: &[u8]) -> bool
     ensures { result ≡ (wrong_window window.now || ragged 8 listed.now) }
 {
-    custody::wrong_window(window) || 0 < listed.len() % PREFIX_WIDTH
+    window::wrong_window(window) || 0 < listed.len() % PREFIX_WIDTH
 }
 
 // The first test that refuses the call.
@@ -307,7 +309,7 @@ fn tested(
         area: contacts,
         count: device.contacts,
     };
-    if custody::unknown(contacts, peer, window) {
+    if window::unknown(contacts, peer, window) {
         return Err(Refusal::UnknownContact);
     }
     if to != Some(peer) {
@@ -345,7 +347,7 @@ pub fn receive_inventory(
         replies: replies.len(),
     };
     tested(device, exchange.peer, peer, contacts, window, listed, room)?;
-    let l = exchange.listed.min(MAX_PREFIXES);
+    let l = exchange.listed.min(MAX_INVENTORY);
     let more = listed.len() / PREFIX_WIDTH;
     if too_many(exchange.complete, l, more) {
         return Ok(Said::Malformed);

@@ -1,36 +1,31 @@
 -- Laws of the load call: refused, and performed.
 -- Assumes nothing.
-use Rattle.std.proofs.Common.{◌≡◌, ℕ, ◌/◌, ◌≤◌, min, Bool, true, false, cond, List, [], ◌∷◌, length, sym, refl, ap, ◌∙◌, subst, arith, ltb-false, Result, Ok, Err}
+use Rattle.std.proofs.Common.{◌≡◌, ℕ, ◌/◌, ◌≤◌, min, Bool, List, length, sym, refl, ap, ◌∙◌, subst, arith, ltb-false, Result, Ok, Err}
 use Rattle.courier_core.specs.declared.Refusal.{Refusal}
 use Rattle.table.specs.Codec.{table_of}
 use Rattle.rows.specs.declared.Contact.{Contact}
 use Rattle.rows.specs.declared.Device.{Device}
 use Rattle.rows.specs.Rows.{contact_codec}
+use Rattle.rows.specs.Limits.{carried_area}
 use Rattle.model.specs.State.{State}
 use Rattle.model.specs.Calls.{Result as Outcome, refused, only, done, step_of}
 use Rattle.model.specs.Cells.{cell_count}
 use Rattle.model.specs.Areas.{Areas, Written, view, store, store_device, store_session}
 use Rattle.model.specs.Lent.{no_answers}
-use Rattle.model.proofs.CallLaws.{quiet_call, refused_call}
+use Rattle.model.proofs.CallLaws.{result_by, tested_call, quiet_call, refused_call}
 use Rattle.load_tests.specs.Tests.{next_in, carried_count, tombstone_count, load_tests, tested_as}
 use Rattle.load_tests.proofs.TestLaws.{fine_none, fine_long, fine_kinds}
 use Rattle.load.specs.declared.Counts.{Counts}
-use Rattle.load.specs.Load.{loaded, held_now, load_held_rows, load_step}
+use Rattle.load.specs.Load.{loaded, rows_now, load_held_rows, load_step}
 use Rattle.load.specs.Laying.{Laid, Fine, says, load_lent}
 
 -- a step by what its tests say
 abbrev pub after : Outcome → Result (Unit {0}) Refusal → Outcome
-after p (Err why) = only (refused why)
-after p (Ok u) = p
+after p r = result_by (λ u. p) r
 
 pub step_tested : (p : Outcome) (ts : List (Bool × Refusal)) → step_of ts p ≡ after p (tested_as ts)
-unfolding step_of tested_as
-step_tested p [] = refl
-step_tested p (t ∷ ts) = go t.0 (step_tested p ts)
-  where
-    go : (b : Bool) → step_of ts p ≡ after p (tested_as ts) → cond b (only (refused t.1)) (step_of ts p) ≡ after p (cond b (Err t.1) (tested_as ts))
-    go true e = refl
-    go false e = e
+unfolding tested_as
+step_tested p ts = tested_call (λ u. p) ts (Ok tt) refl
 
 -- what holds of a refusal, and of what is performed where no test holds, holds of a load
 pub load_cases : (s : State) (file : List ℕ) (P : Outcome → Type 0) → ((why : Refusal) → P (only (refused why)))
@@ -53,7 +48,7 @@ module _ (cs : List Contact) (file : List ℕ) where
   pub fine_ten : (c r : ℕ) → Ok tt ≡ tested_as (load_tests cs c r file) → 10 ≤ length file
   fine_ten c r e = fine_long cs file (fine_none cs file c r e).0
 
-  pub fine_areas : (carried tombs cells : List ℕ) → length carried ≡ 14592 → Ok tt ≡ tested_as (load_tests cs (length cells) (length tombs / 44) file)
+  pub fine_areas : (carried tombs cells : List ℕ) → length carried ≡ carried_area → Ok tt ≡ tested_as (load_tests cs (length cells) (length tombs / 44) file)
       → Fine file carried tombs cells
   unfolding cell_count
   fine_areas carried tombs cells s e =
@@ -91,5 +86,5 @@ module _ (d : Device) (contacts carried tombs cells file : List ℕ) where
         (load_lent (record d { carried = h.carried; tombstones = h.tombstones; next_slot = next }) contacts x y z a) no_answers no_answers
     unfolding load_held_rows view store store_device store_session
     load_performed e L en =
-        quiet_call done (held_now (loaded cells file) (next_in file)) (step_of_lem (Ok tt) e) refl
+        quiet_call done (rows_now (loaded cells file) (next_in file)) (step_of_lem (Ok tt) e) refl
         (λ j. load_lent (record d { carried = L.carried.count j; tombstones = L.tombstones.count j; next_slot = en j }) contacts (L.carried.area j) (L.tombstones.area j) (L.cells j) a)

@@ -1,7 +1,7 @@
 -- Conditions of number 8 that do not hold of a saved file: length, place of `HN`, mark, blob and kind, slot past the next or twice, carried
 -- tag twice, unknown depositor, over 32 of one.
 -- Assumes nothing.
-use Rattle.std.proofs.Common.{◌≡◌, ℕ, suc, ◌+◌, ◌<◌, ◌≤◌, Bool, true, false, cond, not, ◌&&◌, eqb, leb, List, [], ◌∷◌, ◌++◌, map, length, take, drop, sym, refl, ap, ◌∙◌, subst, ap₂, append-nil, arith, length-append, drop-drop, le-ltb, eq-eqb, Some}
+use Rattle.std.proofs.Common.{◌≡◌, ℕ, ◌+◌, ◌<◌, ◌≤◌, Bool, true, false, not, ◌&&◌, eqb, leb, List, [], ◌∷◌, ◌++◌, map, length, take, drop, sym, refl, ap, ◌∙◌, subst, ap₂, append-nil, arith, length-append, drop-drop, le-ltb, eq-eqb, Some}
 use Rattle.std.proofs.lemmas.Bool.{cond_both, false_from_ne_true}
 use mathlib.Core.Bool.{false≢true}
 use borrow.Author.Tests.{lt-leb}
@@ -240,12 +240,6 @@ pub count_all : {A : Type 0} (p : A → Bool) (xs : List A) → All (λ (x : A).
 unfolding count_by
 count_all p [] a = refl
 count_all p (x ∷ xs) (lists.more e a) = rw (e, count_all p xs a)
-
--- so many records of a kind as rows
-pub counts_saved : (p : List ℕ → Bool) (q : Slotted → Bool) (hs : List Slotted) → All (λ (h : Slotted). p (saved_record h) ≡ q h) hs → count_by p (map saved_record hs) ≡ count_by q hs
-unfolding count_by
-counts_saved p q [] a = refl
-counts_saved p q (h ∷ hs) (lists.more e a) = ap₂ (λ (t : Bool) (n : ℕ). cond t (suc n) n) e (counts_saved p q hs a)
 
 -- a carried row of the depositor
 abbrev pub of_depositor : ℕ → Slotted → Bool

@@ -1,11 +1,11 @@
 -- The file of a state that is `Savable` is never refused by a post that takes its rows, and gives it the same held rows and next slot.
 -- Assumes nothing.
-use Rattle.std.proofs.Common.{◌≡◌, ℕ, ◌<◌, ◌≤◌, Bool, true, false, ◌||◌, List, map, length, sym, refl, ap, ◌∙◌, subst, ap₂, arith, le-ltb, Ok}
+use Rattle.std.proofs.Common.{◌≡◌, ℕ, ◌+◌, ◌<◌, ◌≤◌, Bool, true, false, ◌||◌, List, map, length, sym, refl, ap, ◌∙◌, subst, ap₂, arith, le-ltb, Ok}
 use mathlib.Core.Bool.{false≢true}
 use lib.ListN.{length-map}
 use Rattle.courier_core.specs.declared.Refusal.{Refusal}
 use Rattle.table.specs.Lists.{All, any, count_by}
-use Rattle.table.proofs.ListLaws.{all_each, all_imp, all_map, count_map}
+use Rattle.table.proofs.ListLaws.{all_imp, all_map, count_map}
 use Rattle.rows.specs.declared.Contact.{Contact}
 use Rattle.rows.specs.declared.Carried.{Carried}
 use Rattle.model.specs.Basics.{same_contact}
@@ -25,7 +25,7 @@ use Rattle.load.specs.Reload.{Savable, Takes, Reloaded}
 use Rattle.load.specs.Load.{load_held_rows, load_step}
 use Rattle.load.proofs.CallLaws.{after, step_tested}
 use Rattle.load.proofs.SavedLaws.{Back, Short, of_carried, of_tombstone, carried_rows, tombstone_rows, each_carried, each_tombstone, rows_of, file_of, same_file, same_records, all_rows_lem, next_saved, sorted_map, saved_loaded}
-use Rattle.load.proofs.FineLaws.{depositor_of, TagsApart, of_depositor, sorted_merge, count_merge, count_none, count_all, counts_saved, marked_saved, marked_tomb, kind_saved, past_saved, once_saved, known_saved, tag_once_saved, few_of_one_saved, Begins, begins_saved}
+use Rattle.load.proofs.FineLaws.{depositor_of, TagsApart, of_depositor, sorted_merge, count_merge, count_none, count_all, marked_saved, marked_tomb, kind_saved, past_saved, once_saved, known_saved, tag_once_saved, few_of_one_saved, Begins, begins_saved}
 
 module _ (s : State) (W : Savable s) where
   abbrev xs : List Slotted
@@ -54,13 +54,16 @@ module _ (s : State) (W : Savable s) where
 
   -- ---- as many records of a kind as rows
 
+  -- one kind is among the rows of both tables
+  kind_counted : (is : List ℕ → Bool) (of : Slotted → Bool) → ((h : Slotted) → is (saved_record h) ≡ of h) → count_by is (records file) ≡ count_by of xs + count_by of ys
+  kind_counted is of e = ap (count_by is) its_records ∙ sym (count_map saved_record of is (λ h. sym (e h)) hs) ∙ count_merge of (λ (h : Slotted). h.slot) xs ys
+
   carried_counted : carried_count file ≡ length s.carried
   unfolding carried_held tombstone_held
   carried_counted =
-      ap (count_by is_carried) its_records ∙ counts_saved is_carried of_carried hs (all_each marked_saved hs)
+      kind_counted is_carried of_carried marked_saved
       ∙ omega (
         arith,
-        count_merge of_carried (λ (h : Slotted). h.slot) xs ys,
         count_all of_carried xs (each_carried s (λ r. refl)),
         length-map s.carried (carried_held s.carried_cells),
         count_none of_carried ys (each_tombstone s (λ t. refl)),
@@ -69,10 +72,9 @@ module _ (s : State) (W : Savable s) where
   tombstones_counted : tombstone_count file ≡ length s.tombstones
   unfolding carried_held tombstone_held
   tombstones_counted =
-      ap (count_by is_tombstone) its_records ∙ counts_saved is_tombstone of_tombstone hs (all_each marked_tomb hs)
+      kind_counted is_tombstone of_tombstone marked_tomb
       ∙ omega (
         arith,
-        count_merge of_tombstone (λ (h : Slotted). h.slot) xs ys,
         count_none of_tombstone xs (each_carried s (λ r. refl)),
         length-map s.tombstones tombstone_held,
         count_all of_tombstone ys (each_tombstone s (λ t. refl)),

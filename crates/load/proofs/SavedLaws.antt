@@ -10,7 +10,7 @@ use Rattle.octets.proofs.Numbers.{length_be, num_be}
 use Rattle.table.specs.Lists.{All, filter, insert_at, position_from, position, unwrap_or}
 use Rattle.table.specs.Lists as lists
 use Rattle.table.specs.Rows.{join}
-use Rattle.table.proofs.ListLaws.{all_append, all_each, all_imp, all_push, all_map}
+use Rattle.table.proofs.ListLaws.{all_append, all_each, all_imp, all_push, all_map, filter_all}
 use Rattle.history.specs.Order.{Sorted, empty, next, InCell}
 use Rattle.history.proofs.SortedLaws.{all_both, all_unmap}
 use Rattle.history.proofs.CellLaws.{in_area, inside, length_after, ciphertext_new, ciphertext_kept}
@@ -281,11 +281,6 @@ loads_kept size (h ∷ hs) (lists.more f fs) = go h.slot h.held f (loads_kept si
 
 -- the rows of one kind among merged ones
 module _ (p : Slotted → Bool) (key : Slotted → ℕ) where
-  filter_all : (xs : List Slotted) → All (λ (x : Slotted). p x ≡ true) xs → filter p xs ≡ xs
-  unfolding filter
-  filter_all [] a = refl
-  filter_all (x ∷ xs) (lists.more e a) = rw (e, filter_all xs a)
-
   filter_none : (xs : List Slotted) → All (λ (x : Slotted). p x ≡ false) xs → filter p xs ≡ []
   unfolding filter
   filter_none [] a = refl
@@ -294,14 +289,14 @@ module _ (p : Slotted → Bool) (key : Slotted → ℕ) where
   merged_first : (xs ys : List Slotted) → All (λ (x : Slotted). p x ≡ true) xs → All (λ (x : Slotted). p x ≡ false) ys → filter p (merge key xs ys) ≡ xs
   unfolding merge filter
   merged_first [] ys a b = filter_none ys b
-  merged_first (x ∷ xs) [] a b = filter_all (x ∷ xs) a
+  merged_first (x ∷ xs) [] a b = filter_all p (x ∷ xs) a
   merged_first (x ∷ xs) (y ∷ ys) (lists.more e a) (lists.more f b) =
       cond_both (leb (key x) (key y)) _ _ (λ (l : List Slotted). filter p l ≡ x ∷ xs) (λ t. rw (e, merged_first xs (y ∷ ys) a (lists.more f b)))
       (λ t. rw f (merged_first (x ∷ xs) ys (lists.more e a) b))
 
   merged_second : (xs ys : List Slotted) → All (λ (x : Slotted). p x ≡ false) xs → All (λ (x : Slotted). p x ≡ true) ys → filter p (merge key xs ys) ≡ ys
   unfolding merge filter
-  merged_second [] ys a b = filter_all ys b
+  merged_second [] ys a b = filter_all p ys b
   merged_second (x ∷ xs) [] a b = filter_none (x ∷ xs) a
   merged_second (x ∷ xs) (y ∷ ys) (lists.more e a) (lists.more f b) =
       cond_both (leb (key x) (key y)) _ _ (λ (l : List Slotted). filter p l ≡ y ∷ ys) (λ t. rw e (merged_second xs (y ∷ ys) a (lists.more f b)))

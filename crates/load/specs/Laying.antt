@@ -1,24 +1,29 @@
 -- What the functions of a load say of the areas, and what the call says.
 -- Assumes nothing.
-use Rattle.std.specs.Prelude.{◌≡◌, ℕ, ◌+◌, ◌-◌, ◌*◌, ◌<◌, ◌≤◌, Bool, true, false, List, [], ◌∷◌, length, drop, nat_lt, Result, Ok, Err}
+use Rattle.std.specs.Prelude.{◌≡◌, ℕ, ◌+◌, ◌-◌, ◌*◌, ◌<◌, ◌≤◌, Bool, true, false, List, [], ◌∷◌, length, drop, nat_lt, Result}
 use Rattle.octets.specs.Bytes.{Bytes, part, splice, num}
 use Rattle.courier_core.specs.declared.Refusal.{Refusal}
 use Rattle.table.specs.Lists.{any, count_by}
 use Rattle.table.specs.Codec.{Codec, table_of, TableNow}
 use Rattle.rows.specs.declared.Device.{Device}
 use Rattle.state.specs.declared.Carried.{Carried as HeldCarried}
+use Rattle.state.specs.Sizes.{cell_size, record_head, carried_head_size}
 use Rattle.rows.specs.declared.Carried.{Carried}
 use Rattle.rows.specs.declared.Tombstone.{Tombstone}
 use Rattle.rows.specs.Proper.{ProperCarried}
-use Rattle.rows.specs.Rows.{carried_codec, tombstone_codec}
+use Rattle.rows.specs.Rows.{carried_codec, tombstone_codec, carried_width, tombstone_width}
 use Rattle.model.specs.Calls.{Result as Outcome}
 use Rattle.model.specs.Areas.{Areas, Written, view}
-use Rattle.model.specs.Lent.{no_answers, refused_or, device_in, contacts_in, carried_in, tombstones_in, carried_cells_in}
+use Rattle.model.specs.Lent.{no_answers, device_in, contacts_in, carried_in, tombstones_in, carried_cells_in}
 use Rattle.history.specs.Order.{Sorted}
 use Rattle.load_tests.specs.Records.{records, is_carried, is_tombstone}
 use Rattle.load_tests.specs.Tests.{kind_tests, fails}
 use Rattle.load.specs.declared.Counts.{Counts}
 use Rattle.load.specs.Load.{insert_by, carried_slot, carried_row, Rows, load_record, load_records, loaded, load_step}
+
+-- where the record of a carried row has its ciphertext
+abbrev pub ciphertext_at : ℕ
+ciphertext_at = record_head + carried_head_size
 
 -- every row starts with its slot
 unfoldable pub higher : ℕ → List ℕ → Bool
@@ -50,10 +55,10 @@ pub record BySlot (l : Rows) : Type 0 where
 pub record Room (b : List ℕ) (h : Counts) (x y z : List ℕ) : Type 0 where
   pub kind : fails kind_tests b ≡ false
   pub few : h.carried < 65536
-  pub carried : is_carried b ≡ true → (h.carried * 57 + 57 ≤ length x) × (h.carried * 2064 + 2064 ≤ length z)
-  pub tombstone : is_tombstone b ≡ true → h.tombstones * 44 + 44 ≤ length y
-  pub carried_rise : SlotsAscend 57 h.carried x
-  pub tombstones_rise : SlotsAscend 44 h.tombstones y
+  pub carried : is_carried b ≡ true → (h.carried * carried_width + carried_width ≤ length x) × (h.carried * cell_size + cell_size ≤ length z)
+  pub tombstone : is_tombstone b ≡ true → h.tombstones * tombstone_width + tombstone_width ≤ length y
+  pub carried_rise : SlotsAscend carried_width h.carried x
+  pub tombstones_rise : SlotsAscend tombstone_width h.tombstones y
 
 -- a record more
 pub record Loads (b : List ℕ) (h : Counts) (x y z : List ℕ) (h' : Counts) (x' y' z' : List ℕ) : Type 0 where
@@ -66,16 +71,16 @@ pub record Loads (b : List ℕ) (h : Counts) (x y z : List ℕ) (h' : Counts) (x
 
 -- the row of a carried record, and its ciphertext in its cell
 pub record Carries (b : List ℕ) (row : HeldCarried) (p : ℕ) (x z : List ℕ) (p' : ℕ) (x' z' : List ℕ) : Type 0 where
-  pub table : Inserted carried_codec ProperCarried carried_slot (carried_row (num (part b 2 8)) (length b - 58) p row) p x p' x'
-  pub cells : z' ≡ splice z (p * 2064) (drop 58 b)
+  pub table : Inserted carried_codec ProperCarried carried_slot (carried_row (num (part b 2 8)) (length b - ciphertext_at) p row) p x p' x'
+  pub cells : z' ≡ splice z (p * cell_size) (drop ciphertext_at b)
 
 -- the areas have room for all rows of a file that is fine
 pub record Fine (file x y z : List ℕ) : Type 0 where
   pub kinds : any (fails kind_tests) (records file) ≡ false
   pub few : count_by is_carried (records file) < 65536
-  pub carried : count_by is_carried (records file) * 57 ≤ length x
-  pub cells : count_by is_carried (records file) * 2064 ≤ length z
-  pub tombstones : count_by is_tombstone (records file) * 44 ≤ length y
+  pub carried : count_by is_carried (records file) * carried_width ≤ length x
+  pub cells : count_by is_carried (records file) * cell_size ≤ length z
+  pub tombstones : count_by is_tombstone (records file) * tombstone_width ≤ length y
 
 -- the records before those that are left are loaded
 pub record Loading (file a t c : List ℕ) (rest : List (List ℕ)) (h : Counts) (x y z : List ℕ) : Type 0 where
@@ -92,9 +97,9 @@ pub record Loading (file a t c : List ℕ) (rest : List (List ℕ)) (h : Counts)
 
 -- ---- the call
 
--- a refusal, or no more
-abbrev pub says : Outcome → Result (Unit {0}) Refusal
-says o = refused_or Err (Ok tt) o.answer
+-- nothing more, where it is not refused
+abbrev pub says : Outcome → Unit {0}
+says o = tt
 
 abbrev pub load_lent : Device → (contacts carried tombstones cells : List ℕ) → Areas → Areas
 load_lent d contacts carried tombstones cells a = device_in d (contacts_in contacts (carried_in carried (tombstones_in tombstones (carried_cells_in cells a))))

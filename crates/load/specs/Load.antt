@@ -8,12 +8,12 @@ use Rattle.state.specs.declared.Carried.{Carried as HeldCarried}
 use Rattle.state.specs.declared.Tombstone.{Tombstone as HeldTombstone}
 use Rattle.state.specs.Held.{Held, held_decode}
 use Rattle.state.specs.Held as held
+use Rattle.state.specs.Sizes.{cell_size}
 use Rattle.rows.specs.declared.Carried.{Carried}
 use Rattle.rows.specs.declared.Tombstone.{Tombstone}
 use Rattle.model.specs.Basics.{match_some}
-use Rattle.model.specs.State.{State, Change, carried_now, tombstones_now, next_slot_now, carried_cells_now, ◌and◌}
+use Rattle.model.specs.State.{State, Change, now, nothing}
 use Rattle.model.specs.Calls.{Result, result, done, step_of}
-use Rattle.model.specs.Cells.{cell_size}
 use Rattle.load_tests.specs.Records.{records, slot_in, blob_in}
 use Rattle.load_tests.specs.Tests.{next_in, load_tests}
 
@@ -78,11 +78,14 @@ unfoldable pub loaded : List ℕ → List ℕ → Rows
 loaded cells file = load_records (no_rows cells) (records file)
 
 -- "A load replaces held rows and next slot, nothing else."
-abbrev pub held_now : Rows → ℕ → Change
-held_now l next = carried_now l.carried and tombstones_now l.tombstones and next_slot_now next and carried_cells_now l.cells
+abbrev pub rows_now : Rows → ℕ → Change
+rows_now l next = record nothing {
+  held = record { carried = now l.carried; tombstones = now l.tombstones; carried_cells = now l.cells };
+  next_slot = now next;
+}
 
 unfoldable pub load_held_rows : State → List ℕ → Result
-load_held_rows s file = result done [] [] (held_now (loaded s.carried_cells file) (next_in file))
+load_held_rows s file = result done [] [] (rows_now (loaded s.carried_cells file) (next_in file))
 
 -- the load call: number 8, then 4 and 5; "Nothing changes on a refusal."
 unfoldable pub load_step : State → List ℕ → Result

@@ -6,10 +6,10 @@ ghost use Rattle.std.specs.Prelude.{◌≡◌, ◌+◌, ◌*◌, ◌<◌, ◌≤
 ghost use Rattle.octets.specs.Bytes.{part, num};
 ghost use Rattle.table.specs.Lists.{position, unwrap_or, insert_at};
 ghost use Rattle.table.specs.Rows.{rows, RowsNow};
+ghost use Rattle.state.specs.Sizes.{cell_size, carried_record};
 ghost use Rattle.rows.specs.Rows.{carried_width};
-ghost use Rattle.model.specs.Cells.{cell_size};
 ghost use Rattle.load.specs.Load.{carried_row, tombstone_row, loaded};
-ghost use Rattle.load.specs.Laying.{higher, SlotsAscend, Carries, Room, Loads, Fine, Laid, load_lent, DoesLoad};
+ghost use Rattle.load.specs.Laying.{higher, SlotsAscend, Carries, Room, Loads, Fine, Laid, load_lent, DoesLoad, ciphertext_at};
 
 use courier::Header;
 use courier_core::Refusal;
@@ -105,7 +105,7 @@ fn load_carried(
     carried: &mut [u8],
     cells: &mut [u8],
 ) -> usize
-    requires { ((58 ≤ length «record».now) × (length «record».now ≤ 2122)) × ((n < 65536) × (((n * carried_width + carried_width ≤ length carried.old) × (n * cell_size + cell_size ≤ length cells.old)) × SlotsAscend carried_width n carried.old)) }
+    requires { ((ciphertext_at ≤ length «record».now) × (length «record».now ≤ carried_record)) × ((n < 65536) × (((n * carried_width + carried_width ≤ length carried.old) × (n * cell_size + cell_size ≤ length cells.old)) × SlotsAscend carried_width n carried.old)) }
     ensures { Carries «record».now row n carried.old cells.old result carried.new cells.new }
 {
     let slot = octets::get_u64(record, state::SLOT);

@@ -8,12 +8,14 @@ use Rattle.courier_core.specs.declared.Refusal.TheVariants as refusal
 use Rattle.table.specs.Lists.{any, count_by}
 use Rattle.table.specs.Rows.{join, has_key}
 use Rattle.state.specs.Held.{held_decode}
+use Rattle.state.specs.Sizes.{file_head}
 use Rattle.rows.specs.declared.Contact.{Contact}
+use Rattle.rows.specs.Limits.{max_carried, max_per_verified}
 use Rattle.model.specs.Basics.{match_some}
 use Rattle.model.specs.Contacts.{known}
 use Rattle.model.specs.Cells.{cell_count}
 use Rattle.model.specs.Saved.{held_mark}
-use Rattle.load_tests.specs.Records.{records, slot_in, blob_in, depositor_in, tag_in, is_carried, is_tombstone, counted}
+use Rattle.load_tests.specs.Records.{records, slot_in, blob_in, depositor_in, tag_in, is_carried, is_tombstone, counted, depositor_at, tag_at}
 
 -- ---- of a record
 
@@ -39,15 +41,15 @@ slot_past next b = nat_le next (num (slot_in b))
 
 -- it is carried, and its tag is that of another carried one too
 unfoldable pub tag_twice : List (List ℕ) → List ℕ → Bool
-tag_twice rs b = is_carried b && nat_lt 1 (count_by (counted true 21 (tag_in b)) rs)
+tag_twice rs b = is_carried b && nat_lt 1 (count_by (counted true tag_at (tag_in b)) rs)
 
 -- it is carried, and its depositor is not known
 unfoldable pub unknown_depositor : List Contact → List ℕ → Bool
 unknown_depositor contacts b = is_carried b && not (known contacts (record { 0 = num (depositor_in b) }))
 
--- it is carried, and over 32 are of its depositor, whatever the verification
+-- it is carried, and more are of its depositor than a verified one may have, whatever the verification
 unfoldable pub many_of_one : List (List ℕ) → List ℕ → Bool
-many_of_one rs b = is_carried b && nat_lt 32 (count_by (counted true 13 (depositor_in b)) rs)
+many_of_one rs b = is_carried b && nat_lt max_per_verified (count_by (counted true depositor_at (depositor_in b)) rs)
 
 abbrev pub kind_tests : List (List ℕ → Bool)
 kind_tests =
@@ -76,13 +78,13 @@ fails ts b = any (λ (t : List ℕ → Bool). t b) ts
 unfoldable pub carried_fails : List Contact → List (List ℕ) → List ℕ → Bool
 carried_fails contacts rs b =
     not (known contacts (record { 0 = num (depositor_in b) }))
-    || (nat_lt 1 (count_by (counted true 21 (tag_in b)) rs) || nat_lt 32 (count_by (counted true 13 (depositor_in b)) rs))
+    || (nat_lt 1 (count_by (counted true tag_at (tag_in b)) rs) || nat_lt max_per_verified (count_by (counted true depositor_at (depositor_in b)) rs))
 
 -- ---- of a file
 
 -- `HN` and the next slot are not there whole
 unfoldable pub short_next : List ℕ → Bool
-short_next file = nat_lt (length file) 10
+short_next file = nat_lt (length file) file_head
 
 -- `HN` is not first
 unfoldable pub next_not_first : List ℕ → Bool
@@ -93,7 +95,7 @@ next_in file = num (part file 2 8)
 
 -- bytes are left that are no whole record
 unfoldable pub cut_short : List ℕ → Bool
-cut_short file = nat_lt (10 + length (join (records file))) (length file)
+cut_short file = nat_lt (file_head + length (join (records file))) (length file)
 
 abbrev pub carried_count : List ℕ → ℕ
 carried_count file = count_by is_carried (records file)
@@ -101,9 +103,9 @@ carried_count file = count_by is_carried (records file)
 abbrev pub tombstone_count : List ℕ → ℕ
 tombstone_count file = count_by is_tombstone (records file)
 
--- over 256 are carried
+-- more are carried than may be
 unfoldable pub many_carried : List ℕ → Bool
-many_carried file = nat_lt 256 (carried_count file)
+many_carried file = nat_lt max_carried (carried_count file)
 
 -- one of the tests holds of one of the records
 abbrev pub of_records : List ℕ → List (List ℕ → Bool) → List Bool

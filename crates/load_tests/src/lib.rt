@@ -7,7 +7,8 @@ ghost use Rattle.table.specs.Lists.{any, count_by};
 ghost use Rattle.table.specs.Rows.{rows, has_key};
 ghost use Rattle.table.specs.Tables.{rows_in};
 ghost use Rattle.rows.specs.Rows.{contact_codec};
-ghost use Rattle.load_tests.specs.Records.{left, records, counted, SlotsOnce, Gathered};
+ghost use Rattle.rows.specs.Limits.{max_carried};
+ghost use Rattle.load_tests.specs.Records.{left, records, counted, SlotsOnce, Gathered, tag_at, key_width};
 ghost use Rattle.load_tests.specs.Tests.{fails, kind_tests, row_tests, record_tests, carried_fails, cut_short, carried_count, holds, wrongs, load_tests, tested_as};
 
 use courier_core::{ContactId, Refusal};
@@ -120,7 +121,7 @@ fn slots_ascend(file: &[u8]) -> bool
 // Writes those of each carried record, one row behind the other. Answers how many there are. (A fixed area, and the count that `push` answers: what a
 // Vec would hold, with no heap.)
 fn gather(file: &[u8], keys: &mut [u8]) -> usize
-    requires { (any (fails kind_tests) (records file.now) ≡ false) × (carried_count file.now * 24 ≤ length keys.old) }
+    requires { (any (fails kind_tests) (records file.now) ≡ false) × (carried_count file.now * key_width ≤ length keys.old) }
     ensures { Gathered file.now keys.new result }
 {
     let mut k = 0;
@@ -134,8 +135,8 @@ fn gather(file: &[u8], keys: &mut [u8]) -> usize
 
 // How many rows of keys have the key at the offset?
 fn count_keys(keys: Table<KEY_WIDTH>, offset: usize, key: &[u8]) -> usize
-    requires { (keys.count * 24 ≤ length keys.area.now) × (offset + length key.now ≤ 24) }
-    ensures { result ≡ count_by (has_key offset key.now) (rows 24 keys.entry.count keys.entry.area.now) }
+    requires { (keys.count * key_width ≤ length keys.area.now) × (offset + length key.now ≤ key_width) }
+    ensures { result ≡ count_by (has_key offset key.now) (rows key_width keys.entry.count keys.entry.area.now) }
 {
     keys.count_where(|row| octets::same(row, offset, key))
 }
@@ -177,11 +178,11 @@ struct Against<'a, 'k> {
 impl Against<'_, '_> {
     // A carried record: is its depositor unknown, its tag there twice, or are too many of its depositor?
     fn wrong_carried(&self, record: &[u8]) -> bool
-        requires { 37 ≤ length «record».now }
+        requires { tag_at + 16 ≤ length «record».now }
         ensures { result ≡ carried_fails (rows_in contact_codec self.now.contacts) (records self.now.file.now) «record».now }
     {
         let id = octets::get_u64(record, DEPOSITOR);
-        if !contacts::known(self.contacts, ContactId(id)) {
+        if !holdings::known(self.contacts, ContactId(id)) {
             return true;
         }
         if 1 < count_keys(self.keys, KEY_TAG, &record[TAG..TAG_END]) {
@@ -230,7 +231,7 @@ impl Against<'_, '_> {
 
 // Is a record wrong? Its file has at most as many carried records as their keys have rows here.
 fn wrong_records<'a>(file: &'a [u8], next: u64, contacts: Table<'a, CONTACT_WIDTH>) -> bool
-    requires { carried_count file.now ≤ 256 }
+    requires { carried_count file.now ≤ max_carried }
     ensures { result ≡ any (fails (record_tests next (rows_in contact_codec contacts.entry) (records file.now))) (records file.now) }
 {
     if wrong_kinds(file) {

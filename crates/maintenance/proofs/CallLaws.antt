@@ -20,7 +20,8 @@ use Rattle.rows.specs.declared.Own.{Own}
 use Rattle.rows.specs.declared.Carried.{Carried}
 use Rattle.rows.specs.declared.Tombstone.{Tombstone}
 use Rattle.rows.specs.declared.Action.{Action}
-use Rattle.rows.specs.Rows.{own_codec, carried_codec, tombstone_codec}
+use Rattle.rows.specs.Rows.{own_codec, carried_codec, tombstone_codec, tombstone_width}
+use Rattle.rows.specs.Limits.{max_own, own_area, carried_area, action_area}
 use Rattle.model.specs.State.{own_now, carried_now, tombstones_now, ◌and◌}
 use Rattle.model.specs.Calls.{Call, Result as Outcome, result, done, maintenance, delete_courier}
 use Rattle.model.specs.Contacts.{now_min, lifetime_end}
@@ -39,9 +40,9 @@ pub listed_held : {T : Table 57} {U : Table 44} {h : Held} → Fitted T U h → 
     → Listed ac k (map delete_courier (expired_slots minute (rows_in carried_codec T) (rows_in tombstone_codec U))) m x
 listed_held F minute L = rw (carried_fitted F, tombstones_fitted F) at L
 
--- ---- room for the actions: 256 own rows, 256 carried rows, R tombstones
+-- ---- room for the actions: own rows, carried rows, R tombstones
 
-puts_few : (own : List ℕ) (count minute k : ℕ) {ac x : List ℕ} → length own ≡ 13824 → Listed ac 0 (own_puts minute (table_of own_codec count own)) k x → k ≤ 256
+puts_few : (own : List ℕ) (count minute k : ℕ) {ac x : List ℕ} → length own ≡ own_area → Listed ac 0 (own_puts minute (table_of own_codec count own)) k x → k ≤ max_own
 unfolding own_puts
 puts_few own count minute k l L =
     let T : List Own = table_of own_codec count own in
@@ -55,11 +56,11 @@ puts_few own count minute k l L =
       (held_le (length own) 54 count).1,
     )
 
-module _ (own ta : List ℕ) (co len : ℕ) (lo : length own ≡ 13824) (long : 13 * (512 + length ta / 44) ≤ len) where
+module _ (own ta : List ℕ) (co len : ℕ) (lo : length own ≡ own_area) (long : action_area (length ta / tombstone_width) ≤ len) where
   pub own_room : held (length own) 54 co * 13 ≤ len
   own_room = omega (arith, lo, (held_le (length own) 54 co).1)
 
-  module _ (ca : List ℕ) (cc ct minute : ℕ) {ac x : List ℕ} {k : ℕ} (lc : length ca ≡ 14592) (L : Listed ac 0 (own_puts minute (table_of own_codec co own)) k x) where
+  module _ (ca : List ℕ) (cc ct minute : ℕ) {ac x : List ℕ} {k : ℕ} (lc : length ca ≡ carried_area) (L : Listed ac 0 (own_puts minute (table_of own_codec co own)) k x) where
     pub held_room : (k + (held (length ca) 57 cc + held (length ta) 44 ct)) * 13 ≤ len
     held_room = omega (arith, lc, puts_few own co minute k lo L, (held_le (length ca) 57 cc).1, (held_le (length ta) 44 ct).1)
 
@@ -88,7 +89,7 @@ module _ (d : Device) (own carried tombstones ac : List ℕ) (a : Areas) where
   abbrev R : ℕ
   R = length tombstones / 44
 
-  pub says_short : length ac < 13 * (512 + R)
+  pub says_short : length ac < action_area R
       → Written maintained_of (step (view B) C) (Err refusal.ShortArea) B B (actions_lent ac) (actions_lent ac)
   unfolding step tests perform maintenance_tests view
   says_short h = refused_call refusal.ShortArea (refused_here _ _ _ (lt-ltb (length ac) (13 * (512 + R)) h)) refl refl
@@ -119,7 +120,7 @@ module _ (d : Device) (own carried tombstones ac : List ℕ) (a : Areas) where
     abbrev performed : Outcome
     performed = result done [] acts (own_now own' and carried_now carried' and tombstones_now tombstones')
 
-  module _ (long : 13 * (512 + R) ≤ length ac) {minute end : ℕ} (em : minute ≡ now_min d.now_s) (ee : end ≡ lifetime_end d.now_s d.courier) where
+  module _ (long : action_area R ≤ length ac) {minute end : ℕ} (em : minute ≡ now_min d.now_s) (ee : end ≡ lifetime_end d.now_s d.courier) where
     stepped : step (view B) C ≡ performed minute end
     unfolding step tests perform maintenance_tests maintain_couriers view
     stepped = not_here _ _ _ (le-ltb (length ac) (13 * (512 + R)) long) (no_test _) ∙ ap₂ performed (sym em) (sym ee)

@@ -4,8 +4,7 @@ use Rattle.std.proofs.Common.{◌≡◌, ℕ, ◌+◌, ◌*◌, ◌<◌, ◌≤�
 use Rattle.octets.specs.Bytes.{splice, part, num}
 use Rattle.table.specs.Codec.{Codec, table_of}
 use Rattle.table.specs.Tables.{rows_in}
-use Rattle.table.proofs.RowLaws.{held_all}
-use Rattle.table.proofs.TableLaws.{length_table, table_next}
+use Rattle.table.proofs.TableLaws.{length_table, length_whole, table_next}
 use Rattle.rows.specs.declared.Carried.{Carried}
 use Rattle.rows.specs.declared.Tombstone.{Tombstone}
 use Rattle.rows.specs.Rows.{carried_codec, carried_of, tombstone_codec, tombstone_of, action_bytes}
@@ -19,13 +18,10 @@ use Rattle.maintenance.specs.Expiry.{live_row, Listed, Moving, Merging, Moved}
 use Rattle.maintenance.proofs.TestLaws.{lives_yes, lives_no}
 use Rattle.maintenance.proofs.MergeLaws.{pass_carried, pass_tombstone, first_carried, first_tombstone, merging_pass, merging_list, merging_end}
 
--- a table whose count fits
-module _ {A : Type 0} (c : Codec A) (n : ℕ) (a : List ℕ) (wide : 0 < c.width) (fits : n * c.width ≤ length a) where
-  length_whole : length (table_of c n a) ≡ n
-  length_whole = length_table c n a ∙ held_all (length a) c.width n wide fits
-
-  row_next : (i : ℕ) → i < length (table_of c n a) → drop i (table_of c n a) ≡ c.decode (part a (i * c.width) c.width) ∷ drop (i + 1) (table_of c n a)
-  row_next i h = table_next c n a i (omega (arith, length_table c n a))
+-- the rows from i on
+row_next : {A : Type 0} (c : Codec A) (n : ℕ) (a : List ℕ) (i : ℕ) → i < length (table_of c n a)
+    → drop i (table_of c n a) ≡ c.decode (part a (i * c.width) c.width) ∷ drop (i + 1) (table_of c n a)
+row_next c n a i h = table_next c n a i (omega (arith, length_table c n a))
 
 module _ (minute : ℕ) (h : Held) (t : Progress) (len : ℕ) (M : Moving h t len) where
   abbrev n : ℕ
@@ -68,10 +64,10 @@ module _ (minute : ℕ) (h : Held) (t : Progress) (len : ℕ) (M : Moving h t le
   lt = length_whole tombstone_codec m ta (omega arith) h.tombstones_fit
 
   ec : p < length Cs → drop p Cs ≡ row ∷ drop (p + 1) Cs
-  ec = row_next carried_codec n ca (omega arith) h.carried_fit p
+  ec = row_next carried_codec n ca p
 
   et : q < length Ts → drop q Ts ≡ stone ∷ drop (q + 1) Ts
-  et = row_next tombstone_codec m ta (omega arith) h.tombstones_fit q
+  et = row_next tombstone_codec m ta q
 
   carried_is : {b : Bool} → leb (num (part (part ca (p * 57) 57) 48 4)) minute ≡ b → carried_expired minute row ≡ b
   unfolding carried_of

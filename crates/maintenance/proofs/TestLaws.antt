@@ -1,6 +1,6 @@
 -- Laws of the tests: a row that lives, one that stays, one that is renewed.
 -- Assumes nothing.
-use Rattle.std.proofs.Common.{◌≡◌, ℕ, ◌+◌, ◌-◌, ◌*◌, ◌^◌, ◌<◌, ◌≤◌, Bool, true, false, cond, not, ◌&&◌, ltb, leb, List, length, sym, refl, ap, ◌∙◌, arith, ltb-false, ltb-true, lt-ltb, le-ltb, le-leb}
+use Rattle.std.proofs.Common.{◌≡◌, ℕ, ◌+◌, ◌-◌, ◌*◌, ◌<◌, ◌≤◌, Bool, true, false, cond, not, ◌&&◌, ltb, leb, List, length, sym, refl, ap, ◌∙◌, arith, ltb-false, ltb-true, lt-ltb, le-ltb, le-leb}
 use borrow.Author.Tests.{lt-leb, not-false}
 use Rattle.octets.specs.Bytes.{part, num}
 use Rattle.table.proofs.RowLaws.{row_at}
@@ -13,8 +13,7 @@ use Rattle.rows.specs.declared.Carried.{Carried}
 use Rattle.rows.specs.declared.Tombstone.{Tombstone}
 use Rattle.rows.specs.Rows.{carried_of, carried_codec, tombstone_of, tombstone_codec}
 use Rattle.rows.proofs.Laws.{carried_laws, tombstone_laws}
-use Rattle.rows.specs.Proper.{ProperOwn}
-use Rattle.model.specs.Maintenance.{own_expired, carried_expired, tombstone_expired, renewed, renew_expired}
+use Rattle.model.specs.Maintenance.{carried_expired, tombstone_expired, renewed, renew_expired}
 use Rattle.maintenance.specs.Expiry.{live_row}
 
 after_is : (minute e : ℕ) → ltb minute e ≡ not (leb e minute)
@@ -59,24 +58,6 @@ module _ (minute : ℕ) (o : Own) where
   pub renewed_expired : (copies end : ℕ) → o.expiry_min ≤ minute → renewed copies end o ≡ renew_expired minute copies end o
   unfolding renew_expired
   renewed_expired copies end h = sym (ap (λ (b : Bool). cond b (renewed copies end o) o) (le-leb o.expiry_min minute h))
-
-  pub renewed_proper : {copies end : ℕ} → copies < 2 ^ 8 → end < 2 ^ 32 → ProperOwn o → ProperOwn (renew_expired minute copies end o)
-  unfolding renew_expired renewed
-  renewed_proper {copies} {end} hc he p = go (own_expired minute o)
-    where
-      go : (b : Bool) → ProperOwn (cond b (renewed copies end o) o)
-      go true = record {
-        contact = p.contact;
-        msgno = p.msgno;
-        tag = p.tag;
-        s = p.s;
-        expiry_min = he;
-        copies = hc;
-        renewed = omega arith;
-        len = p.len;
-        cell = p.cell;
-      }
-      go false = p
 
 -- held rows that live are kept: the expiry of carried rows is at offset 48, that of tombstones at 40
 module _ (minute count : ℕ) (a : List ℕ) {m : ℕ} {x : List ℕ} where

@@ -1,8 +1,7 @@
 -- What maintenance leaves in each area, how far its lists are, and what the call answers and is lent.
 -- Assumes nothing.
-use Rattle.std.specs.Prelude.{◌≡◌, ℕ, ◌+◌, ◌*◌, ◌≤◌, Bool, not, ◌&&◌, List, ◌++◌, map, length, take, drop, nat_le, Result, Ok, Err}
+use Rattle.std.specs.Prelude.{◌≡◌, ℕ, ◌+◌, ◌*◌, ◌≤◌, Bool, not, ◌&&◌, List, ◌++◌, map, length, take, drop, nat_le}
 use Rattle.octets.specs.Bytes.{splice, part, num}
-use Rattle.courier_core.specs.declared.Refusal.{Refusal}
 use Rattle.table.specs.Lists.{filter}
 use Rattle.table.specs.Rows.{join}
 use Rattle.table.specs.Codec.{Codec, with_table}
@@ -12,13 +11,13 @@ use Rattle.rows.specs.declared.Own.{Own}
 use Rattle.rows.specs.declared.Carried.{Carried}
 use Rattle.rows.specs.declared.Tombstone.{Tombstone}
 use Rattle.rows.specs.declared.Action.{Action}
-use Rattle.rows.specs.Rows.{carried_codec, tombstone_codec, action_bytes}
+use Rattle.rows.specs.Rows.{carried_codec, tombstone_codec, action_bytes, action_width}
 use Rattle.model.specs.Calls.{Result as Outcome, delete_courier, put_queued}
 use Rattle.model.specs.Maintenance.{own_expired, is_renewed, expired_slots}
 use Rattle.model.specs.Areas.{Areas}
 use Rattle.by_slot.specs.declared.held.Held.{Held}
 use Rattle.by_slot.specs.BySlot.{Reached}
-use Rattle.model.specs.Lent.{refused_or, device_in, own_in, carried_in, tombstones_in}
+use Rattle.model.specs.Lent.{device_in, own_in, carried_in, tombstones_in}
 use Rattle.maintenance.specs.declared.Progress.{Progress}
 
 -- does a row, whose expiry is at an offset, stay at the minute
@@ -34,12 +33,12 @@ row_stays minute o = not (own_expired minute o && is_renewed o)
 -- behind k rows of the action area, which was ac and is now x, stand these actions: m rows in all
 pub record Listed (ac : List ℕ) (k : ℕ) (acts : List Action) (m : ℕ) (x : List ℕ) : Type 0 where
   pub count : m ≡ k + length acts
-  pub area : x ≡ splice ac (k * 13) (join (map action_bytes acts))
+  pub area : x ≡ splice ac (k * action_width) (join (map action_bytes acts))
 
 -- what a step of the deletions relies on: a row is left, and there is room for an action of each
 pub record Moving (h : Held) (t : Progress) (actions : ℕ) : Type 0 where
   pub reached : Reached h t.next
-  pub space : (t.listed + (h.carried.count + h.tombstones.count)) * 13 ≤ actions + (t.next.carried + t.next.tombstones) * 13
+  pub space : (t.listed + (h.carried.count + h.tombstones.count)) * action_width ≤ actions + (t.next.carried + t.next.tombstones) * action_width
 
 -- deletions of the rows before p and q are listed behind k rows of ac, and those of the rows from p and q on are left
 pub record Merging (minute : ℕ) (cs : List Carried) (ts : List Tombstone) (ac : List ℕ) (k : ℕ) (x : List ℕ) (p q m : ℕ) : Type 0 where
@@ -83,9 +82,9 @@ pub record Rewriting {A : Type 0} (c : Codec A) (f : A → A) (p : A → Bool) (
 
 -- ---- the call
 
--- a refusal, or how many actions are listed
-abbrev pub maintained_of : Outcome → Result ℕ Refusal
-maintained_of o = refused_or Err (Ok (length o.actions)) o.answer
+-- how many actions are listed, where it is not refused
+abbrev pub maintained_of : Outcome → ℕ
+maintained_of o = length o.actions
 
 -- what the call is lent, set into areas that are anything otherwise; the action area alone is for an answer
 abbrev pub lent_tables : Device → (own carried tombstones : List ℕ) → Areas → Areas

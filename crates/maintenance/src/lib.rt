@@ -8,6 +8,7 @@ ghost use Rattle.table.specs.Rows.{held, rows, RowsNow};
 ghost use Rattle.table.specs.Codec.{table_of};
 ghost use Rattle.table.specs.Tables.{rows_in};
 ghost use Rattle.rows.specs.Rows.{own_width, tombstone_width, action_width, own_codec, carried_codec, tombstone_codec};
+ghost use Rattle.rows.specs.Limits.{action_area};
 ghost use Rattle.model.specs.Calls.{maintenance, delete_courier};
 ghost use Rattle.model.specs.Maintenance.{own_expired, is_renewed, renew_expired, maintain_own, own_puts, expired_slots};
 ghost use Rattle.model.specs.Lent.{Does, actions_lent};
@@ -181,7 +182,7 @@ fn list_actions(
     minute: u32,
     actions: &mut [u8],
 ) -> usize
-    requires { action_width * (512 + length tombstones.now / tombstone_width) ≤ length actions.old }
+    requires { action_area (length tombstones.now / tombstone_width) ≤ length actions.old }
     ensures { Listed actions.old 0
         (own_puts minute (table_of own_codec device.own own.now)
         ++ map delete_courier (expired_slots minute (table_of carried_codec device.carried carried.now) (table_of tombstone_codec device.tombstones tombstones.now)))
@@ -220,9 +221,9 @@ pub fn maintain_couriers(
     if answers::short_actions(actions.len(), tombstones.len()) {
         return Err(Refusal::ShortArea);
     }
-    let minute = contacts::now_min(device.now_s);
+    let minute = holdings::now_min(device.now_s);
     let listed = list_actions(*device, own, carried, tombstones, minute, actions);
-    let end = contacts::lifetime_end(device.now_s, device.courier);
+    let end = holdings::lifetime_end(device.now_s, device.courier);
     device.own = maintain_own(own, device.own, minute, device.courier.copies, end);
     device.carried = keep_live(
         carried,

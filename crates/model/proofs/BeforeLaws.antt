@@ -1,17 +1,17 @@
 -- Every call beside the rules before a request: its answer is the same, or it is a terminator that is answered; and where what a terminator
 -- changes is the same, so is the post after any list of calls.
 -- Assumes nothing.
-use Rattle.std.proofs.Common.{◌≡◌, ℕ, Bool, true, false, eqb, ◌⊎◌, List, [], ◌∷◌, length, set, sym, refl, ap, ◌∙◌, subst, inl, inr, ⊎_elim, eqb-true}
+use Rattle.std.proofs.Common.{◌≡◌, ℕ, Bool, true, false, eqb, ◌⊎◌, List, [], ◌∷◌, length, sym, refl, ap, ◌∙◌, subst, inl, inr, ⊎_elim, eqb-true}
 use Rattle.std.proofs.lemmas.List.{nil_from_length}
 use Rattle.courier_core.specs.declared.ContactId.{ContactId}
 use Rattle.courier_core.specs.declared.Refusal.{Refusal}
 use Rattle.rows.specs.declared.Reachable.{Reachable}
-use Rattle.model.specs.State.{State, Change, apply}
+use Rattle.model.specs.State.{State}
 use Rattle.model.specs.Calls
 use Rattle.model.specs.Calls.{Call, Result, only, done, malformed, refused, step_of}
 use Rattle.model.specs.Window.{window_rows, prefix_rows}
 use Rattle.model.specs.Exchange.{answer_inventory, too_many, receive_inventory}
-use Rattle.model.specs.Step.{Post, Lent, tests, perform, step, state_for, answer_to, after, run}
+use Rattle.model.specs.Step.{Post, Lent, tests, perform, step, state_for, answer_to, after, run, left_by}
 use Rattle.model.specs.Before.{receive_inventory_before, perform_before, step_before, after_before, run_before}
 use Rattle.model.proofs.RefusalLaws.{IsInventory}
 
@@ -114,8 +114,7 @@ module _ (answer : State → List Reachable → ContactId → Result) where
     same_after : (p : Post) (l : Lent) → after p l ≡ after_before answer p l
     unfolding after answer_to after_before
     same_after p l =
-        ap (λ (c : Change). let s : State = apply (state_for p l) c in record { state = s; sessions = set p.sessions l.session s.session })
-        (same_change (state_for p l) l.call)
+        ap (left_by p l) (same_change (state_for p l) l.call)
 
     pub same_run : (p : Post) (ls : List Lent) → run p ls ≡ run_before answer p ls
     unfolding run run_before

@@ -10,10 +10,9 @@ use Rattle.octets.specs.Bytes.{be, same_bytes}
 use Rattle.octets.proofs.Compare.{same_refl, same_eq}
 use Rattle.courier_core.specs.declared.ContactId.{ContactId}
 use Rattle.table.specs.Lists.{All, more, any, filter, position, position_from, is_at, insert_at, remove_at, replace_at, unwrap_or}
-use Rattle.std.proofs.lemmas.List.{drop_more}
-use Rattle.table.proofs.ListLaws.{filter_append, all_filter, all_map}
+use Rattle.table.proofs.ListLaws.{filter_append, all_filter, all_map, split_at}
 use Rattle.table.proofs.FindLaws.{position_any, position_first, any_none}
-use Rattle.courier.specs.Courier.{header_bytes, carried_length}
+use Rattle.courier.specs.Courier.{header_bytes, carried_length, envelope_header}
 use Rattle.courier.proofs.Laws.{carried_fits}
 use Rattle.rows.specs.declared.Own.{Own}
 use Rattle.rows.specs.declared.Carried.{Carried}
@@ -21,10 +20,11 @@ use Rattle.rows.specs.declared.Tombstone.{Tombstone}
 use Rattle.rows.specs.declared.Offer.{Offer}
 use Rattle.rows.specs.declared.Reply.{Reply}
 use Rattle.rows.specs.declared.Reachable.{Reachable}
+use Rattle.rows.specs.Limits.{max_carried_bytes}
 use Rattle.model.specs.Basics.{match_found, find, trunc8}
 use Rattle.model.specs.State.{State, now, upd}
 use Rattle.model.specs.Contacts.{is_verified}
-use Rattle.model.specs.Custody.{own_of_tag, carried_of_tag, tombstone_of_tag, max_carried_bytes, quota, envelope_header, carried_total, deposited, duplicate, full}
+use Rattle.model.specs.Custody.{own_of_tag, carried_of_tag, tombstone_of_tag, quota, carried_total, deposited, duplicate, full}
 use Rattle.model.specs.Exchange.{Envelope, envelopes, reply_for, in_question, is_offered, halved, offers, offer_of_tag, no_offer, insert_offer, insert_offers, fetch_for, tomb_for, answer_inventory}
 use Rattle.model.specs.Tombs.{no_tombstone, least_expiry, insert_by_slot}
 use Rattle.model.proofs.Laws.{carried_total_lem, expiry_at, Least, least_expiry_lem}
@@ -124,7 +124,7 @@ pub place_first : {A : Type 0} (f : A → List ℕ) (tag : List ℕ) (rows : Lis
 place_first f tag rows d i e =
     let p = position_first (same f tag) rows d i e in
     record {
-      all = sym (take-append-drop i rows) ∙ ap (λ (l : List _). take i rows ++ l) (drop_more rows i d p.inside);
+      all = sym (split_at rows i d p.inside);
       tagged = same_eq (f (get_or rows i d)) tag p.holds;
       none = λ h. false≢true (sym p.before ∙ has_any f tag (take i rows) h);
     }
@@ -238,7 +238,7 @@ offer_kept tag e os h = go (position p os) refl
         let r = position_first p os no_offer i k in
         find_without q (take i os) (drop (i + 1) os) o h
         ∙ sym (find_without q (take i os) (drop (i + 1) os) (get_or os i no_offer) (ap (λ (t : List ℕ). same_bytes t tag) (same_eq (get_or os i no_offer).tag e.head.tag r.holds) ∙ h))
-        ∙ ap (find q) (ap (λ (l : List Offer). take i os ++ l) (sym (drop_more os i no_offer r.inside)) ∙ take-append-drop i os)
+        ∙ ap (find q) (split_at os i no_offer r.inside)
     go None k = find_without q os [] o h ∙ ap (find q) (append-nil os)
 
 offers_kept : (tag : List ℕ) (es : List Envelope) (os : List Offer) → All (λ (e : Envelope). same_bytes e.head.tag tag ≡ false) es
@@ -247,7 +247,7 @@ unfolding insert_offers
 offers_kept tag [] os h = refl
 offers_kept tag (e ∷ es) os (more h rest) = offers_kept tag es (insert_offer e os) rest ∙ offer_kept tag e os h
 
-insert_append : (x y : List Envelope) (os : List Offer) → insert_offers (x ++ y) os ≡ insert_offers y (insert_offers x os)
+pub insert_append : (x y : List Envelope) (os : List Offer) → insert_offers (x ++ y) os ≡ insert_offers y (insert_offers x os)
 unfolding insert_offers
 insert_append [] y os = refl
 insert_append (e ∷ x) y os = insert_append x y (insert_offer e os)
@@ -275,7 +275,7 @@ pub record OffersCopies (s : State) (window : List Reachable) (peer : ContactId)
       (record { kind = 1; cell = (reply_for e).cell; body = e.head.tag ++ e.head.c ++ be 4 e.head.expiry_min ++ (n ∷ []) })
       (answer_inventory s window peer).replies
   pub row : (Has (λ (z : Envelope). z.head.tag) e.head.tag y → ⊥)
-      → find (offer_of_tag e.head.tag) (upd [] (answer_inventory s window peer).change.offered) ≡ Some (record { tag = e.head.tag; copies = n })
+      → find (offer_of_tag e.head.tag) (upd [] (answer_inventory s window peer).change.session.offered) ≡ Some (record { tag = e.head.tag; copies = n })
 
 -- the offers that envelopes give
 unfoldable pub offers_of : State → List Envelope → List Envelope
@@ -286,7 +286,7 @@ pub record OffersOnly (s : State) (window : List Reachable) (peer : ContactId) (
   pub replies : (answer_inventory s window peer).replies
       ≡ flat_map (fetch_for s.bad_tags s.tombstones window peer) s.session.exchange.listed ++ flat_map (tomb_for s.tombstones) s.session.exchange.listed
       ++ map reply_for es
-  pub rows : (answer_inventory s window peer).change.offered ≡ now (insert_offers es [])
+  pub rows : (answer_inventory s window peer).change.session.offered ≡ now (insert_offers es [])
 
 -- among the envelopes that a peer may see, one with those before and after it
 module _ (s : State) (peer : ContactId) (x y : List Envelope) (e : Envelope) (all : envelopes s.own s.carried peer ≡ x ++ (e ∷ y)) where

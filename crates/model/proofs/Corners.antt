@@ -15,13 +15,14 @@ use Rattle.rows.specs.declared.Carried.{Carried}
 use Rattle.rows.specs.declared.Tombstone.{Tombstone}
 use Rattle.rows.specs.declared.Offer.{Offer}
 use Rattle.rows.specs.declared.Reachable.{Reachable}
+use Rattle.rows.specs.Limits.{max_inventory}
 use Rattle.model.specs.Basics.{match_found, trunc8}
 use Rattle.model.specs.State.{State, keep, now, nothing, apply, own_now, carried_now, tombstones_now, bad_tags_now, listed_now, ◌and◌}
 use Rattle.model.specs.Calls.{Result, result, only, done, malformed, put_courier, delete_courier, put_queued, tomb_reply, custody_reply}
 use Rattle.model.specs.Contacts.{minute_of, end_of, is_verified}
 use Rattle.model.specs.Window.{lookup, is_bad}
 use Rattle.model.specs.Custody.{quota, carried_total, deposited, duplicate, full, custody_of, is_accepted, answer_custody, receive_envelope}
-use Rattle.model.specs.Exchange.{Envelope, no_carried, no_own, no_offer, envelopes, in_question, is_offered, answer_inventory, list_more, max_inventory, too_many, receive_inventory, lowered, own_lowered, offer_of_tag, handed_over, settle, receive_custody}
+use Rattle.model.specs.Exchange.{Envelope, no_carried, no_own, no_offer, envelopes, in_question, is_offered, answer_inventory, list_more, too_many, receive_inventory, lowered, own_lowered, offer_of_tag, handed_over, settle, receive_custody}
 use Rattle.model.specs.Tombs.{tombstoned, least_expiry, remaining, evicted, store_tombstone, store_actions, stored, carried_at, own_at, wrong, unknown, meets, insert_by_slot, turned, turn, end_own, receive_tomb, no_row_to_meet, no_slot_to_meet, report_opened, report_failed}
 use Rattle.model.proofs.Examples.{ThreePeers, three_peers}
 use Rattle.model.proofs.Laws.{carried_total_lem}
@@ -86,7 +87,7 @@ pub record CourieringCorners : Type 0 where
   pub listed_513 : (s : State) (window : List Reachable) (peer : ContactId) (tags : List (List ℕ))
       → 513 ≤ length s.session.exchange.listed + length tags → receive_inventory s window peer tags ≡ only malformed
   -- and so is any inventory after the terminator, empty too: the terminator is noted, and what comes then is malformed
-  pub terminator_noted : (s : State) (window : List Reachable) (peer : ContactId) → (answer_inventory s window peer).change.complete ≡ now true
+  pub terminator_noted : (s : State) (window : List Reachable) (peer : ContactId) → (answer_inventory s window peer).change.session.complete ≡ now true
   pub after_terminator : (s : State) (window : List Reachable) (peer : ContactId) (tags : List (List ℕ)) → s.session.exchange.complete ≡ true
       → receive_inventory s window peer tags ≡ only malformed
   -- copies 1 are never offered, whatever has a tombstone or is listed: the offers are those of the other envelopes
@@ -101,22 +102,22 @@ pub record CourieringCorners : Type 0 where
       → e.head.copies ≡ 5 → OffersCopies s window peer e y 2
   -- a custody code clears the offer whatever the code
   pub code_clears : (s : State) (tag : List ℕ) (code : Custody) (x y : List Offer) (o : Offer) → FirstOffer s tag x o y
-      → (receive_custody s tag code).change.offered ≡ now (x ++ y)
+      → (receive_custody s tag code).change.session.offered ≡ now (x ++ y)
   -- only Accepted takes the handed copies off: no other code takes any, and no code takes any where none were handed
   pub only_accepted : (s : State) (tag : List ℕ) (code : Custody) → (code ≡ custody.Accepted → ⊥)
-      → ((receive_custody s tag code).change.carried ≡ keep) × ((receive_custody s tag code).change.own ≡ keep)
+      → ((receive_custody s tag code).change.held.carried ≡ keep) × ((receive_custody s tag code).change.queue.own ≡ keep)
   pub only_handed : (s : State) (tag : List ℕ) (code : Custody) → (OffersHave s.session.exchange.offered tag → ⊥)
       → receive_custody s tag code ≡ only done
   -- Accepted takes them off a carried row
   pub accepted_carried : (s : State) (tag : List ℕ) (u v : List Offer) (o : Offer) (x y : List Carried) (r : Carried)
       → FirstOffer s tag u o v → FirstCarried s tag x r y
-      → ((receive_custody s tag custody.Accepted).change.carried ≡ now (x ++ (lowered o.copies r ∷ y)))
-      × ((receive_custody s tag custody.Accepted).change.own ≡ keep)
+      → ((receive_custody s tag custody.Accepted).change.held.carried ≡ now (x ++ (lowered o.copies r ∷ y)))
+      × ((receive_custody s tag custody.Accepted).change.queue.own ≡ keep)
   -- or, where no carried row has the tag, off an own row
   pub accepted_own : (s : State) (tag : List ℕ) (u v : List Offer) (o : Offer) (x y : List Own) (r : Own)
       → FirstOffer s tag u o v → (CarriedHas s.carried tag → ⊥) → FirstOwn s tag x r y
-      → ((receive_custody s tag custody.Accepted).change.own ≡ now (x ++ (own_lowered o.copies r ∷ y)))
-      × ((receive_custody s tag custody.Accepted).change.carried ≡ keep)
+      → ((receive_custody s tag custody.Accepted).change.queue.own ≡ now (x ++ (own_lowered o.copies r ∷ y)))
+      × ((receive_custody s tag custody.Accepted).change.held.carried ≡ keep)
   -- stopping at 0, of a carried row and of an own row
   pub carried_copies : (r : Carried) (n : ℕ) → TakenOff r.copies n (lowered n r).copies
   pub own_copies : (o : Own) (n : ℕ) → TakenOff o.copies n (own_lowered n o).copies
@@ -151,12 +152,12 @@ pub record CourieringCorners : Type 0 where
   -- at 1,024 or more it first deletes one of those stored before, whatever tags they have: of least expiry, lowest slot among equals (below)
   pub turned_at_1024 : (s : State) (tag secret : List ℕ) (x y : List Carried) (r : Carried) → Turns s tag secret x r y → 1024 ≤ length s.tombstones
       → ((tomb_result s tag secret).actions ≡ delete_courier (slot_at s.tombstones (least_expiry s.tombstones)) ∷ put_courier r.slot ∷ [])
-      × ((tomb_result s tag secret).change.tombstones
+      × ((tomb_result s tag secret).change.held.tombstones
       ≡ now (insert_by_slot (turned_into r tag secret) (remove_at (least_expiry s.tombstones) s.tombstones)))
   -- below 1,024 none goes
   pub turned_below_1024 : (s : State) (tag secret : List ℕ) (x y : List Carried) (r : Carried) → Turns s tag secret x r y → length s.tombstones < 1024
       → ((tomb_result s tag secret).actions ≡ put_courier r.slot ∷ [])
-      × ((tomb_result s tag secret).change.tombstones ≡ now (insert_by_slot (turned_into r tag secret) s.tombstones))
+      × ((tomb_result s tag secret).change.held.tombstones ≡ now (insert_by_slot (turned_into r tag secret) s.tombstones))
   -- it is one more than those that are left
   pub one_tombstone_more : (t : Tombstone) (ts : List Tombstone) → Perm (insert_by_slot t ts) (t ∷ ts)
   -- number 5 is tested after that deletion, and a turned row takes no new slot
@@ -187,7 +188,7 @@ pub record CourieringCorners : Type 0 where
   -- a stored tombstone at 1,024 or more first deletes one
   pub stored_at_1024 : (s : State) (tag secret : List ℕ) (expiry : ℕ) → (TombstonesHave s.tombstones tag → ⊥) → 1024 ≤ length s.tombstones
       → (store_actions s tag ≡ delete_courier (slot_at s.tombstones (least_expiry s.tombstones)) ∷ put_courier s.next_slot ∷ [])
-      × ((store_tombstone s tag secret expiry).tombstones
+      × ((store_tombstone s tag secret expiry).held.tombstones
       ≡ now (remove_at (least_expiry s.tombstones) s.tombstones ++ (new_tombstone s tag secret expiry ∷ [])))
   -- of least expiry, lowest slot among equals
   pub least_expiry_lowest_slot : (ts : List Tombstone) → 0 < length ts → All (λ (t : Tombstone). t.expiry_min < 2 ^ 32) ts → SlotsRise ts
@@ -195,7 +196,7 @@ pub record CourieringCorners : Type 0 where
   -- below 1,024 none goes
   pub stored_below_1024 : (s : State) (tag secret : List ℕ) (expiry : ℕ) → (TombstonesHave s.tombstones tag → ⊥) → length s.tombstones < 1024
       → (store_actions s tag ≡ put_courier s.next_slot ∷ [])
-      × ((store_tombstone s tag secret expiry).tombstones ≡ now (s.tombstones ++ (new_tombstone s tag secret expiry ∷ [])))
+      × ((store_tombstone s tag secret expiry).held.tombstones ≡ now (s.tombstones ++ (new_tombstone s tag secret expiry ∷ [])))
   -- nothing is stored if the tag has a tombstone
   pub nothing_stored : (s : State) (tag secret : List ℕ) (expiry : ℕ) → TombstonesHave s.tombstones tag
       → (store_actions s tag ≡ []) × (store_tombstone s tag secret expiry ≡ nothing)
@@ -215,7 +216,7 @@ another_code custody.Off k = refl
 another_code custody.Invalid k = refl
 
 untaken : (s : State) (tag : List ℕ) (code : Custody) (f : Option ℕ) → is_accepted code ≡ false
-    → ((match_found f (settle s tag code) (only done)).change.carried ≡ keep) × ((match_found f (settle s tag code) (only done)).change.own ≡ keep)
+    → ((match_found f (settle s tag code) (only done)).change.held.carried ≡ keep) × ((match_found f (settle s tag code) (only done)).change.queue.own ≡ keep)
 unfolding settle
 untaken s tag code (Some i) h = (rw h, rw h)
 untaken s tag code None h = (refl, refl)

@@ -18,7 +18,7 @@ use Rattle.state.specs.Config.{in_range, config_default}
 use Rattle.rows.specs.declared.Carried.{Carried}
 use Rattle.rows.specs.declared.Tombstone.{Tombstone}
 use Rattle.rows.specs.Rows as encoded
-use Rattle.rows.specs.Device.{fresh_device, closed_exchange}
+use Rattle.rows.specs.Device.{closed_exchange}
 use Rattle.rows.specs.declared.Reply.{Reply}
 use Rattle.rows.specs.declared.Action.{Action}
 use Rattle.model.specs.Basics.{merge}
@@ -32,7 +32,7 @@ use Rattle.model.specs.Custody as model
 use Rattle.model.specs.Exchange
 use Rattle.model.specs.Tombs
 use Rattle.model.specs.Maintenance
-use Rattle.model.specs.Areas.{PostAreas, SessionAreas, no_session_areas, view, view_session, view_post, store, store_device, store_session, areas_for, after_areas, run_areas}
+use Rattle.model.specs.Areas.{PostAreas, SessionAreas, view, view_session, view_post, store, store_device, store_session, areas_for, after_areas, run_areas, no_areas}
 use Rattle.model.specs.Step.{Post, Lent, empty_state, tests, perform, step, state_for, answer_to, after, run, results}
 
 -- two cells of each kind, R = 4, three sessions
@@ -150,7 +150,7 @@ pub opens : (secret : List ℕ) → tombstone_matches (commitment_of secret) sec
 unfolding tombstone_matches
 opens secret = same_refl (commitment_of secret)
 
-turns : (secret : List ℕ) → (perform (with_row secret).state (Calls.tomb 6708 (id 5) (of_byte 17) secret)).change.tombstones
+turns : (secret : List ℕ) → (perform (with_row secret).state (Calls.tomb 6708 (id 5) (of_byte 17) secret)).change.held.tombstones
     ≡ now ((record { slot = 0; tag = of_byte 17; s = secret; expiry_min = 100 }) ∷ [])
 unfolding rows_of with_row row_of_lem Tombs.meets Tombs.receive_tomb Tombs.turn Tombs.turned Tombs.insert_by_slot Tombs.remaining
 turns secret = rw (opens secret)
@@ -219,12 +219,12 @@ limit =
 
 turned_there : List Tombstone
 unfolding limit
-turned_there = upd [] (Tombs.turn limit 0 (of_byte 17) []).change.tombstones
+turned_there = upd [] (Tombs.turn limit 0 (of_byte 17) []).change.held.tombstones
 
 -- a tombstone stored there deletes the lowest slot of least expiry, and so does the row that turns, though it would expire before it
 at_limit :
     (Tombs.store_actions limit (of_byte 17) ≡ delete_courier 500 ∷ put_courier 9000 ∷ [])
-    × (length (upd [] (Tombs.store_tombstone limit (of_byte 17) [] 100).tombstones) ≡ 1024)
+    × (length (upd [] (Tombs.store_tombstone limit (of_byte 17) [] 100).held.tombstones) ≡ 1024)
     × ((Tombs.turn limit 0 (of_byte 17) []).actions ≡ delete_courier 500 ∷ put_courier 8000 ∷ []) × (length turned_there ≡ 1024)
     × (get_or turned_there 1023 Tombs.no_tombstone ≡ record { slot = 8000; tag = of_byte 17; s = []; expiry_min = 10 })
 unfolding rows_of limit soon tombs turned_there Tombs.tombstoned Tombs.store_actions Tombs.evicted Tombs.least_from Tombs.store_tombstone Tombs.remaining Tombs.turn Tombs.turned Tombs.insert_by_slot
@@ -247,8 +247,7 @@ session_areas = record { exchange = closed_exchange; prefixes = replicate 4096 7
 -- fresh areas with R = 4, so many bytes of cells of each kind and these sessions, any bytes in them
 unfoldable pub areas_of : ℕ → ℕ → List SessionAreas → PostAreas
 areas_of own_cells carried_cells sessions = record {
-  areas = record {
-    device = fresh_device;
+  areas = record no_areas {
     contacts = replicate 2304 7;
     own = replicate 13824 7;
     carried = replicate 14592 7;
@@ -256,7 +255,6 @@ areas_of own_cells carried_cells sessions = record {
     bad_tags = replicate 96 7;
     own_cells = replicate own_cells 7;
     carried_cells = replicate carried_cells 7;
-    session = no_session_areas;
   };
   sessions = sessions;
 }

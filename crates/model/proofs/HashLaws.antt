@@ -8,9 +8,9 @@ use Rattle.sha_block.specs.Block.{compress, summed}
 use Rattle.sha384.specs.Padding as padding
 use Rattle.sha384.specs.Sha384.{H0, next, hashed, bytes, digest, sha384}
 use Rattle.hmac.specs.Hmac as hmac
-use Rattle.kdf.specs.Kdf.{mac}
+use Rattle.kdf.specs.Kdf.{mac, hash}
 use Rattle.chain.specs.declared.Dir.{Dir}
-use Rattle.courier.specs.Tags.{route_tag}
+use Rattle.courier.specs.Tags.{route_tag, commitment_of}
 use Rattle.rows.specs.Proper.{Run}
 
 -- ---- digests
@@ -40,10 +40,14 @@ sha384_run m =
       bytes = words_bytes (take 6 h);
     }
 
--- a route tag is a MAC: the first 16 bytes of a digest
+-- a route tag is a MAC and a commitment a hash: the first 16 bytes of a digest
+first_16 : {d : List ℕ} → Run 48 d → Run 16 (take 16 d)
+first_16 {d} r = record { size = omega (arith, length-take 16 d, r.size); bytes = bytes_take 16 d r.bytes }
+
 pub route_tag_run : (key : List ℕ) (dir : Dir) (generation idx : ℕ) → Run 16 (route_tag key dir generation idx)
 unfolding route_tag mac hmac.hmac hmac.keyed
-route_tag_run key dir generation idx = go (sha384_run _)
-  where
-    go : {d : List ℕ} → Run 48 d → Run 16 (take 16 d)
-    go {d} r = record { size = omega (arith, length-take 16 d, r.size); bytes = bytes_take 16 d r.bytes }
+route_tag_run key dir generation idx = first_16 (sha384_run _)
+
+pub commitment_run : (s : List ℕ) → Run 16 (commitment_of s)
+unfolding commitment_of hash
+commitment_run s = first_16 (sha384_run _)

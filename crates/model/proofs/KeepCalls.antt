@@ -20,7 +20,7 @@ use Rattle.rows.specs.Proper.{Run}
 use Rattle.model.specs.Basics.{match_some, find}
 use Rattle.model.specs.State.{State, apply}
 use Rattle.model.specs.Calls
-use Rattle.model.specs.Calls.{Call, only, malformed, missing, no_envelope, short_replies, short_exchange}
+use Rattle.model.specs.Calls.{Call, only, malformed, missing, no_envelope, short_replies, short_exchange, done_with}
 use Rattle.model.specs.Contacts.{end_of, contact_tests, set_contact, setting_tests, set_config, set_clock, open_exchange_tests, open_exchanged, opened_for}
 use Rattle.model.specs.Custody.{custody_of, envelope_tests, receive_envelope}
 use Rattle.model.specs.Window.{lookup, window_rows, prefix_rows, prefix_codec}
@@ -32,7 +32,7 @@ use Rattle.model.specs.Saved.{Slotted, held_rows, writes, blob_tests, row_blob_o
 use Rattle.model.specs.Screen.{page_tests, show_page}
 use Rattle.model.specs.Step.{tests, perform, step}
 use Rattle.model.specs.Good.{Good, ProperHeader, ProperTomb, ProperCall}
-use Rattle.model.proofs.KeepLaws.{Fits, part_upd, part_imp, lifetime_above_0, good_apply, made, fits_nothing, Passed, fits_step}
+use Rattle.model.proofs.KeepLaws.{Fits, part_upd, part_imp, lifetime_above_0, good_apply, kept_people, kept_queue, kept_held, kept_session, fits_nothing, fits_courier, fits_people, fits_session, Passed, fits_step}
 use Rattle.model.proofs.StoreLaws.{prefix_laws}
 use Rattle.model.proofs.KeepRows.{or_false, end_small, put_contact_lem}
 use Rattle.model.proofs.KeepParts.{fits_answer, fits_terminator, fits_listed, fits_custody, fits_store, fits_tomb, fits_failed, fits_made, fits_maintained}
@@ -43,21 +43,21 @@ module _ (s : State) where
   setting_fits : (enabled : Bool) (copies lifetime : ℕ) → Passed (setting_tests copies lifetime) → Fits s (set_config enabled copies lifetime).change
   unfolding setting_tests set_config
   setting_fits enabled copies lifetime p =
-      made s (set_config enabled copies lifetime).change (not-false (in_range copies lifetime) p.0) tt tt tt tt tt tt tt tt
+      fits_courier s (record { enabled = enabled; copies = copies; lifetime_min = lifetime }) (not-false (in_range copies lifetime) p.0)
 
   clock_fits : (seconds : ℕ) → Fits s (set_clock seconds).change
   unfolding set_clock
-  clock_fits seconds = made s (set_clock seconds).change tt tt tt tt tt tt tt tt tt
+  clock_fits seconds = record { courier = tt; next_slot = tt; people = kept_people; queue = kept_queue; held = kept_held; session = kept_session; sessions = tt }
 
   open_fits : (peer : ContactId) → Fits s (open_exchanged peer).change
   unfolding open_exchanged opened_for
-  open_fits peer = made s (open_exchanged peer).change tt tt tt tt tt tt tt (none, omega arith, omega arith) (none, omega arith, omega arith)
+  open_fits peer = fits_session s (opened_for peer).session (record { listed = (none, omega arith, omega arith); offered = (none, omega arith, omega arith) })
 
   fetch_fits : (peer : ContactId) (tag : List ℕ) → Fits s (receive_fetch s peer tag).change
   unfolding receive_fetch fetched
   fetch_fits peer tag = go (find (envelope_of_tag tag) (envelopes s.own s.carried peer))
     where
-      go : (o : Option Envelope) → Fits s (match_some o (fetched s) (only missing)).change
+      go : (o : Option Envelope) → Fits s (match_some o (fetched s) (only (done_with missing))).change
       go None = fits_nothing s
       go (Some e) = fits_nothing s
 
@@ -69,7 +69,7 @@ module _ (s : State) where
   unfolding row_blob_of
   blob_fits slot = go (find (λ (h : Slotted). eqb h.slot slot) (held_rows s))
     where
-      go : (o : Option Slotted) → Fits s (match_some o (λ h. writes (held_row h.held)) (only missing)).change
+      go : (o : Option Slotted) → Fits s (match_some o (λ h. writes (held_row h.held)) (only (done_with missing))).change
       go None = fits_nothing s
       go (Some h) = fits_nothing s
 
@@ -84,7 +84,7 @@ module _ (s : State) where
 module _ (s : State) (g : Good s) where
   contact_fits : (id : ContactId) (v : Verification) → id.0 < 2 ^ 64 → Passed (contact_tests s id) → Fits s (set_contact s id v).change
   unfolding contact_tests set_contact
-  contact_fits id v h p = made s (set_contact s id v).change tt (put_contact_lem s.contacts id v h (g.contacts, g.contacts_few) p.0) tt tt tt tt tt tt tt
+  contact_fits id v h p = fits_people s (set_contact s id v).change.people (record { contacts = put_contact_lem s.contacts id v h (g.contacts, g.contacts_few) p.0; bad_tags = tt })
 
   envelope_fits : (replies actions : ℕ) (window : List ℕ) (peer : ContactId) (head : Header) (ct : List ℕ) → (peer.0 < 2 ^ 64) × ProperHeader head
       → Passed (envelope_tests s replies actions window peer head (length ct)) → Fits s (receive_envelope s (window_rows window) peer head ct).change
@@ -140,7 +140,7 @@ module _ (s : State) (g : Good s) where
       tag = route_tag key dir generation idx
 
       go : (b : Bool) → none_made s.own (length ct) ≡ b
-          → Fits s (cond b (only no_envelope) (make_own s (new_own s id msgno tag secret (length ct)) ct)).change
+          → Fits s (cond b (only (done_with no_envelope)) (make_own s (new_own s id msgno tag secret (length ct)) ct)).change
       go true e = fits_nothing s
       go false e = fits_made s g id msgno tag secret ct h.0 h.1 h.2 (route_tag_run key dir generation idx) e
 

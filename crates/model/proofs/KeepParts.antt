@@ -1,6 +1,6 @@
 -- What a call changes fits: carried rows, exchanges, tombstones, own rows.
 -- Assumes nothing.
-use Rattle.std.proofs.Common.{◌≡◌, ℕ, ◌+◌, ◌-◌, ◌*◌, ◌^◌, ◌<◌, ◌≤◌, Bool, true, false, cond, not, ◌&&◌, ltb, leb, List, [], ◌∷◌, ◌++◌, length, get_or, refl, arith, length-append, ltb-false, leb-false, Option, Some, None}
+use Rattle.std.proofs.Common.{◌≡◌, ℕ, ◌+◌, ◌-◌, ◌*◌, ◌^◌, ◌<◌, ◌≤◌, Bool, true, false, cond, not, ◌&&◌, ltb, leb, List, [], ◌∷◌, ◌++◌, length, get_or, refl, arith, length-append, ltb-false, leb-false, Option, Some, None, map}
 use native.Mathlib.Nat.{min-le_right}
 use lib.ListN.{length-map}
 use Rattle.octets.specs.Bytes.{splice}
@@ -21,7 +21,7 @@ use Rattle.rows.specs.declared.Offer.{Offer}
 use Rattle.rows.specs.declared.Reachable.{Reachable}
 use Rattle.rows.specs.Proper.{Run, ProperOwn, ProperCarried, ProperTombstone}
 use Rattle.model.specs.Basics.{match_found}
-use Rattle.model.specs.State.{State, Change, nothing, own_now, own_cells_now, carried_now, tombstones_now, bad_tags_now, next_slot_now, offered_now, ◌and◌}
+use Rattle.model.specs.State.{State, Change, keep, now, nothing, own_now, own_cells_now, carried_now, tombstones_now, bad_tags_now, next_slot_now, offered_now, ◌and◌}
 use Rattle.model.specs.Calls.{only, done}
 use Rattle.model.specs.Contacts.{end_of, minute_of}
 use Rattle.model.specs.Custody.{own_of_tag, carried_of_tag, custody_of, duplicate, full, is_accepted, new_carried, carry, last_slot, carried_named, accepts, ours_at, answer_custody}
@@ -29,10 +29,10 @@ use Rattle.model.specs.Window.{no_reachable, lookup, is_bad}
 use Rattle.model.specs.Exchange.{offers, offer_of_tag, no_offer, answer_inventory, list_more, too_many, no_carried, no_own, lowered, own_lowered, handed_over, settle, receive_custody}
 use Rattle.model.specs.Tombs.{tombstoned, least_expiry, remaining, store_tombstone, no_row_to_store, no_slot_to_store, insert_by_slot, turned, turn, end_own, Met, carried_at, own_at, wrong, unknown, meets, receive_tomb, no_row_to_meet, no_slot_to_meet, report_failed}
 use Rattle.model.specs.Own.{none_made, own_named, new_own, stands_after, insert_own, make_own}
-use Rattle.model.specs.Maintenance.{own_expired, carried_expired, tombstone_expired, is_renewed, renewed, renew_expired, maintain_own, maintain_couriers}
+use Rattle.model.specs.Maintenance.{own_expired, carried_expired, tombstone_expired, is_renewed, renew_expired, maintain_own, maintain_couriers}
 use Rattle.model.specs.Good.{Good, ProperHeader, ProperTomb}
-use Rattle.model.proofs.KeepLaws.{Fits, made, fits_nothing, fits_own, fits_carried, fits_tombstones, fits_slot, fits_offered, fits_own_cells, fits_if, fits_and}
-use Rattle.model.proofs.KeepRows.{and_false, or_false, end_small, next_small, accepted, valid_length, cell_small, offers_proper, offers_few, inserted}
+use Rattle.model.proofs.KeepLaws.{Few, Fits, kept_people, kept_queue, kept_session, fits_nothing, fits_people, fits_held, fits_session, fits_own, fits_own_cells, fits_carried, fits_tombstones, fits_slot, fits_offered, fits_if, fits_and}
+use Rattle.model.proofs.KeepRows.{and_false, or_false, end_small, next_small, accepted, valid_length, cell_small, offers_proper, offers_few, inserted, renew_proper}
 
 module _ (s : State) (g : Good s) where
   module _ (peer : ContactId) (head : Header) (ct : List ℕ) (h : (peer.0 < 2 ^ 64) × ProperHeader head) where
@@ -51,10 +51,19 @@ module _ (s : State) (g : Good s) where
           len = omega (arith, valid_length (length ct) head.copies head.expiry_min (minute_of s) q.0);
           cell = cell_small (length s.carried_cells) (carried_named s);
         } in
-        made s (carry s peer head ct) tt tt tt (
+        let held : Few ProperCarried 256 (s.carried ++ (new_carried s peer head (length ct) ∷ [])) = (
           all_push s.carried (new_carried s peer head (length ct)) g.carried new,
           omega (arith, length-append s.carried (new_carried s peer head (length ct) ∷ []), leb-false 256 (length s.carried) few),
-        ) tt tt (next_small s.next_slot g.next_slot t) tt tt
+        ) in
+        record {
+          courier = tt;
+          next_slot = next_small s.next_slot g.next_slot t;
+          people = kept_people;
+          queue = kept_queue;
+          held = record { carried = held; tombstones = tt };
+          session = kept_session;
+          sessions = tt;
+        }
 
     pub fits_answer : (window : List Reachable) (f : Option ℕ) (code : Custody) → lookup window head.tag ≡ f → custody_of s peer head (length ct) ≡ code
         → (accepts s window peer head (length ct) && last_slot s) ≡ false
@@ -74,11 +83,10 @@ module _ (s : State) (g : Good s) where
   unfolding answer_inventory
   fits_terminator peer window t =
       let o = inserted (offers s peer) [] (offers_proper s g peer) none in
-      made s (answer_inventory s window peer).change tt tt tt tt tt tt tt (none, omega arith, omega arith) (
-        o.0,
-        omega (arith, o.1, offers_few s g peer),
-        omega (arith, o.1, offers_few s g peer, ltb-false s.session.offer_area 8704 t),
-      )
+      fits_session s (answer_inventory s window peer).change.session (record {
+        listed = (none, omega arith, omega arith);
+        offered = (o.0, omega (arith, o.1, offers_few s g peer), omega (arith, o.1, offers_few s g peer, ltb-false s.session.offer_area 8704 t));
+      })
 
   pub fits_listed : (tags : List (List ℕ)) → All (Run 8) tags → ltb s.session.prefix_area 4096 ≡ false
       → too_many s.session.exchange (length tags) ≡ false → Fits s (list_more s.session.exchange tags).change
@@ -86,11 +94,14 @@ module _ (s : State) (g : Good s) where
   fits_listed tags p t m =
       let listed : List (List ℕ) = s.session.exchange.listed in
       let few : length listed + length tags ≤ 512 = ltb-false 512 (length listed + length tags) (or_false s.session.exchange.complete _ m).1 in
-      made s (list_more s.session.exchange tags).change tt tt tt tt tt tt tt (
-        all_append listed tags g.session.listed p,
-        omega (arith, length-append listed tags),
-        omega (arith, length-append listed tags, ltb-false s.session.prefix_area 4096 t),
-      ) tt
+      fits_session s (list_more s.session.exchange tags).change.session (record {
+        listed = (
+          all_append listed tags g.session.listed p,
+          omega (arith, length-append listed tags),
+          omega (arith, length-append listed tags, ltb-false s.session.prefix_area 4096 t),
+        );
+        offered = tt;
+      })
 
   -- ---- custody code
 
@@ -243,10 +254,13 @@ module _ (s : State) (g : Good s) where
 
       go : (b : Bool) → (not b && leb s.bad_tag_rows (length s.bad_tags)) ≡ false → Fits s (cond b nothing (bad_tags_now (s.bad_tags ++ (new ∷ []))))
       go true t = fits_nothing s
-      go false t = made s (bad_tags_now (s.bad_tags ++ (new ∷ []))) tt tt tt tt tt (
-        all_push s.bad_tags new g.bad_tags (record { peer = p; tag = q }),
-        omega (arith, length-append s.bad_tags (new ∷ []), leb-false s.bad_tag_rows (length s.bad_tags) t),
-      ) tt tt tt
+      go false t = fits_people s (bad_tags_now (s.bad_tags ++ (new ∷ []))).people (record {
+        contacts = tt;
+        bad_tags = (
+          all_push s.bad_tags new g.bad_tags (record { peer = p; tag = q }),
+          omega (arith, length-append s.bad_tags (new ∷ []), leb-false s.bad_tag_rows (length s.bad_tags) t),
+        );
+      })
 
   -- ---- own rows, maintenance
 
@@ -275,12 +289,7 @@ module _ (s : State) (g : Good s) where
       (fits_own_cells s (splice s.own_cells (new.cell * 2064) ct))
 
   renewed_proper : (minute : ℕ) (o : Own) → ProperOwn o → ProperOwn (renew_expired minute s.courier.copies (end_of s) o)
-  unfolding renew_expired renewed
-  renewed_proper minute o p = go (leb o.expiry_min minute)
-    where
-      go : (b : Bool) → ProperOwn (cond b (renewed s.courier.copies (end_of s) o) o)
-      go true = record { contact = p.contact; msgno = p.msgno; tag = p.tag; s = p.s; expiry_min = end_small s; copies = g.copies; renewed = omega arith; len = p.len; cell = p.cell }
-      go false = p
+  renewed_proper minute o = renew_proper minute o g.copies (end_small s)
 
   pub fits_maintained : Fits s (maintain_couriers s).change
   unfolding maintain_couriers maintain_own
@@ -291,10 +300,15 @@ module _ (s : State) (g : Good s) where
       let own : List Own = filter stays s.own in
       let live_carried : Carried → Bool = λ r. not (carried_expired m r) in
       let live_tombstone : Tombstone → Bool = λ t. not (tombstone_expired m t) in
-      made s (maintain_couriers s).change tt tt (
+      fits_and s (own_now (map renew own)) (carried_now (filter live_carried s.carried) and tombstones_now (filter live_tombstone s.tombstones))
+      (fits_own s (map renew own) (
         all_map renew own (all_imp (renewed_proper m) own (all_filter stays s.own g.own)),
         omega (arith, length-map own renew, length_filter stays s.own, g.own_few),
-      ) (all_filter live_carried s.carried g.carried, omega (arith, length_filter live_carried s.carried, g.carried_few)) (
-        all_filter live_tombstone s.tombstones g.tombstones,
-        omega (arith, length_filter live_tombstone s.tombstones, g.tombstones_fit),
-      ) tt tt tt tt
+      ))
+      (fits_held s (record { carried = now (filter live_carried s.carried); tombstones = now (filter live_tombstone s.tombstones); carried_cells = keep }) (record {
+        carried = (all_filter live_carried s.carried g.carried, omega (arith, length_filter live_carried s.carried, g.carried_few));
+        tombstones = (
+          all_filter live_tombstone s.tombstones g.tombstones,
+          omega (arith, length_filter live_tombstone s.tombstones, g.tombstones_fit),
+        );
+      }))

@@ -19,14 +19,17 @@ use Rattle.courier.specs.declared.Custody.TheVariants as custody
 use Rattle.courier.specs.Courier.{envelope_valid}
 use Rattle.courier.proofs.Laws.{carried_fits, valid_parts}
 use Rattle.rows.specs.declared.Contact.{Contact}
+use Rattle.rows.specs.declared.Own.{Own}
 use Rattle.rows.specs.declared.Offer.{Offer}
-use Rattle.rows.specs.Proper.{Run, ProperContact, ProperOffer}
+use Rattle.rows.specs.Proper.{ProperContact, ProperOwn, ProperOffer}
 use Rattle.model.specs.Basics.{match_found}
 use Rattle.model.specs.State.{State}
 use Rattle.model.specs.Contacts.{no_contact, is_contact, known, contact_place, put_contact, now_min, lifetime_end, end_of}
 use Rattle.model.specs.Cells.{cell_count, free_from, free_cell, new_cell}
 use Rattle.model.specs.Exchange.{Envelope, own_envelope_of, carried_envelope_of, not_for, envelopes, is_offered, halved, offers, offer_of_tag, no_offer, insert_offer, insert_offers}
-use Rattle.model.specs.Good.{Good}
+use Rattle.model.specs.Maintenance.{own_expired, renewed, renew_expired}
+use Rattle.model.specs.Good.{Good, ProperHeader}
+use Rattle.model.proofs.HashLaws.{commitment_run}
 use Rattle.model.proofs.KeepLaws.{Few}
 
 -- ---- small facts
@@ -51,6 +54,17 @@ next_small n h e = go (ltb (n + 1) (2 ^ 64)) refl
     go : (b : Bool) → ltb (n + 1) (2 ^ 64) ≡ b → n + 1 < 2 ^ 64
     go true k = ltb-true (n + 1) (2 ^ 64) k
     go false k = absurd (eqb-false n 18446744073709551615 e (omega (arith, ltb-false (n + 1) (2 ^ 64) k)))
+
+-- ---- own rows
+
+-- one that is renewed if it has expired
+pub renew_proper : (minute : ℕ) (o : Own) {copies end : ℕ} → copies < 2 ^ 8 → end < 2 ^ 32 → ProperOwn o → ProperOwn (renew_expired minute copies end o)
+unfolding renew_expired renewed
+renew_proper minute o {copies} {end} hc he p = go (own_expired minute o)
+  where
+    go : (b : Bool) → ProperOwn (cond b (renewed copies end o) o)
+    go true = record { contact = p.contact; msgno = p.msgno; tag = p.tag; s = p.s; expiry_min = he; copies = hc; renewed = omega arith; len = p.len; cell = p.cell }
+    go false = p
 
 -- ---- contacts
 
@@ -112,18 +126,18 @@ cell_small size named = omega (arith, free_small (min 256 (size / 2064)) 0 named
 
 -- ---- offers
 
--- an envelope's tag and copies are in range
+-- an envelope's header is in range
 abbrev pub Sound : Envelope → Type 0
-Sound e = Run 16 e.head.tag × (e.head.copies < 2 ^ 8)
+Sound e = ProperHeader e.head
 
 module _ (s : State) (g : Good s) (peer : ContactId) where
-  envelopes_proper : All Sound (envelopes s.own s.carried peer)
+  pub envelopes_proper : All Sound (envelopes s.own s.carried peer)
   unfolding envelopes own_envelope_of carried_envelope_of
   envelopes_proper =
       all_append (map own_envelope_of (filter (not_for peer) s.own)) (map carried_envelope_of s.carried)
       (all_map own_envelope_of (filter (not_for peer) s.own)
-      (all_imp (λ o p. (p.tag, p.copies)) (filter (not_for peer) s.own) (all_filter (not_for peer) s.own g.own)))
-      (all_map carried_envelope_of s.carried (all_imp (λ r p. (p.tag, p.copies)) s.carried g.carried))
+      (all_imp (λ o p. record { tag = p.tag; c = commitment_run o.s; expiry_min = p.expiry_min; copies = p.copies }) (filter (not_for peer) s.own) (all_filter (not_for peer) s.own g.own)))
+      (all_map carried_envelope_of s.carried (all_imp (λ r p. record { tag = p.tag; c = p.c; expiry_min = p.expiry_min; copies = p.copies }) s.carried g.carried))
 
   pub envelopes_few : length (envelopes s.own s.carried peer) ≤ 512
   unfolding envelopes
@@ -146,7 +160,7 @@ module _ (s : State) (g : Good s) (peer : ContactId) where
   offers_proper =
       let es : List Envelope = envelopes s.own s.carried peer in
       all_map halved (filter offered es)
-      (all_imp (λ e p. (p.0, omega (arith, p.1))) (filter offered es) (all_filter offered es envelopes_proper))
+      (all_imp (λ e p. record { tag = p.tag; c = p.c; expiry_min = p.expiry_min; copies = omega (arith, p.copies) }) (filter offered es) (all_filter offered es envelopes_proper))
 
   pub offers_few : length (offers s peer) ≤ 512
   unfolding offers
@@ -154,29 +168,26 @@ module _ (s : State) (g : Good s) (peer : ContactId) where
       let es : List Envelope = envelopes s.own s.carried peer in
       omega (arith, length-map (filter offered es) halved, length_filter offered es, envelopes_few)
 
-insert_one : (e : Envelope) (os : List Offer) → Sound e → All ProperOffer os → All ProperOffer (insert_offer e os) × (length (insert_offer e os) ≤ length os + 1)
+pub insert_one : (e : Envelope) (os : List Offer) → ProperOffer (record { tag = e.head.tag; copies = e.head.copies }) → All ProperOffer os → All ProperOffer (insert_offer e os) × (length (insert_offer e os) ≤ length os + 1)
 unfolding insert_offer
 insert_one e os p q = go (position (offer_of_tag e.head.tag) os) refl
   where
     o : Offer
     o = record { tag = e.head.tag; copies = e.head.copies }
 
-    proper : ProperOffer o
-    proper = record { tag = p.0; copies = p.1 }
-
     go : (f : Option ℕ) → position (offer_of_tag e.head.tag) os ≡ f
         → All ProperOffer (match_found f (λ i. replace_at i o os) (os ++ (o ∷ []))) × (length (match_found f (λ i. replace_at i o os) (os ++ (o ∷ []))) ≤ length os + 1)
     go (Some i) k = (
-      all_replace_at i o os q proper,
+      all_replace_at i o os q p,
       omega (arith, length_replace_at os i o (position_first (offer_of_tag e.head.tag) os no_offer i k).inside),
     )
-    go None k = (all_push os o q proper, omega (arith, length-append os (o ∷ [])))
+    go None k = (all_push os o q p, omega (arith, length-append os (o ∷ [])))
 
 pub inserted : (es : List Envelope) (os : List Offer) → All Sound es → All ProperOffer os
     → All ProperOffer (insert_offers es os) × (length (insert_offers es os) ≤ length os + length es)
 unfolding insert_offers
 inserted [] os p q = (q, omega arith)
 inserted (e ∷ es) os (more h p) q =
-    let one = insert_one e os h q in
+    let one = insert_one e os (record { tag = h.tag; copies = h.copies }) q in
     let rest = inserted es (insert_offer e os) p one.0 in
     (rest.0, omega (arith, one.1, rest.1))

@@ -13,14 +13,16 @@ use Rattle.table.specs.Lists as lists
 use Rattle.table.specs.Rows.{join}
 use Rattle.table.proofs.ListLaws.{all_each, all_map}
 use Rattle.table.proofs.RowLaws.{length_join, join_append}
+use Rattle.state.specs.Sizes.{cell_size}
 use Rattle.rows.specs.declared.Carried.{Carried}
 use Rattle.rows.specs.declared.Tombstone.{Tombstone}
 use Rattle.rows.specs.declared.Action.{Action}
 use Rattle.rows.specs.Rows.{action_bytes}
+use Rattle.rows.specs.Limits.{max_cells}
 use Rattle.model.specs.Basics.{merge}
 use Rattle.model.specs.State.{State}
 use Rattle.model.specs.Calls.{Cells, of_own, of_carried, no_cell, cell_from, first_cell, reply_cell}
-use Rattle.model.specs.Cells.{cell_size, max_cells, cell_start, cell_length, ciphertext}
+use Rattle.model.specs.Cells.{cell_start, cell_length, ciphertext}
 use Rattle.model.specs.Custody.{carried_total}
 use Rattle.model.specs.Tombs.{no_tombstone, least_from, least_expiry}
 use Rattle.model.specs.Saved.{Slotted, saved_carried, saved_tombstones, saved_rows, save_held, IsSaved}

@@ -10,6 +10,7 @@ pub mod RunLaws
 pub mod CallLaws
 pub mod CellLaws
 pub mod CornerLaws
+pub mod AloneLaws
 pub mod BeforeLaws
 pub mod FetchLaws
 pub mod RefusalLaws
@@ -22,3 +23,4 @@ pub mod ScreenLaws
 pub mod ScreenCorners
 pub mod FetchCorners
 pub mod OfferCorners
+pub mod CallCorners

@@ -1,6 +1,7 @@
 -- "Exactly if", and "Nothing changes on a refusal": a call is refused with the first of its tests that holds, and then leaves every byte.
 -- Assumes nothing.
 use Rattle.std.proofs.Common.{◌≡◌, ℕ, Bool, true, false, cond, eqb, ◌⊎◌, List, [], ◌∷◌, ◌++◌, length, sym, refl, ap, ◌∙◌, inl, inr, ⊎_elim, Option, Some, None}
+use Rattle.std.specs.Prelude
 use mathlib.Core.Bool.{false≢true}
 use Rattle.courier_core.specs.declared.ContactId.{ContactId}
 use Rattle.courier_core.specs.declared.Refusal.{Refusal}
@@ -12,7 +13,7 @@ use Rattle.table.specs.Codec.{with_table}
 use Rattle.model.specs.Basics.{match_found, match_some, find}
 use Rattle.model.specs.State.{State}
 use Rattle.model.specs.Calls
-use Rattle.model.specs.Calls.{Call, Answer, Result, refused, only, step_of}
+use Rattle.model.specs.Calls.{Call, Answer, Result, refused, only, step_of, is_refused}
 use Rattle.model.specs.Contacts.{set_contact, set_config, set_clock, open_exchanged}
 use Rattle.model.specs.Window.{window_rows, prefix_rows, lookup}
 use Rattle.model.specs.Custody.{ours_at, answer_custody, receive_envelope}
@@ -23,8 +24,9 @@ use Rattle.model.specs.Maintenance.{maintain_couriers}
 use Rattle.model.specs.Saved.{Slotted, held_rows, row_blob_of, save_held}
 use Rattle.model.specs.Screen.{show_page}
 use Rattle.model.specs.Step.{tests, perform, step}
-use Rattle.model.specs.Areas.{Areas, AnswerAreas, Written, view, store, store_device, store_session, answer_areas}
-use Rattle.model.specs.Lent.{Does, refused_or}
+use Rattle.model.specs.Areas.{Areas, AnswerAreas, view, store, store_device, store_session, answer_areas}
+use Rattle.model.specs.Lent.{Does}
+use Rattle.model.proofs.KeepLaws.{Passed}
 
 -- ---- the words
 
@@ -42,9 +44,6 @@ pub record RefusedExactly (ts : List (Bool × Refusal)) (o : Result) : Type 0 wh
   pub unchanged : (why : Refusal) → o.answer ≡ refused why → o ≡ only (refused why)
 
 -- ---- a list of tests
-
-abbrev pub is_refused : Answer → Bool
-is_refused a = refused_or (λ why. true) false a
 
 -- what a call performs where no test holds says no refusal
 pub data Performed (o : Result) : Type 0 where
@@ -82,11 +81,15 @@ exactly ts p n = record {
 -- ---- what holds of a result by cases: of a call, of a test, of a search
 
 module _ (P : Result → Type 0) where
-  pub of_step : (ts : List (Bool × Refusal)) (p : Result) → ((why : Refusal) → P (only (refused why))) → P p → P (step_of ts p)
+  -- what is performed has passed every test
+  pub of_passed : (ts : List (Bool × Refusal)) (p : Result) → ((why : Refusal) → P (only (refused why))) → (Passed ts → P p) → P (step_of ts p)
   unfolding step_of
-  of_step [] p r q = q
-  of_step ((true, why) ∷ ts) p r q = r why
-  of_step ((false, why) ∷ ts) p r q = of_step ts p r q
+  of_passed [] p r q = q tt
+  of_passed ((true, why) ∷ ts) p r q = r why
+  of_passed ((false, why) ∷ ts) p r q = of_passed ts p r (λ h. q (refl, h))
+
+  pub of_step : (ts : List (Bool × Refusal)) (p : Result) → ((why : Refusal) → P (only (refused why))) → P p → P (step_of ts p)
+  of_step ts p r q = of_passed ts p r (λ h. q)
 
   pub by_test : (b : Bool) {x y : Result} → P x → P y → P (cond b x y)
   by_test true p q = p
@@ -166,13 +169,14 @@ refused_exactly s c = exactly (tests s c) (perform s c) (performed s c)
 -- ---- on areas
 
 -- a call that only answers leaves every byte of every area, and of every area that is lent for an answer
-pub only_leaves : {A : Type 0} {f : Result → A} {o : Result} {r : A} {before after : Areas} {lent back : AnswerAreas} (m : Answer) → o ≡ only m
-    → Written f o r before after lent back → (after ≡ before) × (back ≡ lent)
+pub only_leaves : {o : Result} {before after : Areas} {lent back : AnswerAreas} (m : Answer) → o ≡ only m → after ≡ store before o.change
+    → back ≡ answer_areas o lent → (after ≡ before) × (back ≡ lent)
 unfolding store store_device store_session answer_areas with_table written join splice
-only_leaves {before = before} {lent = lent} m e w =
-    (w.areas ∙ ap (λ (o : Result). store before o.change) e, w.answers ∙ ap (λ (o : Result). answer_areas o lent) e)
+only_leaves {before = before} {lent = lent} m e s b =
+    (s ∙ ap (λ (o : Result). store before o.change) e, b ∙ ap (λ (o : Result). answer_areas o lent) e)
 
 -- "Nothing changes on a refusal."
-pub refused_leaves : {A : Type 0} {f : Result → A} {r : A} (c : Call) {before after : Areas → Areas} {lent back : AnswerAreas}
+pub refused_leaves : {A : Type 0} {f : Result → A} {r : Prelude.Result A Refusal} (c : Call) {before after : Areas → Areas} {lent back : AnswerAreas}
     → Does f c r before after lent back → (a : Areas) (why : Refusal) → (step (view (before a)) c).answer ≡ refused why → (after a ≡ before a) × (back ≡ lent)
-refused_leaves c {before} does a why e = only_leaves (refused why) ((refused_exactly (view (before a)) c).unchanged why e) (does a)
+refused_leaves c {before} does a why e =
+    only_leaves (refused why) ((refused_exactly (view (before a)) c).unchanged why e) (does a).areas (does a).answers

@@ -14,6 +14,7 @@ use Rattle.table.proofs.FindLaws.{position_le}
 use Rattle.table.proofs.TableLaws.{length_table}
 use Rattle.rows.specs.declared.Tombstone.{Tombstone}
 use Rattle.rows.specs.Rows.{tombstone_width, tombstone_codec}
+use Rattle.rows.specs.Limits.{max_tombstones}
 use Rattle.model.specs.State.{State}
 use Rattle.model.specs.Calls
 use Rattle.model.specs.Calls.{Call, Result, refused, only, short_actions, step_of}
@@ -45,18 +46,18 @@ least_inside i best low n (t ∷ ts) h k =
     go false p q = q
 
 -- at 1,024 or more one goes, below none
-pub one_left : (ts : List Tombstone) → 1024 ≤ length ts → length (remaining ts) ≡ length ts - 1
+pub one_left : (ts : List Tombstone) → max_tombstones ≤ length ts → length (remaining ts) ≡ length ts - 1
 unfolding remaining
 one_left ts h =
     ap (λ (b : Bool). length (cond b (remove_at (least_expiry ts) ts) ts)) (le-leb 1024 (length ts) h)
     ∙ length_remove_at ts (least_expiry ts) (least_inside 0 0 (2 ^ 32) (length ts) ts (omega (arith, h)) (omega arith))
 
-pub all_left : (ts : List Tombstone) → length ts < 1024 → remaining ts ≡ ts
+pub all_left : (ts : List Tombstone) → length ts < max_tombstones → remaining ts ≡ ts
 unfolding remaining
 all_left ts h = ap (λ (b : Bool). cond b (remove_at (least_expiry ts) ts) ts) (lt-leb 1024 (length ts) h)
 
 -- where there are at most n, and n is 1,024 or more, at least one of n rows is free once room is made
-pub room_made : (ts : List Tombstone) (n : ℕ) → 1024 ≤ n → length ts ≤ n → length (remaining ts) < n
+pub room_made : (ts : List Tombstone) (n : ℕ) → max_tombstones ≤ n → length ts ≤ n → length (remaining ts) < n
 room_made ts n h k = go (leb 1024 (length ts)) refl
   where
     go : (b : Bool) → leb 1024 (length ts) ≡ b → length (remaining ts) < n
@@ -135,7 +136,7 @@ pub record TurnsAtLimit (s : State) (actions : ℕ) (peer : ContactId) (tag secr
   pub meeting : meets s.own s.carried tag secret ≡ carried_at place
   pub many : 1024 ≤ length s.tombstones
 
-none_evicted : (ts : List Tombstone) → length ts < 1024 → evicted ts ≡ []
+none_evicted : (ts : List Tombstone) → length ts < max_tombstones → evicted ts ≡ []
 unfolding evicted
 none_evicted ts h = rw (lt-leb 1024 (length ts) h)
 

@@ -11,7 +11,7 @@ use Rattle.table.proofs.ListLaws.{all_imp}
 use Rattle.rows.specs.Rows.{contact_codec, own_codec, carried_codec, tombstone_codec, bad_tag_codec, offer_codec}
 use Rattle.rows.specs.declared.Exchange.{Exchange}
 use Rattle.rows.specs.Device.{closed_exchange}
-use Rattle.model.specs.State.{State, Session, Change, apply, nobody, no_session, with_session}
+use Rattle.model.specs.State.{State, Session, SessionChange, Change, apply, laid, nobody, no_session, with_session}
 use Rattle.model.specs.Window.{prefix_codec}
 use Rattle.model.specs.Step.{Post, Lent, empty_state, step, state_for, answer_to, after, run}
 use Rattle.model.specs.Areas.{Areas, SessionAreas, PostAreas, no_session_areas, view, view_session, view_post, store, areas_for, after_areas, run_areas, Fresh}
@@ -41,6 +41,18 @@ module _ {A : Type 0} {P : A → Type 0} where
   all_set (y ∷ ys) zero x (more h p) q = more q p
   all_set (y ∷ ys) (suc i) x (more h p) q = more h (all_set ys i x p q)
 
+map_laid : {A B : Type 0} (f : A → B) (cs : List SessionChange) (xs ys : List A) → map f (laid cs xs ys) ≡ laid cs (map f xs) (map f ys)
+map_laid f [] xs ys = refl
+map_laid f (c ∷ cs) xs ys = refl
+
+all_laid : {A : Type 0} {P : A → Type 0} (cs : List SessionChange) (xs ys : List A) → All P xs → All P ys → All P (laid cs xs ys)
+all_laid [] xs ys p q = p
+all_laid (c ∷ cs) xs ys p q = q
+
+all_unviewed : (es : List SessionAreas) → All GoodSession (map view_session es) → All GoodAreas es
+all_unviewed [] p = none
+all_unviewed (e ∷ es) (more h p) = more h (all_unviewed es p)
+
 -- ---- the session that is lent
 
 pub no_session_lem : view_session no_session_areas ≡ no_session
@@ -65,11 +77,16 @@ good_with s e g h = record {
   next_slot = g.next_slot;
   copies = g.copies;
   session = h;
+  sessions = g.sessions;
 }
 
 session_of : (a : Areas) → Good (view a) → GoodSession (view_session a.session)
 unfolding view
 session_of a g = g.session
+
+sessions_of : (a : Areas) → Good (view a) → All GoodAreas a.sessions
+unfolding view
+sessions_of a g = all_unviewed a.sessions g.sessions
 
 module _ (p : PostAreas) (l : Lent) where
   pub lent_view : view (areas_for p l) ≡ state_for (view_post p) l
@@ -110,15 +127,17 @@ module _ (p : PostAreas) (l : Lent) (g : GoodPost p) (h : ProperCall l.call) whe
   -- what the model does with the state that the areas show
   post_of_lem : State → Post
   post_of_lem s =
-      let t : State = apply s (step s l.call).change in
-      record { state = t; sessions = set (map view_session p.sessions) l.session t.session }
+      let c : Change = (step s l.call).change in
+      let t : State = apply s c in
+      record { state = t; sessions = laid c.sessions (set (map view_session p.sessions) l.session t.session) t.sessions }
 
   pub after_areas_lem : view_post (after_areas p l) ≡ after (view_post p) l
   unfolding A change view_post after_areas after answer_to post_of_lem view
   after_areas_lem =
       ap₂ (λ (s : State) (es : List Session). record { state = s; sessions = es }) viewed
-      (map-set view_session p.sessions l.session (store A change).session
-      ∙ ap (λ (s : State). set (map view_session p.sessions) l.session s.session) viewed)
+      (map_laid view_session change.sessions (set p.sessions l.session (store A change).session) (store A change).sessions
+      ∙ ap (λ (xs : List Session). laid change.sessions xs (map view_session (store A change).sessions)) (map-set view_session p.sessions l.session (store A change).session)
+      ∙ ap (λ (s : State). laid change.sessions (set (map view_session p.sessions) l.session s.session) s.sessions) viewed)
       ∙ ap post_of_lem (lent_view p l)
 
   pub good_after : GoodPost (after_areas p l)
@@ -128,7 +147,9 @@ module _ (p : PostAreas) (l : Lent) (g : GoodPost p) (h : ProperCall l.call) whe
       record {
         sized = sized_store A change (lent_sized p l g) kept;
         good = g';
-        sessions = all_set p.sessions l.session (store A change).session g.sessions (session_of (store A change) g');
+        sessions = all_laid change.sessions (set p.sessions l.session (store A change).session) (store A change).sessions
+            (all_set p.sessions l.session (store A change).session g.sessions (session_of (store A change) g'))
+            (sessions_of (store A change) g');
       }
 
 -- ---- a list of calls
@@ -191,6 +212,7 @@ module _ (p : PostAreas) (f : Fresh p) where
     tombstone_rows = length p.areas.tombstones / 44;
     bad_tag_rows = length p.areas.bad_tags / 24;
     session = (ap view_session f.lent ∙ no_session_lem) i;
+    sessions = ap (map view_session) f.others i;
   }
 
   pub fresh_view : view_post p ≡ fresh_post p
@@ -214,6 +236,7 @@ module _ (p : PostAreas) (f : Fresh p) where
       next_slot = omega arith;
       copies = c;
       session = no_session_good;
+      sessions = none;
     });
     sessions = all_imp closed_good p.sessions f.sessions;
   }

@@ -9,7 +9,7 @@ use Rattle.state.specs.Config.{config_default}
 use Rattle.rows.specs.declared.Carried.{Carried}
 use Rattle.model.specs.Basics.{merge}
 use Rattle.model.specs.State.{State, apply, carried_now, tombstones_now, ◌and◌}
-use Rattle.model.specs.Calls.{wrote, step_of}
+use Rattle.model.specs.Calls.{wrote, step_of, done_with}
 use Rattle.model.specs.Contacts.{now_min}
 use Rattle.model.specs.Screen.{shown, page_rows, line_front, minutes_left, carried_end, screen_line, heading, page_bytes, page_tests, show_page}
 use Rattle.model.specs.Step.{empty_state, tests, perform, step}
@@ -59,7 +59,7 @@ pub page_seen : (page_of seen 0).bytes ≡
 unfolding bytes_of line_of seen step step_of tests perform apply now_min merge join column hexes shown page_rows line_front minutes_left carried_end screen_line heading page_bytes page_tests show_page
 page_seen = refl
 
-pub page_counted : (page_of seen 0).answer ≡ wrote 567
+pub page_counted : (page_of seen 0).answer ≡ done_with (wrote 567)
 unfolding seen step step_of tests perform apply now_min merge join column hexes shown page_rows line_front minutes_left carried_end screen_line heading page_bytes page_tests show_page
 page_counted = refl
 

@@ -18,7 +18,7 @@ use Rattle.rows.specs.Rows.{carried_codec, carried_of, tombstone_codec, tombston
 use Rattle.model.specs.Basics.{trunc8}
 use Rattle.model.specs.State.{State}
 use Rattle.model.specs.Calls
-use Rattle.model.specs.Calls.{Result, wrote}
+use Rattle.model.specs.Calls.{Result, wrote, done_with}
 use Rattle.model.specs.Contacts.{minute_of}
 use Rattle.model.specs.Saved.{writes}
 use Rattle.model.specs.Screen
@@ -157,7 +157,7 @@ module _ (s : State) (whole : WholeTags s) where
   screen_pages = record {
     short = page_short;
     enough = λ area n h. performed area n h ∙ sym (at_page n);
-    counted = λ n. ap (λ (o : Result). o.answer) (at_page n) ∙ ap wrote (page_size_lem n);
+    counted = λ n. ap (λ (o : Result). o.answer) (at_page n) ∙ ap (λ (k : ℕ). done_with (wrote k)) (page_size_lem n);
     size = λ n. ap (λ (o : Result). length o.bytes) (at_page n) ∙ page_size_lem n;
     first = λ n. ap (λ (o : Result). take 81 o.bytes) (at_page n) ∙ page_first n;
     past = λ n h. ap (λ (o : Result). o.bytes) (at_page n) ∙ page_past n h;

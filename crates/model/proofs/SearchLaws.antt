@@ -2,6 +2,7 @@
 -- Assumes nothing.
 use Rattle.std.proofs.Common.{◌≡◌, ℕ, suc, ◌-◌, ◌≤◌, Bool, true, false, cond, ◌&&◌, List, [], ◌∷◌, ◌++◌, map, get_or, sym, refl, ap, ◌∙◌, arith, Some, None}
 use Rattle.table.specs.Lists.{position_from, position, filter}
+use Rattle.table.proofs.ListLaws.{all_each, filter_all}
 use Rattle.model.specs.Basics.{find}
 
 -- among those kept, each made into something else, with more behind
@@ -37,15 +38,10 @@ module _ {A E : Type 0} (f : A → E) (p : E → Bool) (k : A → Bool) (ys : Li
       go true false t u h rest = rw u (rest h)
       go false c t u h rest = rest h
 
-pub filter_all : {A : Type 0} (xs : List A) → filter (λ (x : A). true) xs ≡ xs
-unfolding filter
-filter_all [] = refl
-filter_all (x ∷ xs) = ap (λ (l : List _). x ∷ l) (filter_all xs)
-
 -- among all, each made into something else, with more behind
 module _ {A E : Type 0} (f : A → E) (p : E → Bool) (ys : List E) (xs : List A) where
   unfiltered : find p (map f xs ++ ys) ≡ find p (map f (filter (λ (x : A). true) xs) ++ ys)
-  unfiltered = ap (λ (l : List A). find p (map f l ++ ys)) (sym (filter_all xs))
+  unfiltered = ap (λ (l : List A). find p (map f l ++ ys)) (sym (filter_all (λ x. true) xs (all_each (λ x. refl) xs)))
 
   pub found_in : (d : A) (i : ℕ) → Some i ≡ position (λ (x : A). p (f x)) xs → find p (map f xs ++ ys) ≡ Some (f (get_or xs i d))
   found_in d i e = unfiltered ∙ find_at f p (λ (x : A). true) ys d xs i (sym e)

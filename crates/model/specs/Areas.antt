@@ -1,15 +1,19 @@
 -- The areas that a host lends: what they hold (view), what a change leaves in them (store), and what every call's contract says.
 -- Assumes nothing.
+use Rattle.std.specs.Prelude
 use Rattle.std.specs.Prelude.{◌≡◌, ℕ, ◌/◌, min, List, [], ◌∷◌, map, length, slice_index_or, slice_set}
 use Rattle.octets.specs.Bytes.{splice}
+use Rattle.courier_core.specs.Core.{number_of}
+use Rattle.courier_core.specs.declared.Refusal.{Refusal}
 use Rattle.table.specs.Lists.{All}
 use Rattle.table.specs.Codec.{Codec, table_of, with_table}
 use Rattle.rows.specs.declared.Device.{Device}
 use Rattle.rows.specs.declared.Exchange.{Exchange}
 use Rattle.rows.specs.Rows.{tombstone_width, bad_tag_width, carried_codec, own_codec, tombstone_codec, contact_codec, bad_tag_codec, offer_codec, reply_codec, action_codec}
-use Rattle.rows.specs.Device.{closed_exchange}
-use Rattle.model.specs.State.{State, Session, Upd, keep, now, upd, Change}
-use Rattle.model.specs.Calls.{Result}
+use Rattle.rows.specs.Device.{fresh_device, closed_exchange}
+use Rattle.rows.specs.Limits.{max_inventory, max_offers}
+use Rattle.model.specs.State.{State, Session, SessionChange, Upd, keep, now, upd, laid, Change}
+use Rattle.model.specs.Calls.{Result, answer_number, answer_of}
 use Rattle.model.specs.Window.{prefix_codec}
 use Rattle.model.specs.Step.{Post, Lent, step}
 
@@ -29,17 +33,18 @@ pub record Areas : Type 0 where
   pub own_cells : List ℕ
   pub carried_cells : List ℕ
   pub session : SessionAreas
+  pub sessions : List SessionAreas  -- all that are open, where a call is lent them all
 
 -- ---- view: each table, its count cut to what fits
 
--- counts of an exchange above 512 are 512
+-- counts of an exchange above max_inventory and max_offers are those
 unfoldable pub view_session : SessionAreas → Session
 view_session e = record {
   exchange = record {
     peer = e.exchange.peer;
     complete = e.exchange.complete;
-    listed = table_of prefix_codec (min 512 e.exchange.listed) e.prefixes;
-    offered = table_of offer_codec (min 512 e.exchange.offered) e.offers;
+    listed = table_of prefix_codec (min max_inventory e.exchange.listed) e.prefixes;
+    offered = table_of offer_codec (min max_offers e.exchange.offered) e.offers;
   };
   prefix_area = length e.prefixes;
   offer_area = length e.offers;
@@ -60,6 +65,7 @@ view a = record {
   tombstone_rows = length a.tombstones / tombstone_width;
   bad_tag_rows = length a.bad_tags / bad_tag_width;
   session = view_session a.session;
+  sessions = map view_session a.sessions;
 }
 
 -- ---- store: what is kept stays, counts that are anything among it
@@ -77,15 +83,15 @@ unfoldable pub store_device : Device → Change → Device
 store_device d c = record {
   courier = upd d.courier c.courier;
   now_s = upd d.now_s c.now_s;
-  contacts = count_after d.contacts c.contacts;
-  own = count_after d.own c.own;
-  carried = count_after d.carried c.carried;
-  tombstones = count_after d.tombstones c.tombstones;
-  bad_tags = count_after d.bad_tags c.bad_tags;
+  contacts = count_after d.contacts c.people.contacts;
+  own = count_after d.own c.queue.own;
+  carried = count_after d.carried c.held.carried;
+  tombstones = count_after d.tombstones c.held.tombstones;
+  bad_tags = count_after d.bad_tags c.people.bad_tags;
   next_slot = upd d.next_slot c.next_slot;
 }
 
-unfoldable pub store_session : SessionAreas → Change → SessionAreas
+unfoldable pub store_session : SessionAreas → SessionChange → SessionAreas
 store_session e c = record {
   exchange = record {
     peer = upd e.exchange.peer c.peer;
@@ -97,17 +103,23 @@ store_session e c = record {
   offers = bytes_after offer_codec e.offers c.offered;
 }
 
+abbrev pub store_sessions : List SessionAreas → List SessionChange → List SessionAreas
+store_sessions es [] = es
+store_sessions [] (c ∷ cs) = []
+store_sessions (e ∷ es) (c ∷ cs) = store_session e c ∷ store_sessions es cs
+
 unfoldable pub store : Areas → Change → Areas
 store a c = record {
   device = store_device a.device c;
-  contacts = bytes_after contact_codec a.contacts c.contacts;
-  own = bytes_after own_codec a.own c.own;
-  carried = bytes_after carried_codec a.carried c.carried;
-  tombstones = bytes_after tombstone_codec a.tombstones c.tombstones;
-  bad_tags = bytes_after bad_tag_codec a.bad_tags c.bad_tags;
-  own_cells = upd a.own_cells c.own_cells;
-  carried_cells = upd a.carried_cells c.carried_cells;
-  session = store_session a.session c;
+  contacts = bytes_after contact_codec a.contacts c.people.contacts;
+  own = bytes_after own_codec a.own c.queue.own;
+  carried = bytes_after carried_codec a.carried c.held.carried;
+  tombstones = bytes_after tombstone_codec a.tombstones c.held.tombstones;
+  bad_tags = bytes_after bad_tag_codec a.bad_tags c.people.bad_tags;
+  own_cells = upd a.own_cells c.queue.own_cells;
+  carried_cells = upd a.carried_cells c.held.carried_cells;
+  session = store_session a.session c.session;
+  sessions = store_sessions a.sessions c.sessions;
 }
 
 -- ---- what every call's contract says
@@ -126,9 +138,16 @@ answer_areas o lent = record {
   bytes = splice lent.bytes 0 o.bytes;
 }
 
--- A call whose result is o answers r, which in its own enum says what o does; and every byte of every area is told.
-pub record Written {A : Type 0} (says : Result → A) (o : Result) (r : A) (before after : Areas) (lent back : AnswerAreas) : Type 0 where
-  pub answer : r ≡ says o
+-- A call whose result is o answers r: its refusal, whose number is told, or what it says of o; and every byte of every area is told.
+pub record Written {A : Type 0} (says : Result → A) (o : Result) (r : Prelude.Result A Refusal) (before after : Areas) (lent back : AnswerAreas) : Type 0 where
+  pub answer : r ≡ answer_of says o
+  pub number : number_of r ≡ answer_number o.answer
+  pub areas : after ≡ store before o.change
+  pub answers : back ≡ answer_areas o lent
+
+-- The same where a result is told in other words, as a host and the drill have it: r is what `tells` makes of o.
+pub record Retold {B : Type 0} (tells : Result → B) (o : Result) (r : B) (before after : Areas) (lent back : AnswerAreas) : Type 0 where
+  pub answer : r ≡ tells o
   pub areas : after ≡ store before o.change
   pub answers : back ≡ answer_areas o lent
 
@@ -142,16 +161,21 @@ abbrev pub no_session_areas : SessionAreas
 no_session_areas = record { exchange = closed_exchange; prefixes = []; offers = [] }
 
 abbrev pub with_session_areas : Areas → SessionAreas → Areas
-with_session_areas a e = record {
-  device = a.device;
-  contacts = a.contacts;
-  own = a.own;
-  carried = a.carried;
-  tombstones = a.tombstones;
-  bad_tags = a.bad_tags;
-  own_cells = a.own_cells;
-  carried_cells = a.carried_cells;
-  session = e;
+with_session_areas a e = record a { session = e }
+
+-- areas of no byte, with a fresh device
+abbrev pub no_areas : Areas
+no_areas = record {
+  device = fresh_device;
+  contacts = [];
+  own = [];
+  carried = [];
+  tombstones = [];
+  bad_tags = [];
+  own_cells = [];
+  carried_cells = [];
+  session = no_session_areas;
+  sessions = [];
 }
 
 unfoldable pub areas_for : PostAreas → Lent → Areas
@@ -159,8 +183,9 @@ areas_for p l = with_session_areas p.areas (slice_index_or p.sessions l.session 
 
 unfoldable pub after_areas : PostAreas → Lent → PostAreas
 after_areas p l =
-    let a : Areas = store (areas_for p l) (step (view (areas_for p l)) l.call).change in
-    record { areas = a; sessions = slice_set p.sessions l.session a.session }
+    let c : Change = (step (view (areas_for p l)) l.call).change in
+    let a : Areas = store (areas_for p l) c in
+    record { areas = a; sessions = laid c.sessions (slice_set p.sessions l.session a.session) a.sessions }
 
 unfoldable pub run_areas : PostAreas → List Lent → PostAreas
 run_areas p [] = p
@@ -178,4 +203,5 @@ pub record Fresh (p : PostAreas) : Type 0 where
   pub bad_tags : p.areas.device.bad_tags ≡ 0
   pub next_slot : p.areas.device.next_slot ≡ 0
   pub lent : p.areas.session ≡ no_session_areas
+  pub others : p.areas.sessions ≡ []
   pub sessions : All (λ (e : SessionAreas). e.exchange ≡ closed_exchange) p.sessions

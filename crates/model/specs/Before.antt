@@ -1,6 +1,6 @@
 -- The rules as they were before a request of document 02 changed them. Theorems cite them to say what the request changes; no contract does.
 -- Assumes nothing.
-use Rattle.std.specs.Prelude.{ℕ, Bool, true, cond, not, ◌&&◌, List, [], ◌∷◌, ◌++◌, map, length, ◌==◌, nat_le, nat_lt, slice_index_or, slice_set}
+use Rattle.std.specs.Prelude.{ℕ, Bool, true, cond, not, ◌&&◌, List, [], ◌∷◌, ◌++◌, map, length, ◌==◌, nat_le, nat_lt, slice_index_or}
 use mathlib.Core.List.{flat_map}
 use Rattle.octets.specs.Bytes.{same_bytes}
 use Rattle.courier_core.specs.declared.ContactId.{ContactId}
@@ -12,7 +12,7 @@ use Rattle.rows.specs.declared.Tombstone.{Tombstone}
 use Rattle.rows.specs.declared.Reply.{Reply}
 use Rattle.rows.specs.declared.Reachable.{Reachable}
 use Rattle.model.specs.Basics.{match_found, trunc8}
-use Rattle.model.specs.State.{State, carried_now, tombstones_now, complete_now, listed_now, offered_now, ◌and◌, apply}
+use Rattle.model.specs.State.{State, carried_now, tombstones_now, complete_now, listed_now, offered_now, ◌and◌}
 use Rattle.model.specs.Calls
 use Rattle.model.specs.Calls.{Call, Result, result, only, done, malformed, fetch_reply, put_courier, short_actions, step_of}
 use Rattle.model.specs.Contacts.{known}
@@ -20,7 +20,7 @@ use Rattle.model.specs.Window.{no_reachable, window_rows, prefix_rows, lookup, i
 use Rattle.model.specs.Custody.{tombstone_of_tag}
 use Rattle.model.specs.Exchange.{Envelope, no_carried, envelopes, reply_for, fetch_for, tomb_for, halved, insert_offers, answer_listed, list_more, too_many}
 use Rattle.model.specs.Tombs.{Met, carried_at, own_at, wrong, unknown, insert_by_slot, turned, receive_tomb, tomb_tests}
-use Rattle.model.specs.Step.{Post, Lent, tests, perform, state_for}
+use Rattle.model.specs.Step.{Post, Lent, tests, perform, state_for, left_by}
 
 -- ---- before Two: a tombstoned tag was fetched too
 
@@ -84,9 +84,7 @@ module _ (answer : State → List Reachable → ContactId → Result) where
 
   -- a list of calls
   unfoldable pub after_before : Post → Lent → Post
-  after_before p l =
-      let s : State = apply (state_for p l) (step_before (state_for p l) l.call).change in
-      record { state = s; sessions = slice_set p.sessions l.session s.session }
+  after_before p l = left_by p l (step_before (state_for p l) l.call).change
 
   unfoldable pub run_before : Post → List Lent → Post
   run_before p [] = p

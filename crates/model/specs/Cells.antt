@@ -3,13 +3,8 @@
 use Rattle.std.specs.Prelude.{ℕ, zero, suc, ◌-◌, ◌*◌, ◌/◌, min, Bool, cond, not, List, length, nat_eq, Option, Some, None}
 use Rattle.octets.specs.Bytes.{part}
 use Rattle.table.specs.Lists.{any, is_at, unwrap_or}
-
-abbrev pub cell_size : ℕ
-cell_size = 2064
-
--- the cells of an area that count, at most
-abbrev pub max_cells : ℕ
-max_cells = 256
+use Rattle.state.specs.Sizes.{cell_size}
+use Rattle.rows.specs.Limits.{max_cells}
 
 -- Where a ciphertext starts in an area of so many bytes, and its length. A row that no call left may name a cell or a length past a
 -- cell's or the area's end, or a cell that does not count: then the ciphertext is what lies inside the cells that count.

@@ -10,8 +10,9 @@ use Rattle.table.specs.Lists.{any, position, unwrap_or, replace_at}
 use Rattle.state.specs.declared.CourierConfig.{CourierConfig}
 use Rattle.state.specs.Config.{in_range}
 use Rattle.rows.specs.declared.Contact.{Contact}
+use Rattle.rows.specs.Limits.{max_contacts}
 use Rattle.model.specs.Basics.{match_found, same_contact}
-use Rattle.model.specs.State.{State, Change, now_snow, courier_now, contacts_now, peer_now, complete_now, listed_now, offered_now, ◌and◌}
+use Rattle.model.specs.State.{State, Change, clock_now, courier_now, contacts_now, peer_now, complete_now, listed_now, offered_now, ◌and◌}
 use Rattle.model.specs.Calls.{Result, result, done, short_exchange}
 
 -- ---- time
@@ -62,7 +63,7 @@ put_contact ps id v =
     match_found (contact_place ps id) (λ i. replace_at i p ps) (ps ++ (p ∷ []))
 
 unfoldable pub contact_tests : State → ContactId → List (Bool × Refusal)
-contact_tests s id = (not (known s.contacts id) && nat_le 256 (length s.contacts), refusal.LogRecord) ∷ []
+contact_tests s id = (not (known s.contacts id) && nat_le max_contacts (length s.contacts), refusal.LogRecord) ∷ []
 
 unfoldable pub set_contact : State → ContactId → Verification → Result
 set_contact s id v = result done [] [] (contacts_now (put_contact s.contacts id v))
@@ -76,7 +77,7 @@ unfoldable pub set_config : Bool → ℕ → ℕ → Result
 set_config enabled copies lifetime = result done [] [] (courier_now (record { enabled = enabled; copies = copies; lifetime_min = lifetime }))
 
 unfoldable pub set_clock : ℕ → Result
-set_clock seconds = result done [] [] (now_snow seconds)
+set_clock seconds = result done [] [] (clock_now seconds)
 
 -- ---- a fresh exchange
 

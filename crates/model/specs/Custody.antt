@@ -9,17 +9,19 @@ use Rattle.table.specs.Lists.{any, count_by, is_at}
 use Rattle.courier.specs.declared.Header.{Header}
 use Rattle.courier.specs.declared.Custody.{Custody}
 use Rattle.courier.specs.declared.Custody.TheVariants as custody
-use Rattle.courier.specs.Courier.{envelope_valid}
+use Rattle.courier.specs.Courier.{envelope_valid, envelope_header}
+use Rattle.state.specs.Sizes.{cell_size}
 use Rattle.rows.specs.declared.Own.{Own}
 use Rattle.rows.specs.declared.Carried.{Carried}
 use Rattle.rows.specs.declared.Tombstone.{Tombstone}
 use Rattle.rows.specs.declared.Reachable.{Reachable}
+use Rattle.rows.specs.Limits.{max_carried, max_carried_bytes, max_per_depositor, max_per_verified, u64_max}
 use Rattle.model.specs.Basics.{match_found, same_contact}
 use Rattle.model.specs.State.{State, Change, nothing, carried_now, carried_cells_now, next_slot_now, ◌and◌}
-use Rattle.model.specs.Calls.{Result, result, only, done, ours, short_replies, short_actions, put_courier, custody_reply}
+use Rattle.model.specs.Calls.{Result, result, only, done, ours, short_replies, short_actions, put_courier, custody_reply, done_with}
 use Rattle.model.specs.Contacts.{minute_of, end_of, known, is_verified}
 use Rattle.model.specs.Window.{no_reachable, window_rows, wrong_window, strangers, lookup}
-use Rattle.model.specs.Cells.{cell_size, cell_length, cells_used, new_cell}
+use Rattle.model.specs.Cells.{cell_length, cells_used, new_cell}
 
 -- ---- rows by tag
 
@@ -34,18 +36,9 @@ tombstone_of_tag tag t = same_bytes t.tag tag
 
 -- ---- `custody`
 
--- MAX_CARRIED, MAX_CARRIED_BYTES, MAX_PER_DEPOSITOR, MAX_PER_VERIFIED, ENVELOPE_HEADER
-abbrev pub max_carried : ℕ
-max_carried = 256
-
-abbrev pub max_carried_bytes : ℕ
-max_carried_bytes = 1048576
-
+-- the carried rows that a contact may have
 abbrev pub quota : Bool → ℕ
-quota verified = cond verified 32 16
-
-abbrev pub envelope_header : ℕ
-envelope_header = 37
+quota verified = cond verified max_per_verified max_per_depositor
 
 -- header and ciphertext bytes of carried rows, in a cell area of so many bytes
 unfoldable pub carried_total : ℕ → List Carried → ℕ
@@ -115,7 +108,7 @@ accepts s window peer head len = not (is_at (lookup window head.tag)) && is_acce
 
 -- number 6: a new slot is needed and next slot is 2^64 − 1
 abbrev pub last_slot : State → Bool
-last_slot s = s.next_slot == 18446744073709551615
+last_slot s = s.next_slot == u64_max
 
 unfoldable pub envelope_tests : State → ℕ → ℕ → List ℕ → ContactId → Header → ℕ → List (Bool × Refusal)
 envelope_tests s replies actions window peer head len =
@@ -127,7 +120,7 @@ envelope_tests s replies actions window peer head len =
     ∷ []
 
 unfoldable pub ours_at : Reachable → Result
-ours_at entry = only (ours entry.contact entry.generation entry.idx)
+ours_at entry = only (done_with (ours entry.contact entry.generation entry.idx))
 
 -- the reply is the code; Accepted alone holds a row
 unfoldable pub answer_custody : State → ContactId → Header → List ℕ → Custody → Result

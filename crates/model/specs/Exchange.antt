@@ -19,9 +19,11 @@ use Rattle.rows.specs.declared.Offer.{Offer}
 use Rattle.rows.specs.declared.Reply.{Reply}
 use Rattle.rows.specs.declared.Action.{Action}
 use Rattle.rows.specs.declared.Reachable.{Reachable}
+use Rattle.rows.specs.Limits.{max_inventory, prefix_area}
+use Rattle.rows.specs.Rows.{prefix_width}
 use Rattle.model.specs.Basics.{match_found, match_some, find, same_contact, trunc8}
 use Rattle.model.specs.State.{State, OpenExchange, Change, nothing, own_now, carried_now, complete_now, listed_now, offered_now, ◌and◌}
-use Rattle.model.specs.Calls.{Cells, of_own, of_carried, Result, result, telling, told_at, only, done, malformed, found, missing, wrote, short_replies, short_actions, short_exchange, put_courier, put_queued, fetch_reply, envelope_reply, tomb_reply}
+use Rattle.model.specs.Calls.{Cells, of_own, of_carried, Result, result, telling, told_at, only, done, malformed, found, missing, wrote, short_replies, short_actions, short_exchange, put_courier, put_queued, fetch_reply, envelope_reply, tomb_reply, done_with}
 use Rattle.model.specs.Contacts.{known, is_for}
 use Rattle.model.specs.Window.{no_reachable, window_rows, wrong_window, strangers, lookup, is_bad}
 use Rattle.model.specs.Cells.{cell_start, cell_length}
@@ -68,11 +70,11 @@ unfoldable pub inventory : State → ContactId → List (List ℕ)
 inventory s peer = map (λ (e : Envelope). trunc8 e.head.tag) (envelopes s.own s.carried peer)
 
 unfoldable pub inventory_tests : State → ℕ → ContactId → List (Bool × Refusal)
-inventory_tests s prefixes peer = (nat_lt prefixes 4096, refusal.ShortArea) ∷ (not (known s.contacts peer), refusal.UnknownContact) ∷ []
+inventory_tests s prefixes peer = (nat_lt prefixes prefix_area, refusal.ShortArea) ∷ (not (known s.contacts peer), refusal.UnknownContact) ∷ []
 
 unfoldable pub list_inventory : State → ContactId → Result
 list_inventory s peer = record {
-  answer = wrote (length (inventory s peer));
+  answer = done_with (wrote (length (inventory s peer)));
   replies = [];
   actions = [];
   bytes = join (inventory s peer);
@@ -93,23 +95,20 @@ cell_area s of_carried = s.carried_cells
 unfoldable pub fetched : State → Envelope → Result
 fetched s e =
     let size : ℕ = length (cell_area s e.cells) in
-    result (found e.cells (cell_start size e.cell) (cell_length size e.cell e.len)) (reply_for e ∷ []) [] nothing
+    result (done_with (found e.cells (cell_start size e.cell) (cell_length size e.cell e.len))) (reply_for e ∷ []) [] nothing
 
 abbrev pub envelope_of_tag : List ℕ → Envelope → Bool
 envelope_of_tag tag e = same_bytes e.head.tag tag
 
 unfoldable pub receive_fetch : State → ContactId → List ℕ → Result
-receive_fetch s peer tag = match_some (find (envelope_of_tag tag) (envelopes s.own s.carried peer)) (fetched s) (only missing)
+receive_fetch s peer tag = match_some (find (envelope_of_tag tag) (envelopes s.own s.carried peer)) (fetched s) (only (done_with missing))
 
 -- ---- `receive_inventory`
-
-abbrev pub max_inventory : ℕ
-max_inventory = 512
 
 unfoldable pub receive_inventory_tests : State → ℕ → List ℕ → ContactId → List ℕ → List (Bool × Refusal)
 receive_inventory_tests s replies window peer listed =
     (short_replies replies || short_exchange s, refusal.ShortArea)
-    ∷ (wrong_window window || ragged 8 listed, refusal.WindowRows)
+    ∷ (wrong_window window || ragged prefix_width listed, refusal.WindowRows)
     ∷ (not (known s.contacts peer) || strangers s.contacts (window_rows window), refusal.UnknownContact)
     ∷ (not (is_for peer s.session.exchange.peer), refusal.WrongExchange)
     ∷ []

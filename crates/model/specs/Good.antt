@@ -4,26 +4,27 @@ use Rattle.std.specs.Prelude.{◌≡◌, ℕ, ◌*◌, ◌^◌, ◌<◌, ◌≤�
 use Rattle.octets.specs.Bytes.{Bytes}
 use Rattle.courier.specs.declared.Header.{Header}
 use Rattle.table.specs.Lists.{All}
-use Rattle.rows.specs.Rows.{contact_width, own_width, carried_width}
+use Rattle.rows.specs.Rows.{prefix_width, offer_width}
 use Rattle.rows.specs.Proper.{Run, ProperContact, ProperOwn, ProperCarried, ProperTombstone, ProperBadTag, ProperOffer}
+use Rattle.rows.specs.Limits.{max_contacts, max_own, max_carried, max_inventory, max_offers, contact_area, own_area, carried_area}
 use Rattle.model.specs.State.{State, Session}
 use Rattle.model.specs.Calls
 use Rattle.model.specs.Calls.{Call}
 use Rattle.model.specs.Areas.{Areas}
 
--- the three tables that are lent as arrays have 256 rows each
+-- the sizes of the three tables that are lent as arrays
 pub record Sized (a : Areas) : Type 0 where
-  pub contacts : length a.contacts ≡ 256 * contact_width
-  pub own : length a.own ≡ 256 * own_width
-  pub carried : length a.carried ≡ 256 * carried_width
+  pub contacts : length a.contacts ≡ contact_area
+  pub own : length a.own ≡ own_area
+  pub carried : length a.carried ≡ carried_area
 
 pub record GoodSession (e : Session) : Type 0 where
-  pub listed : All (Run 8) e.exchange.listed
+  pub listed : All (Run prefix_width) e.exchange.listed
   pub offered : All ProperOffer e.exchange.offered
-  pub listed_few : length e.exchange.listed ≤ 512
-  pub offered_few : length e.exchange.offered ≤ 512
-  pub listed_fit : length e.exchange.listed * 8 ≤ e.prefix_area
-  pub offered_fit : length e.exchange.offered * 17 ≤ e.offer_area
+  pub listed_few : length e.exchange.listed ≤ max_inventory
+  pub offered_few : length e.exchange.offered ≤ max_offers
+  pub listed_fit : length e.exchange.listed * prefix_width ≤ e.prefix_area
+  pub offered_fit : length e.exchange.offered * offer_width ≤ e.offer_area
 
 pub record Good (s : State) : Type 0 where
   pub contacts : All ProperContact s.contacts
@@ -31,14 +32,15 @@ pub record Good (s : State) : Type 0 where
   pub carried : All ProperCarried s.carried
   pub tombstones : All ProperTombstone s.tombstones
   pub bad_tags : All ProperBadTag s.bad_tags
-  pub contacts_few : length s.contacts ≤ 256
-  pub own_few : length s.own ≤ 256
-  pub carried_few : length s.carried ≤ 256
+  pub contacts_few : length s.contacts ≤ max_contacts
+  pub own_few : length s.own ≤ max_own
+  pub carried_few : length s.carried ≤ max_carried
   pub tombstones_fit : length s.tombstones ≤ s.tombstone_rows
   pub bad_tags_fit : length s.bad_tags ≤ s.bad_tag_rows
   pub next_slot : s.next_slot < 2 ^ 64
   pub copies : s.courier.copies < 2 ^ 8
   pub session : GoodSession s.session
+  pub sessions : All GoodSession s.sessions
 
 -- ---- what the types of a call's arguments say
 

@@ -8,14 +8,17 @@ use Rattle.courier_core.specs.declared.Refusal.TheVariants as refusal
 use Rattle.chain.specs.declared.Dir.{Dir}
 use Rattle.chain.specs.Chain.{is_bucket}
 use Rattle.courier.specs.Tags.{route_tag}
+use Rattle.courier.specs.Courier.{courier_inner_max}
 use Rattle.table.specs.Lists.{any, position, unwrap_or, insert_at}
+use Rattle.state.specs.Sizes.{cell_size}
 use Rattle.rows.specs.declared.Own.{Own}
 use Rattle.rows.specs.declared.Contact.{Contact}
+use Rattle.rows.specs.Limits.{max_own}
 use Rattle.model.specs.Basics.{same_contact}
 use Rattle.model.specs.State.{State, own_now, own_cells_now, ◌and◌}
-use Rattle.model.specs.Calls.{Result, result, only, own_row, no_envelope}
+use Rattle.model.specs.Calls.{Result, result, only, own_row, no_envelope, done_with}
 use Rattle.model.specs.Contacts.{end_of, known, added_before}
-use Rattle.model.specs.Cells.{cell_size, cells_used, new_cell}
+use Rattle.model.specs.Cells.{cells_used, new_cell}
 
 -- number 10: the message number is already there
 abbrev pub is_message : ContactId → ℕ → Own → Bool
@@ -27,7 +30,7 @@ own_length len = nat_le 16 len && is_bucket (len - 16)
 
 -- inner length above COURIER_INNER_MAX, or MAX_OWN rows there: no envelope
 unfoldable pub none_made : List Own → ℕ → Bool
-none_made own len = nat_lt 2048 (len - 16) || nat_le 256 (length own)
+none_made own len = nat_lt courier_inner_max (len - 16) || nat_le max_own (length own)
 
 abbrev pub own_named : State → List ℕ
 own_named s = map (λ (o : Own). o.cell) s.own
@@ -67,10 +70,10 @@ insert_own ps new own = insert_at (unwrap_or (length own) (position (stands_afte
 
 unfoldable pub make_own : State → Own → List ℕ → Result
 make_own s new ct =
-    result (own_row new) [] []
+    result (done_with (own_row new)) [] []
     (own_now (insert_own s.contacts new s.own) and own_cells_now (splice s.own_cells (new.cell * cell_size) ct))
 
 unfoldable pub own_envelope : State → ContactId → ℕ → List ℕ → Dir → ℕ → ℕ → List ℕ → List ℕ → Result
 own_envelope s id msgno key dir generation idx secret ct =
-    cond (none_made s.own (length ct)) (only no_envelope)
+    cond (none_made s.own (length ct)) (only (done_with no_envelope))
     (make_own s (new_own s id msgno (route_tag key dir generation idx) secret (length ct)) ct)

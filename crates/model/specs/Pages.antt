@@ -7,7 +7,7 @@ use Rattle.table.specs.Lists.{All}
 use Rattle.table.specs.Rows.{join}
 use Rattle.model.specs.State.{State}
 use Rattle.model.specs.Calls
-use Rattle.model.specs.Calls.{Result, only, refused, wrote}
+use Rattle.model.specs.Calls.{Result, only, refused, wrote, done_with}
 use Rattle.model.specs.Contacts.{minute_of}
 use Rattle.model.specs.Screen.{HeldRow, carried_row, tombstone_row, screen_line, heading}
 use Rattle.model.specs.Step.{step}
@@ -38,7 +38,7 @@ pub record ScreenPages (s : State) (order : List HeldRow) : Type 0 where
   pub short : (area n : ℕ) → area < 1620 → step s (Calls.page area n) ≡ only (refused refusal.ShortArea)
   pub enough : (area n : ℕ) → 1620 ≤ area → step s (Calls.page area n) ≡ page_of s n
   -- the byte count is answered: 19 rows on every page but the last
-  pub counted : (n : ℕ) → (page_of s n).answer ≡ wrote (81 * (1 + min 19 (length (held s) - 19 * n)))
+  pub counted : (n : ℕ) → (page_of s n).answer ≡ done_with (wrote (81 * (1 + min 19 (length (held s) - 19 * n))))
   pub size : (n : ℕ) → length (page_of s n).bytes ≡ 81 * (1 + min 19 (length (held s) - 19 * n))
   -- the heading stands first, and alone past the last page
   pub first : (n : ℕ) → take 81 (page_of s n).bytes ≡ heading

@@ -8,11 +8,12 @@ use Rattle.courier_core.specs.declared.Refusal.TheVariants as refusal
 use Rattle.table.specs.Rows.{join}
 use Rattle.state.specs.Held.{Held, held_row}
 use Rattle.state.specs.Held as held
+use Rattle.state.specs.Sizes.{blob_size, file_head, carried_record, tombstone_record}
 use Rattle.rows.specs.declared.Carried.{Carried}
 use Rattle.rows.specs.declared.Tombstone.{Tombstone}
 use Rattle.model.specs.Basics.{match_some, find, merge}
 use Rattle.model.specs.State.{State, nothing}
-use Rattle.model.specs.Calls.{Result, only, missing, wrote}
+use Rattle.model.specs.Calls.{Result, only, missing, wrote, done_with}
 use Rattle.model.specs.Cells.{ciphertext, cell_count}
 
 -- a held row and its slot
@@ -33,7 +34,7 @@ tombstone_held t = record { slot = t.slot; held = held.tombstone (record { tag =
 
 -- a result that writes bytes to the area that was lent for them
 abbrev pub writes : List ℕ → Result
-writes b = record { answer = wrote (length b); replies = []; actions = []; bytes = b; told = []; change = nothing }
+writes b = record { answer = done_with (wrote (length b)); replies = []; actions = []; bytes = b; told = []; change = nothing }
 
 -- ---- row blob
 
@@ -41,11 +42,11 @@ unfoldable pub held_rows : State → List Slotted
 held_rows s = map (carried_held s.carried_cells) s.carried ++ map tombstone_held s.tombstones
 
 unfoldable pub blob_tests : ℕ → List (Bool × Refusal)
-blob_tests blob = (nat_lt blob 2110, refusal.ShortArea) ∷ []
+blob_tests blob = (nat_lt blob blob_size, refusal.ShortArea) ∷ []
 
 -- `Held::row` of the row in a slot
 unfoldable pub row_blob_of : State → ℕ → Result
-row_blob_of s slot = match_some (find (λ (h : Slotted). nat_eq h.slot slot) (held_rows s)) (λ h. writes (held_row h.held)) (only missing)
+row_blob_of s slot = match_some (find (λ (h : Slotted). nat_eq h.slot slot) (held_rows s)) (λ h. writes (held_row h.held)) (only (done_with missing))
 
 -- ---- the saved file
 
@@ -74,7 +75,7 @@ unfoldable pub saved_rows : State → List Slotted
 saved_rows s = merge (λ (h : Slotted). h.slot) (saved_carried s) (saved_tombstones s)
 
 abbrev pub saved_size : State → ℕ
-saved_size s = 10 + 2122 * cell_count (length s.carried_cells) + 49 * s.tombstone_rows
+saved_size s = file_head + carried_record * cell_count (length s.carried_cells) + tombstone_record * s.tombstone_rows
 
 unfoldable pub save_tests : State → ℕ → List (Bool × Refusal)
 save_tests s file = (nat_lt file (saved_size s), refusal.ShortArea) ∷ []

@@ -3,7 +3,7 @@
 use Rattle.std.specs.Prelude.{ℕ, Bool, List, [], ◌∷◌, length, slice_index_or, slice_set}
 use Rattle.courier_core.specs.declared.Refusal.{Refusal}
 use Rattle.state.specs.declared.CourierConfig.{CourierConfig}
-use Rattle.model.specs.State.{State, Session, apply, no_session, with_session}
+use Rattle.model.specs.State.{State, Session, Change, apply, laid, no_session, no_state, with_session}
 use Rattle.model.specs.Calls
 use Rattle.model.specs.Calls.{Call, Result, step_of}
 use Rattle.model.specs.Contacts.{contact_tests, set_contact, setting_tests, set_config, set_clock, open_exchange_tests, open_exchanged}
@@ -75,20 +75,12 @@ pub record Lent : Type 0 where
 
 -- no row, contact or bad tag, next slot 0
 abbrev pub empty_state : ℕ → CourierConfig → (own_cells carried_cells : List ℕ) (tombstone_rows bad_tag_rows : ℕ) → State
-empty_state seconds config own_cells carried_cells tombstone_rows bad_tag_rows = record {
+empty_state seconds config own_cells carried_cells tombstone_rows bad_tag_rows = record (no_state config) {
   now_s = seconds;
-  courier = config;
-  contacts = [];
-  own = [];
-  carried = [];
-  tombstones = [];
-  bad_tags = [];
-  next_slot = 0;
   own_cells = own_cells;
   carried_cells = carried_cells;
   tombstone_rows = tombstone_rows;
   bad_tag_rows = bad_tag_rows;
-  session = no_session;
 }
 
 -- the state that a call gets: a session that is not there is opened for nobody, and has no areas
@@ -98,10 +90,14 @@ state_for p l = with_session p.state (slice_index_or p.sessions l.session no_ses
 unfoldable pub answer_to : Post → Lent → Result
 answer_to p l = step (state_for p l) l.call
 
+-- what a call leaves that changes so much
+abbrev pub left_by : Post → Lent → Change → Post
+left_by p l c =
+    let s : State = apply (state_for p l) c in
+    record { state = s; sessions = laid c.sessions (slice_set p.sessions l.session s.session) s.sessions }
+
 unfoldable pub after : Post → Lent → Post
-after p l =
-    let s : State = apply (state_for p l) (answer_to p l).change in
-    record { state = s; sessions = slice_set p.sessions l.session s.session }
+after p l = left_by p l (answer_to p l).change
 
 -- what is left after a list of calls, and what they answer
 unfoldable pub run : Post → List Lent → Post

@@ -10,6 +10,7 @@ use Rattle.rows.specs.declared.Own.{Own}
 use Rattle.rows.specs.declared.Carried.{Carried}
 use Rattle.rows.specs.declared.Tombstone.{Tombstone}
 use Rattle.rows.specs.declared.Action.{Action}
+use Rattle.rows.specs.Limits.{max_tombstones}
 use Rattle.model.specs.Basics.{match_found}
 use Rattle.model.specs.State.{State, Change, nothing, own_now, carried_now, tombstones_now, bad_tags_now, next_slot_now, ◌and◌}
 use Rattle.model.specs.Calls.{Result, result, only, done, malformed, short_replies, short_actions, put_courier, delete_courier, put_queued, tomb_reply}
@@ -19,9 +20,6 @@ use Rattle.model.specs.Custody.{own_of_tag, carried_of_tag, tombstone_of_tag, la
 use Rattle.model.specs.Exchange.{no_carried, no_own}
 
 -- ---- `store_tombstone`
-
-abbrev pub max_tombstones : ℕ
-max_tombstones = 1024
 
 abbrev pub no_tombstone : Tombstone
 no_tombstone = record { slot = 0; tag = []; s = []; expiry_min = 0 }

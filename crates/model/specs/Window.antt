@@ -10,7 +10,7 @@ use Rattle.table.specs.Codec.{Codec, table_of}
 use Rattle.rows.specs.declared.Contact.{Contact}
 use Rattle.rows.specs.declared.Reachable.{Reachable}
 use Rattle.rows.specs.declared.BadTag.{BadTag}
-use Rattle.rows.specs.Rows.{reachable_width, reachable_codec}
+use Rattle.rows.specs.Rows.{reachable_width, reachable_codec, prefix_width}
 use Rattle.model.specs.Basics.{same_contact}
 use Rattle.model.specs.Contacts.{known}
 
@@ -23,10 +23,10 @@ window_rows area = table_of reachable_codec (length area / reachable_width) area
 
 -- the prefixes of an inventory: each is its 8 bytes
 abbrev pub prefix_codec : Codec (List ℕ)
-prefix_codec = record { width = 8; decode = λ b. b; encode = λ b. b }
+prefix_codec = record { width = prefix_width; decode = λ b. b; encode = λ b. b }
 
 unfoldable pub prefix_rows : List ℕ → List (List ℕ)
-prefix_rows area = table_of prefix_codec (length area / 8) area
+prefix_rows area = table_of prefix_codec (length area / prefix_width) area
 
 -- the key of a row is below another's: (contact, dir, generation, index)
 unfoldable pub key_below : Reachable → Reachable → Bool

@@ -12,8 +12,7 @@ use Rattle.table.specs.Lists.{filter}
 use Rattle.table.specs.Rows.{Fits}
 use Rattle.table.specs.Codec.{Codec, table_of}
 use Rattle.table.proofs.ListLaws.{flat_map_append}
-use Rattle.table.proofs.RowLaws.{held_all}
-use Rattle.table.proofs.TableLaws.{length_table, table_held, get_d_table}
+use Rattle.table.proofs.TableLaws.{length_table, length_whole, table_held, get_d_table}
 use Rattle.rows.specs.declared.Own.{Own}
 use Rattle.rows.specs.declared.Carried.{Carried}
 use Rattle.rows.specs.Rows.{own_codec, own_of, carried_codec, carried_of}
@@ -47,10 +46,10 @@ module _ {X : Type 0} (f : Own → X) (g : Carried → X) (kept : Held) where
   Tc = table_of carried_codec kept.carried.n carried
 
   length_own : length (map f To) ≡ n
-  length_own = length-map To f ∙ length_table own_codec n own ∙ held_all (length own) 54 n (omega arith) kept.own.in_bounds
+  length_own = length-map To f ∙ length_whole own_codec n own (omega arith) kept.own.in_bounds
 
   length_carried : length Tc ≡ kept.carried.n
-  length_carried = length_table carried_codec kept.carried.n carried ∙ held_all (length carried) 57 kept.carried.n (omega arith) kept.carried.in_bounds
+  length_carried = length_whole carried_codec kept.carried.n carried (omega arith) kept.carried.in_bounds
 
   pub length_held : length (held_by f g To Tc) ≡ how_many kept
   unfolding held_by

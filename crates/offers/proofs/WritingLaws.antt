@@ -1,20 +1,18 @@
 -- The flagged rows are written: their replies one behind the other, and their offers.
 -- Assumes nothing.
-use Rattle.std.proofs.Common.{◌≡◌, ℕ, zero, suc, ◌+◌, ◌*◌, ◌/◌, ◌<◌, ◌≤◌, Bool, true, false, cond, List, [], ◌∷◌, ◌++◌, map, length, get_or, take, sym, refl, ap, ◌∙◌, ap₂, append-nil, add-one, arith, take_all, Option, Some, None}
+use Rattle.std.proofs.Common.{◌≡◌, ℕ, zero, suc, ◌+◌, ◌*◌, ◌/◌, ◌<◌, ◌≤◌, Bool, true, false, cond, List, [], ◌∷◌, ◌++◌, map, length, get_or, take, sym, refl, ap, ◌∙◌, ap₂, append-nil, add-one, arith, take_all}
 use mathlib.Core.List.{map-append}
 use native.Mathlib.Nat.{zero-min}
-use Rattle.table.specs.Lists.{All, position, replace_at, filter}
+use Rattle.table.specs.Lists.{filter}
 use Rattle.table.specs.Rows.{held}
 use Rattle.table.specs.Codec.{with_table, TableNow}
-use Rattle.table.proofs.ListLaws.{all_push, all_replace_at}
 use Rattle.table.proofs.RowLaws.{written_none}
 use Rattle.table.proofs.TableLaws.{table_none, table_then}
-use Rattle.rows.specs.declared.Offer.{Offer}
-use Rattle.rows.specs.Proper.{ProperOffer}
 use Rattle.rows.specs.Rows.{offer_codec, reply_bytes}
 use Rattle.rows.proofs.Laws.{offer_laws}
-use Rattle.model.specs.Basics.{match_found}
-use Rattle.model.specs.Exchange.{Envelope, own_envelope_of, carried_envelope_of, no_carried, reply_for, halved, offer_of_tag, insert_offer, insert_offers}
+use Rattle.model.specs.Exchange.{Envelope, own_envelope_of, carried_envelope_of, no_carried, reply_for, halved, insert_offer, insert_offers}
+use Rattle.model.proofs.KeepRows.{insert_one}
+use Rattle.model.proofs.CornerLaws.{insert_append}
 use Rattle.offers.specs.Appended.{Appended}
 use Rattle.offers.specs.declared.Held.{Held}
 use Rattle.offers.specs.Areas.{how_many, own_of, carried_of, held_envelope}
@@ -62,24 +60,6 @@ module _ {A : Type 0} where
       sym (flagged_end fs xs (length xs) (omega arith)) ∙ ap₂ (λ (gs : List Bool) (ys : List A). flagged_of gs ys) e (take_all (length xs) xs (omega arith)) ∙ by_test p xs
 
 -- ---- the offers
-
-insert_more : (es fs : List Envelope) (os : List Offer) → insert_offers (es ++ fs) os ≡ insert_offers fs (insert_offers es os)
-unfolding insert_offers
-insert_more [] fs os = refl
-insert_more (e ∷ es) fs os = insert_more es fs (insert_offer e os)
-
--- an offer that its types allow, among such
-insert_proper : (e : Envelope) (os : List Offer) → ProperOffer (record { tag = e.head.tag; copies = e.head.copies }) → All ProperOffer os
-    → All ProperOffer (insert_offer e os)
-unfolding insert_offer
-insert_proper e os p all = go (position (offer_of_tag e.head.tag) os)
-  where
-    o : Offer
-    o = record { tag = e.head.tag; copies = e.head.copies }
-
-    go : (f : Option ℕ) → All ProperOffer (match_found f (λ i. replace_at i o os) (os ++ (o ∷ [])))
-    go (Some i) = all_replace_at i o os all p
-    go None = all_push os o all p
 
 no_offers : (a : List ℕ) → TableNow offer_codec a [] 0 a
 unfolding with_table held
@@ -150,7 +130,7 @@ module _ (kept : Held) (flags : List Bool) (lent : List ℕ) (first : ℕ) (offe
           let A : Appended 40 x k (reply_bytes (reply_for v) ∷ []) (k + 1) z = append_one 40 x z (reply_bytes (reply_for v)) k H.wide (omega (arith, O.rows.size)) H.reply in
           let q : map reply_bytes (map reply_for (sent (i + 1))) ≡ map reply_bytes (map reply_for (sent i)) ++ (reply_bytes (reply_for v) ∷ []) =
           ap (λ (l : List Envelope). map reply_bytes (map reply_for l)) s ∙ ap (map reply_bytes) (map-append reply_for (sent i) (v ∷ [])) ∙ map-append reply_bytes (map reply_for (sent i)) (reply_for v ∷ []) in
-          let t : insert_offers (sent (i + 1)) [] ≡ insert_offer v (insert_offers (sent i) []) = ap (λ (l : List Envelope). insert_offers l []) s ∙ insert_more (sent i) (v ∷ []) [] in
+          let t : insert_offers (sent (i + 1)) [] ≡ insert_offer v (insert_offers (sent i) []) = ap (λ (l : List Envelope). insert_offers l []) s ∙ insert_append (sent i) (v ∷ []) [] in
           let f = O.few in
           let b = O.below in
           let u = H.less in
@@ -159,7 +139,7 @@ module _ (kept : Held) (flags : List Bool) (lent : List ℕ) (first : ℕ) (offe
             few = omega arith;
             below = omega arith;
             rows = rw q (append_then 40 O.rows A (omega arith));
-            table = rw t (table_then offer_laws (insert_offer v) (insert_proper v (insert_offers (sent i) []) H.proper) H.bytes H.more O.table H.table);
+            table = rw t (table_then offer_laws (insert_offer v) (λ a. (insert_one v (insert_offers (sent i) []) H.proper a).0) H.bytes H.more O.table H.table);
             size = H.size ∙ O.size;
           }
 

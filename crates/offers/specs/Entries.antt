@@ -5,7 +5,7 @@ use Rattle.octets.specs.Bytes.{part}
 use Rattle.courier_core.specs.declared.ContactId.{ContactId}
 use Rattle.rows.specs.declared.Own.{Own}
 use Rattle.rows.specs.declared.Carried.{Carried}
-use Rattle.rows.specs.Rows.{own_of, carried_of}
+use Rattle.rows.specs.Rows.{own_of, carried_of, own_width, carried_width}
 use Rattle.model.specs.Exchange.{Envelope, own_envelope_of, carried_envelope_of, not_for}
 use Rattle.offers.specs.declared.Row.{Row}
 use Rattle.offers.specs.declared.HeldRow.{HeldRow}
@@ -22,7 +22,7 @@ module _ {X : Type 0} (of_own : Own → X) (of_carried : Carried → X) where
   held_by own carried = map of_own own ++ map of_carried carried
 
   unfoldable pub held_by_at : List ℕ → ℕ → List ℕ → ℕ → X
-  held_by_at own n carried i = cond (nat_lt i n) (of_own (own_of (part own (i * 54) 54))) (of_carried (carried_of (part carried ((i - n) * 57) 57)))
+  held_by_at own n carried i = cond (nat_lt i n) (of_own (own_of (part own (i * own_width) own_width))) (of_carried (carried_of (part carried ((i - n) * carried_width) carried_width)))
 
 -- their envelopes
 abbrev pub held_envelopes : List Own → List Carried → List Envelope

@@ -8,7 +8,7 @@ use Rattle.courier.specs.declared.Header.{Header}
 use Rattle.rows.specs.declared.Tombstone.{Tombstone}
 use Rattle.rows.specs.declared.Offer.{Offer}
 use Rattle.rows.specs.Proper.{ProperOffer}
-use Rattle.rows.specs.Rows.{offer_codec, reply_bytes}
+use Rattle.rows.specs.Rows.{offer_codec, reply_bytes, reply_width}
 use Rattle.model.specs.Calls.{of_own, reply_cell}
 use Rattle.model.specs.Exchange.{Envelope, reply_for, in_question, is_offered, halved, insert_offer, insert_offers}
 use Rattle.offers.specs.declared.Offered.{Offered}
@@ -63,8 +63,8 @@ pub record Inserted (a : List ℕ) (k : ℕ) (o : Offer) (m : ℕ) (x : List ℕ
 
 -- the envelope e is offered: its reply stands behind k others, and its offer among the c that were there
 pub record Handed (e : Envelope) (replies : List ℕ) (k : ℕ) (offers : List ℕ) (c : ℕ) (replies' : List ℕ) (m : ℕ) (offers' : List ℕ) : Type 0 where
-  pub reply : replies' ≡ splice replies (k * 40) (reply_bytes (reply_for e))
-  pub wide : length (reply_bytes (reply_for e)) ≡ 40
+  pub reply : replies' ≡ splice replies (k * reply_width) (reply_bytes (reply_for e))
+  pub wide : length (reply_bytes (reply_for e)) ≡ reply_width
   pub table : TableNow offer_codec offers (insert_offer e (table_of offer_codec c offers)) m offers'
   pub proper : ProperOffer (record { tag = e.head.tag; copies = e.head.copies })
   pub bytes : Bytes offers
@@ -74,6 +74,6 @@ pub record Handed (e : Envelope) (replies : List ℕ) (k : ℕ) (offers : List �
 
 -- the envelopes es are offered: their replies stand behind the n that were there, their offers in the area of offers
 pub record WritesOffers (es : List Envelope) (replies : List ℕ) (n : ℕ) (offers : List ℕ) (k : ℕ) (replies' : List ℕ) (m : ℕ) (offers' : List ℕ) : Type 0 where
-  pub rows : Appended 40 replies n (map reply_bytes (map reply_for es)) k replies'
-  pub room : k * 40 ≤ length replies
+  pub rows : Appended reply_width replies n (map reply_bytes (map reply_for es)) k replies'
+  pub room : k * reply_width ≤ length replies
   pub table : TableNow offer_codec offers (insert_offers es []) m offers'

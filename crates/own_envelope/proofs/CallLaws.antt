@@ -14,7 +14,7 @@ use Rattle.rows.specs.declared.Contact.{Contact}
 use Rattle.rows.specs.declared.Own.{Own}
 use Rattle.rows.specs.Rows.{contact_codec, own_codec}
 use Rattle.model.specs.State.{Change, nothing, own_now, own_cells_now, ◌and◌}
-use Rattle.model.specs.Calls.{Call, Answer, Result as Outcome, add_own, refused, own_row, no_envelope, result, only}
+use Rattle.model.specs.Calls.{Call, Answer, Result as Outcome, add_own, refused, own_row, no_envelope, result, only, done_with, answer_of}
 use Rattle.model.specs.Contacts.{known}
 use Rattle.model.specs.Cells.{free_cell, cells_used, new_cell}
 use Rattle.model.specs.Own.{is_message, own_length, none_made, own_tests, new_own, insert_own, make_own, own_envelope}
@@ -22,7 +22,7 @@ use Rattle.model.specs.Step.{tests, perform, step}
 use Rattle.model.specs.Areas.{Areas, Written, view, store, store_device, store_session}
 use Rattle.model.specs.Lent.{no_answers}
 use Rattle.model.proofs.CallLaws.{refused_here, not_here, no_test, quiet_call}
-use Rattle.own_envelope.specs.OwnEnvelope.{made_of, own_says, lent_own, made_own}
+use Rattle.own_envelope.specs.OwnEnvelope.{own_says, lent_own, made_own}
 
 module _ (d : Device) (id : ContactId) (msgno : ℕ) (key : List ℕ) (dir : Dir) (generation idx : ℕ) (secret ct contacts own cells : List ℕ) (a : Areas) where
   abbrev B : Areas
@@ -44,7 +44,7 @@ module _ (d : Device) (id : ContactId) (msgno : ℕ) (key : List ℕ) (dir : Dir
   named = map (λ (o : Own). o.cell) To
 
   -- an answer that changes nothing
-  stays : (said : Answer) → step (view B) C ≡ only said → Says (made_of said) d own cells
+  stays : (said : Answer) → step (view B) C ≡ only said → Says (answer_of own_says (only said)) d own cells
   unfolding store store_device store_session
   stays said e = quiet_call said nothing e refl refl
 
@@ -72,9 +72,9 @@ module _ (d : Device) (id : ContactId) (msgno : ℕ) (key : List ℕ) (dir : Dir
         pub says_none : none_made To (length ct) ≡ true → Says (Ok None) d own cells
         unfolding own_envelope view
         says_none n =
-            stays no_envelope
+            stays (done_with no_envelope)
             (last (ap (λ (b : Bool). not b && cells_used (length cells) named) n)
-            (ap (λ (b : Bool). cond b (only no_envelope) (make_own (view B) (new_own (view B) id msgno (route_tag key dir generation idx) secret (length ct)) ct)) n))
+            (ap (λ (b : Bool). cond b (only (done_with no_envelope)) (make_own (view B) (new_own (view B) id msgno (route_tag key dir generation idx) secret (length ct)) ct)) n))
 
         module _ (n : none_made To (length ct) ≡ false) where
           used : {f : Option ℕ} → f ≡ free_cell (length cells) named → (not (none_made To (length ct)) && cells_used (length cells) named) ≡ not (is_at f)
@@ -98,18 +98,18 @@ module _ (d : Device) (id : ContactId) (msgno : ℕ) (key : List ℕ) (dir : Dir
             is_new =
                 ap₂ (λ (t : List ℕ) (k : ℕ). made_own d id msgno t secret (length ct) k) (sym et) (ap (unwrap_or 0) (sym f)) ∙ sym er
 
-            stepped : step (view B) C ≡ result (own_row row) [] [] changes
+            stepped : step (view B) C ≡ result (done_with (own_row row)) [] [] changes
             unfolding own_envelope make_own view
             stepped =
                 last (used f)
-                (ap (λ (b : Bool). cond b (only no_envelope) (make_own (view B) (new_own (view B) id msgno (route_tag key dir generation idx) secret (length ct)) ct)) n
+                (ap (λ (b : Bool). cond b (only (done_with no_envelope)) (make_own (view B) (new_own (view B) id msgno (route_tag key dir generation idx) secret (length ct)) ct)) n
                 ∙ ap (λ (r : Own). make_own (view B) r ct) is_new)
 
             pub says_row : {count : ℕ} {own' cells' : List ℕ} → cells' ≡ splice cells (cell * 2064) ct
                 → TableNow own_codec own (insert_own Ps row To) count own' → Says (Ok (Some row)) (record d { own = count }) own' cells'
             unfolding store store_device store_session
             says_row {own' = own'} {cells' = cells'} ec N =
-                quiet_call (own_row row) changes stepped refl
+                quiet_call (done_with (own_row row)) changes stepped refl
                 (ap₂ (λ (k : ℕ) (x : List ℕ). lent_own (record d { own = k }) contacts x cells' a) N.count N.area
                 ∙ ap (λ (x : List ℕ). lent_own (record d { own = length (insert_own Ps row To) }) contacts (with_table own_codec own (insert_own Ps row To)) x a)
                 (ec ∙ ap (λ (r : Own). splice cells (r.cell * 2064) ct) (sym er)))

@@ -10,9 +10,11 @@ use Rattle.table.specs.Codec.{table_of, TableNow}
 use Rattle.table.proofs.FindLaws.{position_le, position_next}
 use Rattle.table.proofs.TableLaws.{length_table, table_next}
 use Rattle.courier_core.specs.declared.ContactId.{ContactId}
+use Rattle.state.specs.Sizes.{cell_size}
 use Rattle.rows.specs.declared.Contact.{Contact}
 use Rattle.rows.specs.declared.Own.{Own}
-use Rattle.rows.specs.Rows.{own_codec, contact_codec, contact_of}
+use Rattle.rows.specs.Rows.{own_codec, contact_codec, contact_of, own_width}
+use Rattle.rows.specs.Limits.{max_own, own_area}
 use Rattle.model.specs.Contacts.{is_contact, contact_place, added_before}
 use Rattle.model.specs.Own.{none_made, stands_after, insert_own}
 use Rattle.own_envelope.specs.OwnEnvelope.{own_place}
@@ -22,7 +24,7 @@ use Rattle.own_envelope.proofs.WalkLaws.{first_found}
 
 module _ (own : List Own) (len : ℕ) where
   -- an envelope is made: its ciphertext fits a cell, and there is room for its row
-  pub room_made : none_made own len ≡ false → (len ≤ 2064) × (length own < 256)
+  pub room_made : none_made own len ≡ false → (len ≤ cell_size) × (length own < max_own)
   unfolding none_made
   room_made = go (ltb 2048 (len - 16)) (leb 256 (length own)) refl refl
     where
@@ -31,7 +33,7 @@ module _ (own : List Own) (len : ℕ) where
       go false true ex ey e = let z : ◌≡◌ {A = ℕ} 0 1 = cc in absurd (omega arith)
       go false false ex ey e = (omega (arith, ltb-false 2048 (len - 16) ex), omega (arith, leb-false 256 (length own) ey))
 
-pub row_left : (count : ℕ) (own : List ℕ) → length own ≡ 13824 → length (table_of own_codec count own) < 256 → held (length own) 54 count * 54 + 54 ≤ length own
+pub row_left : (count : ℕ) (own : List ℕ) → length own ≡ own_area → length (table_of own_codec count own) < max_own → held (length own) own_width count * own_width + own_width ≤ length own
 row_left count own l h = omega (arith, l, h, length_table own_codec count own)
 
 -- ---- the place of a new row

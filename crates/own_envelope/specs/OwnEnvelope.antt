@@ -1,32 +1,24 @@
 -- What the own envelope call answers and is lent, and the parts of what it does.
 -- Assumes nothing.
-use Rattle.std.specs.Prelude.{ℕ, List, length, Option, Some, None, Result, Ok, Err}
+use Rattle.std.specs.Prelude.{ℕ, List, length, Option, Some, None}
 use Rattle.courier_core.specs.declared.ContactId.{ContactId}
-use Rattle.courier_core.specs.declared.Refusal.{Refusal}
 use Rattle.table.specs.Lists.{position, unwrap_or}
 use Rattle.rows.specs.declared.Device.{Device}
 use Rattle.rows.specs.declared.Contact.{Contact}
 use Rattle.rows.specs.declared.Own.{Own}
-use Rattle.model.specs.Calls.{Answer, Result as Outcome, refused, malformed, done, ours, found, missing, own_row, no_envelope, wrote}
+use Rattle.model.specs.Calls.{Detail, own_row, Result as Outcome, detail}
 use Rattle.model.specs.Contacts.{lifetime_end}
 use Rattle.model.specs.Own.{stands_after}
 use Rattle.model.specs.Areas.{Areas}
 use Rattle.model.specs.Lent.{device_in, contacts_in, own_in, own_cells_in}
 
--- a refusal, or the row that is made: none where no envelope is
-abbrev pub made_of : Answer → Result (Option Own) Refusal
-made_of (refused why) = Err why
-made_of malformed = Ok None
-made_of done = Ok None
-made_of (ours contact generation idx) = Ok None
-made_of (found cells position len) = Ok None
-made_of missing = Ok None
-made_of (own_row row) = Ok (Some row)
-made_of no_envelope = Ok None
-made_of (wrote count) = Ok None
+-- the row that is made, where it is not refused: none where no envelope is
+abbrev pub made_of : Detail → Option Own
+made_of (own_row row) = Some row
+made_of other = None
 
-abbrev pub own_says : Outcome → Result (Option Own) Refusal
-own_says o = made_of o.answer
+abbrev pub own_says : Outcome → Option Own
+own_says o = made_of (detail o.answer)
 
 -- what the call is lent, set into areas that are anything otherwise
 abbrev pub lent_own : Device → (contacts own cells : List ℕ) → Areas → Areas

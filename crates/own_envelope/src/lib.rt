@@ -77,7 +77,7 @@ fn stands_after(
     if row.contact == id {
         return msgno < row.msgno;
     }
-    mine < place && mine < contacts::added_before(contacts, row.contact)
+    mine < place && mine < holdings::added_before(contacts, row.contact)
 }
 
 // Where a new row goes: own rows stand by contact as added and message number.
@@ -91,7 +91,7 @@ fn own_place(
 ) -> usize
     ensures { result ≡ own_place (rows_in contact_codec contacts.entry) id msgno (rows_in own_codec own.entry) }
 {
-    let mine = contacts::added_before(contacts, id);
+    let mine = holdings::added_before(contacts, id);
     let n = own.len();
     let mut place = 0;
     for i in 0..n {
@@ -133,7 +133,7 @@ fn new_own(
         msgno,
         tag,
         s,
-        expiry_min: contacts::lifetime_end(device.now_s, device.courier),
+        expiry_min: holdings::lifetime_end(device.now_s, device.courier),
         copies: device.courier.copies,
         renewed: 0,
         len: len as u16,
@@ -168,7 +168,7 @@ pub fn own_envelope(
         area: contacts,
         count: device.contacts,
     };
-    if !contacts::known(contacts, id) {
+    if !holdings::known(contacts, id) {
         return Err(Refusal::UnknownContact);
     }
     let own_rows = Table {
@@ -184,7 +184,7 @@ pub fn own_envelope(
     if none_made(own_rows, ct.len()) {
         return Ok(None);
     }
-    let cell = custody::free_own_cell(own_rows, own_cells.len()).ok_or(Refusal::NoCell)?;
+    let cell = holdings::cells::free_own_cell(own_rows, own_cells.len()).ok_or(Refusal::NoCell)?;
     let tag = courier::route_tag(key, dir, generation, idx);
     let row = new_own(device, id, msgno, tag, s, ct.len(), cell);
     octets::copy_in(own_cells, cell * CELL, ct);

@@ -13,13 +13,12 @@ use Rattle.model.specs.State.{State, apply, no_session, with_session}
 use Rattle.model.specs.Contacts.{known}
 use Rattle.model.specs.Cells.{cell_count}
 use Rattle.model.specs.Calls
-use Rattle.model.specs.Calls.{Result}
+use Rattle.model.specs.Calls.{Result, is_refused}
 use Rattle.model.specs.Saved.{saved_rows, save_tests, save_held}
 use Rattle.model.specs.Screen.{HeldRow, carried_row, tombstone_row, slot_of, shown, page_rows, page_bytes, show_page}
 use Rattle.model.proofs.ScreenLaws.{screen_pages, tags_good}
 use Rattle.model.specs.Step.{Post, Lent, tests, perform, step, state_for, answer_to, after, run}
 use Rattle.history.specs.Order.{Sorted, HeldOrder}
-use Rattle.history.specs.Life.{is_refused}
 use Rattle.history.specs.History.{Empty}
 use Rattle.history.proofs.SortedLaws.{all_both, became_filter, became_sorted, rises_merge}
 use Rattle.history.proofs.CellLaws.{length_split}

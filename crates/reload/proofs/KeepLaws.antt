@@ -8,8 +8,9 @@ use Rattle.courier_core.specs.declared.ContactId.{ContactId}
 use Rattle.courier_core.specs.declared.Refusal.{Refusal}
 use Rattle.table.specs.Lists as lists
 use Rattle.table.proofs.ListLaws.{all_imp}
+use Rattle.rows.specs.Limits.{max_carried}
 use Rattle.model.specs.State.{State, no_session, with_session, nothing, apply}
-use Rattle.model.proofs.KeepLaws.{Fits, good_apply, made, fits_nothing}
+use Rattle.model.proofs.KeepLaws.{Fits, good_apply, kept_people, kept_queue, kept_session, fits_nothing}
 use Rattle.model.specs.Calls.{Result, refused, only}
 use Rattle.model.specs.Contacts.{known}
 use Rattle.model.specs.Cells.{cell_count}
@@ -23,7 +24,7 @@ use Rattle.history.proofs.OfferSteps.{Sound, sound_after, lifetime_after}
 use Rattle.history.proofs.HistoryLaws.{kept_empty, sound_empty}
 use Rattle.load_tests.specs.Tests.{next_in, carried_count, tombstone_count, load_tests, tested_as}
 use Rattle.load_tests.proofs.TestLaws.{fine_none}
-use Rattle.load.specs.Load.{Rows, loaded, held_now, load_held_rows, load_step}
+use Rattle.load.specs.Load.{Rows, loaded, rows_now, load_held_rows, load_step}
 use Rattle.load.proofs.CallLaws.{load_cases, fine_ten}
 use Rattle.load.proofs.OrderLaws.{fine_cells, loaded_ordered, loaded_order}
 use Rattle.reload.specs.Doings.{after_load}
@@ -70,14 +71,14 @@ module _ (s : State) (file : List ℕ) (w : Bytes file) (e : Ok tt ≡ tested_as
   abbrev l : Rows
   l = loaded s.carried_cells file
 
-  few : carried_count file ≤ 256
+  few : carried_count file ≤ max_carried
   unfolding cell_count
   few = let c : carried_count file ≤ min 256 (length s.carried_cells / 2064) = fine_cells s.contacts s.carried_cells s.tombstone_rows file e in omega arith
 
   rows_loaded : Loaded s.contacts (carried_count file) (tombstone_count file) l []
   rows_loaded = loaded_fine s.contacts s.carried_cells s.tombstone_rows file w few e
 
-  carried_few_lem : length l.carried ≤ 256
+  carried_few_lem : length l.carried ≤ max_carried
   carried_few_lem = omega (arith, rows_loaded.carried_count, few)
 
   tombstones_fit_lem : length l.tombstones ≤ s.tombstone_rows
@@ -97,17 +98,24 @@ module _ (s : State) (file : List ℕ) (w : Bytes file) (e : Ok tt ≡ tested_as
     contacts_apart = a;
   }
 
-  fits_loaded : Fits s (held_now l (next_in file))
+  fits_loaded : Fits s (rows_now l (next_in file))
   fits_loaded =
-      made s (held_now l (next_in file)) tt tt tt (all_imp (λ r f. f.proper) l.carried rows_loaded.fair, carried_few_lem) (rows_loaded.proper, tombstones_fit_lem) tt
-      (num_part_lt file 2 8 (fine_ten s.contacts file (length s.carried_cells) s.tombstone_rows e) w) tt tt
+      record {
+        courier = tt;
+        next_slot = num_part_lt file 2 8 (fine_ten s.contacts file (length s.carried_cells) s.tombstone_rows e) w;
+        people = kept_people;
+        queue = kept_queue;
+        held = record { carried = (all_imp (λ r f. f.proper) l.carried rows_loaded.fair, carried_few_lem); tombstones = (rows_loaded.proper, tombstones_fit_lem) };
+        session = kept_session;
+        sessions = tt;
+      }
 
 -- a load keeps what the store needs
 pub good_load : (s : State) (file : List ℕ) → Bytes file → Good s → Good (apply s (load_step s file).change)
 unfolding load_held_rows
 good_load s file w g =
     load_cases s file (λ (o : Result). Good (apply s o.change)) (λ why. good_apply s nothing g (fits_nothing s))
-    (λ e. good_apply s (held_now (loaded s.carried_cells file) (next_in file)) g (fits_loaded s file w e))
+    (λ e. good_apply s (rows_now (loaded s.carried_cells file) (next_in file)) g (fits_loaded s file w e))
 
 module _ (p : Post) (file : List ℕ) (w : Bytes file) (k : Keeps p) where
   abbrev s : State
@@ -130,7 +138,7 @@ module _ (p : Post) (file : List ℕ) (w : Bytes file) (k : Keeps p) where
         limits = limits_loaded s file w e k.kept.limits.contacts_apart;
       };
       sound = record {
-        good = good_apply (with_session s no_session) (held_now (loaded s.carried_cells file) (next_in file)) k.sound.good (fits_loaded (with_session s no_session) file w e);
+        good = good_apply (with_session s no_session) (rows_now (loaded s.carried_cells file) (next_in file)) k.sound.good (fits_loaded (with_session s no_session) file w e);
         sessions = k.sound.sessions;
       };
       lengths = all_imp (λ r f. f.back.len) (loaded s.carried_cells file).carried (rows_loaded s file w e).fair;

@@ -24,6 +24,7 @@ use Rattle.rows.specs.declared.Contact.{Contact}
 use Rattle.rows.specs.declared.Carried.{Carried}
 use Rattle.rows.specs.declared.Tombstone.{Tombstone}
 use Rattle.rows.specs.Proper.{ProperCarried, ProperTombstone}
+use Rattle.rows.specs.Limits.{max_carried, max_cells}
 use Rattle.model.specs.Basics.{match_some, same_contact}
 use Rattle.model.specs.Contacts.{known}
 use Rattle.model.specs.Custody.{deposited}
@@ -199,7 +200,7 @@ module _ {A : Type 0} (p : A → Bool) where
         ap (count_by p) (take-append-drop i xs),
       )
 
-module _ (cs : List Contact) (nc nt : ℕ) (few : nc ≤ 256) (l : Rows) (b : List ℕ) (rs : List (List ℕ)) (L : Loaded cs nc nt l (b ∷ rs)) where
+module _ (cs : List Contact) (nc nt : ℕ) (few : nc ≤ max_cells) (l : Rows) (b : List ℕ) (rs : List (List ℕ)) (L : Loaded cs nc nt l (b ∷ rs)) where
   module _ (ct : List ℕ) (m : is_carried b ≡ true) (v : reads_back (length ct) (carried_of (drop 12 b)).header.expiry_min ≡ true) (h : 46 ≤ length (drop 12 b)) where
     abbrev new : Carried
     new = carried_row (slot_of b) (length ct) (length l.carried) (carried_of (drop 12 b))
@@ -294,14 +295,14 @@ module _ (cs : List Contact) (nc nt : ℕ) (few : nc ≤ 256) (l : Rows) (b : Li
           subst (λ (x : HeldTombstone). Loaded cs nc nt (load_held l (slot_of b) (held.tombstone x)) rs) (sym v.0)
           (tombstone_next (marked_tombstone b kinds (ap held_read (sym e))) v.1)
 
-loaded_all : (cs : List Contact) (nc nt : ℕ) → nc ≤ 256 → (l : Rows) (rs : List (List ℕ)) → Loaded cs nc nt l rs → Loaded cs nc nt (load_records l rs) []
+loaded_all : (cs : List Contact) (nc nt : ℕ) → nc ≤ max_cells → (l : Rows) (rs : List (List ℕ)) → Loaded cs nc nt l rs → Loaded cs nc nt (load_records l rs) []
 unfolding load_records
 loaded_all cs nc nt few l [] L = L
 loaded_all cs nc nt few l (b ∷ rs) L = loaded_all cs nc nt few (load_record l b) rs (loaded_next cs nc nt few l b rs L)
 
 -- ---- a file that is fine
 
-pub loaded_fine : (cs : List Contact) (cells : List ℕ) (room : ℕ) (file : List ℕ) → Bytes file → carried_count file ≤ 256 → Ok tt ≡ tested_as (load_tests cs (length cells) room file)
+pub loaded_fine : (cs : List Contact) (cells : List ℕ) (room : ℕ) (file : List ℕ) → Bytes file → carried_count file ≤ max_carried → Ok tt ≡ tested_as (load_tests cs (length cells) room file)
     → Loaded cs (carried_count file) (tombstone_count file) (loaded cells file) []
 unfolding loaded deposited count_by unknown_depositor
 loaded_fine cs cells room file w few e =

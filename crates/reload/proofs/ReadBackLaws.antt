@@ -18,12 +18,12 @@ use Rattle.rows.specs.declared.Carried.{Carried}
 use Rattle.model.specs.Basics.{match_found}
 use Rattle.model.specs.State.{State}
 use Rattle.model.specs.Calls
-use Rattle.model.specs.Calls.{Call, Result as Outcome, step_of}
+use Rattle.model.specs.Calls.{Call, Result as Outcome, step_of, is_refused}
 use Rattle.model.specs.Contacts.{minute_of, lifetime_end, end_of}
 use Rattle.model.specs.Window.{no_reachable, window_rows, lookup}
 use Rattle.model.specs.Custody.{custody_of, new_carried, ours_at, answer_custody, envelope_tests, receive_envelope}
 use Rattle.model.specs.Step.{Post, Lent, tests, perform, step, state_for, answer_to, after}
-use Rattle.history.specs.Life.{is_refused, role}
+use Rattle.history.specs.Life.{role}
 use Rattle.history.proofs.SortedLaws.{became_all}
 use Rattle.history.proofs.RowLaws.{Thinned, stays_later, Gift, nothing, one, rows}
 use Rattle.history.proofs.KeptLaws.{Kept, effect_at}

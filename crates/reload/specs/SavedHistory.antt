@@ -8,6 +8,7 @@ use Rattle.state.specs.Held.{held_row, held_decode}
 use Rattle.rows.specs.declared.Carried.{Carried}
 use Rattle.model.specs.State.{State}
 use Rattle.model.specs.Calls
+use Rattle.model.specs.Calls.{is_refused}
 use Rattle.model.specs.Contacts.{known}
 use Rattle.model.specs.Custody.{deposited}
 use Rattle.model.specs.Cells.{cell_count}
@@ -15,7 +16,7 @@ use Rattle.model.specs.Saved.{Slotted, held_rows, save_held}
 use Rattle.model.specs.Step.{Post, Lent, answer_to}
 use Rattle.model.specs.Areas.{PostAreas, view_post}
 use Rattle.history.specs.Order.{Sorted, ◌∈◌, HeldOrder, OwnOrder}
-use Rattle.history.specs.Life.{is_refused}
+use Rattle.history.specs.Limits.{max_carried, max_per_verified}
 use Rattle.load.specs.Load.{load_step}
 use Rattle.load.specs.Reload.{Reloaded}
 use Rattle.reload.specs.Doings.{Doing, ProperDoing, run_doings, run_doings_areas}
@@ -40,8 +41,8 @@ pub record SavedHistory (p : Post) (ds : List Doing) : Type 0 where
   pub own_order : OwnOrder (run_doings p ds).state.contacts (run_doings p ds).state.own (run_doings p ds).state.own_cells
   -- the limits that number 8 asks of a file hold of the holdings
   pub tags_differ : Sorted (λ (a b : Carried). a.tag ≢ b.tag) (run_doings p ds).state.carried
-  pub few : length (run_doings p ds).state.carried ≤ 256
-  pub quota : (id : ContactId) → deposited (run_doings p ds).state.carried id ≤ 32
+  pub few : length (run_doings p ds).state.carried ≤ max_carried
+  pub quota : (id : ContactId) → deposited (run_doings p ds).state.carried id ≤ max_per_verified
   -- a save call that is not refused writes the file
   pub saves : (session area : ℕ) → let l : Lent = record { session = session; call = Calls.save area } in is_refused (answer_to (run_doings p ds) l).answer ≡ false
       → (answer_to (run_doings p ds) l).bytes ≡ (save_held (run_doings p ds).state).bytes

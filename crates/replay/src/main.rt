@@ -96,7 +96,7 @@ fn report(rt: &impl Eprint, s: &State, r: &Record, what: Difference) -> Result<(
 // Makes the call of a record; what differs in it is said on standard error. Behind a list's last call comes `list 3: 300 calls, 0 differ`.
 fn make_call(rt: &(impl Print + Eprint), s: &mut State, p: &mut Post, r: &Record) -> Result<()> {
     let answer = replay_rows::perform(p, r);
-    match compare(answer, p, r) {
+    match compare(&answer, p, r) {
         Ok(()) => s.called(false),
         Err(what) => {
             report(rt, s, r, what)?;
@@ -160,8 +160,7 @@ impl fmt::Display for Refused {
     }
 }
 
-// (A name beside each number or code, here and below: a `Display` would need a type of one field for each table, with a match as long as the table. `Said` of
-// replay_log is no such type: its `Ours` has a key.)
+// (A name beside each number or code, here and below: a `Display` would need a type of one field for each table, with a match as long as the table.)
 const SAID: [(u8, &str); 5] = [
     (DONE, "done"),
     (MALFORMED, "malformed"),

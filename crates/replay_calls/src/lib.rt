@@ -1,9 +1,12 @@
 // A post, and the calls of a sample that set, hold, list and hand over: each is made with the inputs of its record on the post's areas,
-// and says what it answered.
+// and gives the one answer that a host gets (crate host_answers).
 #![tactic(auto)]
 
-use courier_core::Refusal;
-use replay_log::{EXCHANGES, Key, List, MAX_BAD_TAGS, MAX_TOMBSTONES, Record, Said};
+use host_answers::{
+    Answer, acted_answer, answer_of, done_answer, envelope_answer, fetch_answer, inventory_answer,
+    own_answer, wrote_answer,
+};
+use replay_log::{EXCHANGES, List, MAX_BAD_TAGS, MAX_TOMBSTONES, Record};
 use rows::{
     BAD_TAG_WIDTH, CARRIED_AREA, CONTACT_AREA, Device, Exchange, MAX_CELLS, OWN_AREA, Own,
     PREFIX_WIDTH, Reply, Row, TOMBSTONE_WIDTH,
@@ -73,6 +76,7 @@ pub struct Post {
     pub cells: [u8; CELL_AREA],
     pub replies: [u8; MOST_REPLIES],
     pub actions: [u8; MOST_ACTIONS],
+    pub wrote: usize, // how many bytes the last call wrote or read: they lie at the front of `replies`, which such a call lists none in
 }
 
 impl Post {
@@ -91,87 +95,37 @@ impl Post {
     }
 }
 
-// ---- answers
-
-// What a call said that was not refused, how many replies, actions and bytes it wrote, and for how many rows an inventory's end searched the
-// tombstones. (Not host_answers' `Answer`, which is numbers for C: here a refusal is an `Err`, what is said an enum, and a length counts bytes in every
-// call.)
-#[derive(Clone, Copy)]
-pub struct Answer {
-    pub said: Said,
-    pub replies: usize,
-    pub actions: usize,
-    pub length: usize,
-    pub searched: usize,
-}
-
-impl Answer {
-    // Of a call that wrote nothing.
-    pub fn of(said: Said) -> Answer {
-        Answer {
-            said,
-            replies: 0,
-            actions: 0,
-            length: 0,
-            searched: 0,
-        }
-    }
-
-    pub fn done() -> Answer {
-        Answer::of(Said::Done)
-    }
-
-    // Of a call that listed so many actions.
-    pub fn listed(actions: usize) -> Answer {
-        Answer {
-            actions,
-            ..Answer::done()
-        }
-    }
-
-    // Of a call that wrote so many bytes.
-    pub fn wrote(length: usize) -> Answer {
-        Answer {
-            length,
-            ..Answer::done()
-        }
-    }
-}
-
 // ---- what the host sets
 
-pub fn call_contact(p: &mut Post, r: &Record) -> Result<Answer, Refusal> {
-    contacts::contact(&mut p.device, r.peer(), r.verification(), &mut p.contacts)?;
-    Ok(Answer::done())
+pub fn call_contact(p: &mut Post, r: &Record) -> Answer {
+    done_answer(contacts::contact(&mut p.device, r.peer(), r.verification(), &mut p.contacts))
 }
 
-pub fn call_setting(p: &mut Post, r: &Record) -> Result<Answer, Refusal> {
-    contacts::setting(&mut p.device, r.enabled(), r.copies(), r.lifetime())?;
-    Ok(Answer::done())
+pub fn call_setting(p: &mut Post, r: &Record) -> Answer {
+    done_answer(contacts::setting(&mut p.device, r.enabled(), r.copies(), r.lifetime()))
 }
 
 pub fn call_clock(p: &mut Post, r: &Record) -> Answer {
     contacts::clock(&mut p.device, r.number());
-    Answer::done()
+    done_answer(Ok(()))
 }
 
-pub fn call_fresh_exchange(p: &mut Post, r: &Record) -> Result<Answer, Refusal> {
+pub fn call_fresh_exchange(p: &mut Post, r: &Record) -> Answer {
     let session = &mut p.sessions[r.exchange()];
-    contacts::fresh_exchange(
+    done_answer(contacts::fresh_exchange(
         &mut session.exchange,
         p.device,
         r.peer(),
         &p.contacts,
         front(&session.prefixes, r.prefixes_area()),
         front(&session.offers, r.offers_area()),
-    )?;
-    Ok(Answer::done())
+    ))
 }
 
 // ---- envelopes
 
-pub fn call_envelope(p: &mut Post, r: &Record) -> Result<Answer, Refusal> {
-    let answer = envelope::envelope(
+pub fn call_envelope(p: &mut Post, r: &Record) -> Answer {
+    envelope_answer(envelope::envelope(
         &mut p.device,
         r.peer(),
         r.header(),
@@ -184,31 +138,21 @@ pub fn call_envelope(p: &mut Post, r: &Record) -> Result<Answer, Refusal> {
         front_mut(&mut p.cells, p.lent.cells),
         front_mut(&mut p.replies, r.replies_area()),
         front_mut(&mut p.actions, r.actions_area()),
-    )?;
-    match answer {
-        envelope::Answer::Ours(contact, generation, index) => Ok(Answer::of(Said::Ours(Key {
-            contact,
-            generation,
-            index,
-        }))),
-        envelope::Answer::Done(replies, actions) => Ok(Answer {
-            replies,
-            ..Answer::listed(actions)
-        }),
-    }
+    ))
 }
 
-// What a fetch says that found a ciphertext: the record has the length in the place of the one reply's cell, and the bytes.
-fn fetched(r: &Record, ct: &[u8]) -> Said {
+// Of a fetch that returned another ciphertext than that of its record. No call answers a host that, and no record says it.
+const OTHER_CIPHERTEXT: u8 = 255;
+
+// Is it the ciphertext of the record's one reply? The record has its length in the place of the cell, and its bytes.
+fn is_fetched(r: &Record, ct: &[u8]) -> bool {
     match r.replies.first() {
-        Some(reply) if ct == front(r.expected, usize::from(Reply::read(reply, 0).cell)) => {
-            Said::Done
-        }
-        _ => Said::OtherCiphertext,
+        Some(reply) => ct == front(r.expected, usize::from(Reply::read(reply, 0).cell)),
+        None => false,
     }
 }
 
-pub fn call_fetch(p: &mut Post, r: &Record) -> Result<Answer, Refusal> {
+pub fn call_fetch(p: &mut Post, r: &Record) -> Answer {
     let found = fetch::fetch(
         p.device,
         r.peer(),
@@ -219,13 +163,10 @@ pub fn call_fetch(p: &mut Post, r: &Record) -> Result<Answer, Refusal> {
         front(&p.own_cells, p.lent.own_cells),
         front(&p.cells, p.lent.cells),
         front_mut(&mut p.replies, r.replies_area()),
-    )?;
+    );
     match found {
-        Some(ct) => Ok(Answer {
-            replies: 1,
-            ..Answer::of(fetched(r, ct))
-        }),
-        None => Ok(Answer::of(Said::Missing)),
+        Ok(Some(ct)) if !is_fetched(r, ct) => answer_of(OTHER_CIPHERTEXT, 1, 0, 0),
+        found => fetch_answer(found, 1),
     }
 }
 
@@ -262,11 +203,11 @@ fn put_own(row: Own, cells: &[u8], area: &mut [u8]) -> usize {
     let bytes = row.bytes();
     let mut writer = Writer::new(area);
     writer.put(front(&bytes, Own::CELL));
-    writer.put(fetch::cell_part(cells, row.cell, row.len));
+    writer.put(holdings::cells::cell_part(cells, row.cell, row.len));
     writer.end()
 }
 
-pub fn call_own_envelope(p: &mut Post, r: &Record) -> Result<Answer, Refusal> {
+pub fn call_own_envelope(p: &mut Post, r: &Record) -> Answer {
     let made = own_envelope::own_envelope(
         &mut p.device,
         r.peer(),
@@ -280,22 +221,18 @@ pub fn call_own_envelope(p: &mut Post, r: &Record) -> Result<Answer, Refusal> {
         &p.contacts,
         &mut p.own,
         front_mut(&mut p.own_cells, p.lent.own_cells),
-    )?;
-    match made {
-        Some(row) => Ok(Answer::wrote(put_own(
-            row,
-            front(&p.own_cells, p.lent.own_cells),
-            &mut p.replies,
-        ))),
-        None => Ok(Answer::of(Said::NoEnvelope)),
+    );
+    if let Ok(Some(row)) = made {
+        p.wrote = put_own(row, front(&p.own_cells, p.lent.own_cells), &mut p.replies);
     }
+    own_answer(made)
 }
 
 // ---- inventories and custody codes
 
-pub fn call_inventory(p: &mut Post, r: &Record) -> Result<Answer, Refusal> {
+pub fn call_inventory(p: &mut Post, r: &Record) -> Answer {
     let session = &mut p.sessions[r.exchange()];
-    let said = inventory::receive_inventory(
+    inventory_answer(inventory::receive_inventory(
         &mut session.exchange,
         p.device,
         r.peer(),
@@ -309,20 +246,12 @@ pub fn call_inventory(p: &mut Post, r: &Record) -> Result<Answer, Refusal> {
         front_mut(&mut session.prefixes, r.prefixes_area()),
         front_mut(&mut session.offers, r.offers_area()),
         front_mut(&mut p.replies, r.replies_area()),
-    )?;
-    match said {
-        inventory::Said::Done(replies, searched) => Ok(Answer {
-            replies,
-            searched,
-            ..Answer::done()
-        }),
-        inventory::Said::Malformed => Ok(Answer::of(Said::Malformed)),
-    }
+    ))
 }
 
-pub fn call_custody_code(p: &mut Post, r: &Record) -> Result<Answer, Refusal> {
+pub fn call_custody_code(p: &mut Post, r: &Record) -> Answer {
     let session = &mut p.sessions[r.exchange()];
-    let actions = handover::handed_over(
+    acted_answer(handover::handed_over(
         &mut session.exchange,
         &mut p.device,
         r.peer(),
@@ -335,19 +264,19 @@ pub fn call_custody_code(p: &mut Post, r: &Record) -> Result<Answer, Refusal> {
         front(&session.prefixes, r.prefixes_area()),
         front_mut(&mut session.offers, r.offers_area()),
         front_mut(&mut p.actions, r.actions_area()),
-    )?;
-    Ok(Answer::listed(actions))
+    ))
 }
 
 // The listed prefixes go to the front of `replies`: this call lists no reply.
-pub fn call_inventory_of_ours(p: &mut Post, r: &Record) -> Result<Answer, Refusal> {
-    let count = inventory::inventory(
+pub fn call_inventory_of_ours(p: &mut Post, r: &Record) -> Answer {
+    let answer = wrote_answer(inventory::inventory(
         p.device,
         r.peer(),
         &p.contacts,
         &p.own,
         &p.carried,
         front_mut(&mut p.replies, r.answer_area()),
-    )?;
-    Ok(Answer::wrote(count.saturating_mul(PREFIX_WIDTH)))
+    ));
+    p.wrote = answer.length.saturating_mul(PREFIX_WIDTH);
+    answer
 }

@@ -3,9 +3,9 @@
 #![tactic(auto)]
 
 use answers::FIRST_CARRIED;
-use courier_core::Refusal;
-use replay_calls::{Answer, Post, front};
-use replay_log::{PUT_WIDTH, Record};
+use host_answers::Answer;
+use replay_calls::{Post, front};
+use replay_log::{Kind, PUT_WIDTH, Record};
 use rows::{ACTION_WIDTH, Action, CARRIED_WIDTH, Carried, OWN_WIDTH, Own, REPLY_WIDTH, Reply, Row};
 use std::fmt;
 
@@ -33,18 +33,20 @@ impl fmt::Display for Difference {
     }
 }
 
-// A refused call says nothing but its number.
-fn same_answer(r: &Record, answer: Result<Answer, Refusal>) -> bool {
-    let a = answer.unwrap_or(Answer::done());
-    let number = match answer {
-        Ok(a) => a.said.number(),
-        Err(why) => Some(why.number()),
+// A refused call says nothing but its number. An inventory's length counts the rows for which its end searched the tombstones.
+fn same_answer(r: &Record, a: &Answer) -> bool {
+    let searched = if r.kind == Kind::Inventory {
+        a.length
+    } else {
+        0
     };
-    Some(r.said()) == number
-        && r.said_key() == a.said.key()
+    r.said() == a.said
+        && r.said_contact() == a.contact
+        && r.said_generation() == a.generation
+        && r.said_index() == a.idx
         && r.replies.len() == a.replies
         && r.actions.len() == a.actions
-        && r.searched() == a.searched
+        && r.searched() == searched
 }
 
 // The ciphertext of an own row's cell; none where no row names it.
@@ -55,7 +57,11 @@ fn own_sent(p: &Post, cell: u16) -> &[u8] {
         .map(|bytes| Own::read(bytes, 0))
         .find(|row| row.cell == cell);
     match row {
-        Some(row) => fetch::cell_part(front(&p.own_cells, p.lent.own_cells), cell, row.len),
+        Some(row) => holdings::cells::cell_part(
+            front(&p.own_cells, p.lent.own_cells),
+            cell,
+            row.len,
+        ),
         None => b"",
     }
 }
@@ -69,7 +75,7 @@ fn carried_sent(p: &Post, cell: u16) -> &[u8] {
         .map(|bytes| Carried::read(bytes, 0))
         .find(|row| row.cell == cell);
     match row {
-        Some(row) => fetch::cell_part(front(&p.cells, p.lent.cells), cell, row.len),
+        Some(row) => holdings::cells::cell_part(front(&p.cells, p.lent.cells), cell, row.len),
         None => b"",
     }
 }
@@ -147,7 +153,7 @@ fn compare_action<'r>(
 }
 
 // What the call wrote or read is all of the expected bytes that are left.
-pub fn compare(answer: Result<Answer, Refusal>, p: &Post, r: &Record) -> Result<(), Difference> {
+pub fn compare(answer: &Answer, p: &Post, r: &Record) -> Result<(), Difference> {
     if !same_answer(r, answer) {
         return Err(Difference::Answer);
     }
@@ -160,8 +166,7 @@ pub fn compare(answer: Result<Answer, Refusal>, p: &Post, r: &Record) -> Result<
     for (i, (ours, theirs)) in actions.iter().zip(r.actions).enumerate() {
         expected = compare_action(expected, i, ours, theirs, p)?;
     }
-    let wrote = answer.map_or(0, |a| a.length);
-    if front(&p.replies, wrote) == expected {
+    if front(&p.replies, p.wrote) == expected {
         Ok(())
     } else {
         Err(Difference::Bytes)

@@ -15,7 +15,6 @@ ghost use Rattle.std.specs.Iterator.{at_most};
 use chain::Dir;
 use courier::{Custody, Header};
 use courier_core::{ContactId, Refusal, Verification};
-use host_answers::{DONE, MALFORMED, MISSING, NO_ENVELOPE, OURS};
 use rows::{ACTION_WIDTH, MAX_CELLS, REPLY_WIDTH};
 use std::fmt;
 
@@ -75,7 +74,7 @@ const FRONT: usize = 80;
 
 const REST: usize = 84;
 
-// What must be answered: the number of a `Said`, or of a refusal.
+// What must be answered: the number of what the library answers a host.
 const SAID: usize = 88;
 
 const SAID_GENERATION: usize = 89;
@@ -187,54 +186,8 @@ impl fmt::Display for Kind {
     }
 }
 
-// ---- what the calls say that are not refused
-
-// A message key of the window.
-#[derive(Clone, Copy, PartialEq, Eq)]
-pub struct Key {
-    pub contact: ContactId,
-    pub generation: u8,
-    pub index: u32,
-}
-
-#[derive(Clone, Copy, PartialEq, Eq)]
-pub enum Said {
-    Done,
-    Malformed, // what the peer sent
-    Ours(Key), // the envelope is in the window
-    Missing, // no such envelope, no such row
-    NoEnvelope, // the message gets none of its own
-    OtherCiphertext, // than that of the fetched envelope
-}
-
 // The last number of a refusal; 1 is the first.
 pub const LAST_REFUSAL: u8 = Refusal::LogRecord as u8;
-
-impl Said {
-    // The number that a record has for it: what the library answers a host. No record says another ciphertext: that has no number.
-    pub fn number(self) -> Option<u8> {
-        match self {
-            Said::Done => Some(DONE),
-            Said::Malformed => Some(MALFORMED),
-            Said::Ours(_) => Some(OURS),
-            Said::Missing => Some(MISSING),
-            Said::NoEnvelope => Some(NO_ENVELOPE),
-            Said::OtherCiphertext => None,
-        }
-    }
-
-    // The key that it names; zeros where it names none. (Not `Option`: the record of every call has the bytes of a key, and they are compared.)
-    pub fn key(self) -> Key {
-        match self {
-            Said::Ours(key) => key,
-            _ => Key {
-                contact: ContactId(0),
-                generation: 0,
-                index: 0,
-            },
-        }
-    }
-}
 
 // ---- a list
 
@@ -459,17 +412,22 @@ impl<'s> Record<'s> {
 
     // ---- what it must answer
 
-    // A number of what the calls say, or of a refusal.
+    // The number of what the library answers a host.
     pub fn said(&self) -> u8 {
         self.head[SAID]
     }
 
-    pub fn said_key(&self) -> Key {
-        Key {
-            contact: ContactId(octets::get_u64(self.head(), SAID_CONTACT)),
-            generation: self.head[SAID_GENERATION],
-            index: octets::get_u32(self.head(), SAID_INDEX),
-        }
+    // The message key that it names: of an envelope that is ours; zeros otherwise.
+    pub fn said_contact(&self) -> u64 {
+        octets::get_u64(self.head(), SAID_CONTACT)
+    }
+
+    pub fn said_generation(&self) -> u8 {
+        self.head[SAID_GENERATION]
+    }
+
+    pub fn said_index(&self) -> u32 {
+        octets::get_u32(self.head(), SAID_INDEX)
     }
 
     pub fn searched(&self) -> usize {

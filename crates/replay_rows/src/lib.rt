@@ -1,110 +1,104 @@
 // The calls of a sample that end rows, those of blobs, files, the window and pages, and the call of any record.
 #![tactic(auto)]
 
-use courier_core::Refusal;
-use host_answers::Row;
-use replay_calls::{Answer, Post, Writer, front, front_mut};
-use replay_log::{Kind, Record, Said};
+use host_answers::{
+    Answer, DONE, MISSING, Row, acted_answer, answer_of, blob_answer, done_answer, tomb_answer,
+    wrote_answer,
+};
+use replay_calls::{Post, Writer, front, front_mut};
+use replay_log::{Kind, Record};
 use state::Held;
 
 // ---- tombs, reports, tombstones, maintenance
 
-// What a tomb or a report says, which writes so many replies where it is done. (host_answers' makes the numbers for C: see replay_calls' `Answer`.)
-fn tomb_answer(said: tombs::Said, replies: usize) -> Answer {
-    match said {
-        tombs::Said::Done(actions) => Answer {
-            replies,
-            ..Answer::listed(actions)
-        },
-        tombs::Said::Malformed => Answer::of(Said::Malformed),
-    }
+fn call_tomb(p: &mut Post, r: &Record) -> Answer {
+    tomb_answer(
+        tombs::receive_tomb(
+            &mut p.device,
+            r.peer(),
+            r.tag(),
+            r.second(),
+            &p.contacts,
+            &mut p.own,
+            &mut p.carried,
+            front_mut(&mut p.tombstones, p.lent.tombstones),
+            front_mut(&mut p.actions, r.actions_area()),
+        ),
+        0,
+    )
 }
 
-fn call_tomb(p: &mut Post, r: &Record) -> Result<Answer, Refusal> {
-    let said = tombs::receive_tomb(
-        &mut p.device,
-        r.peer(),
-        r.tag(),
-        r.second(),
-        &p.contacts,
-        &mut p.own,
-        &mut p.carried,
-        front_mut(&mut p.tombstones, p.lent.tombstones),
-        front_mut(&mut p.actions, r.actions_area()),
-    )?;
-    Ok(tomb_answer(said, 0))
+fn call_opened(p: &mut Post, r: &Record) -> Answer {
+    tomb_answer(
+        reports::report_opened(
+            &mut p.device,
+            r.peer(),
+            r.tag(),
+            r.second(),
+            r.expiry(),
+            &p.contacts,
+            front_mut(&mut p.tombstones, p.lent.tombstones),
+            front_mut(&mut p.replies, r.replies_area()),
+            front_mut(&mut p.actions, r.actions_area()),
+        ),
+        1,
+    )
 }
 
-fn call_opened(p: &mut Post, r: &Record) -> Result<Answer, Refusal> {
-    let said = reports::report_opened(
-        &mut p.device,
-        r.peer(),
-        r.tag(),
-        r.second(),
-        r.expiry(),
-        &p.contacts,
-        front_mut(&mut p.tombstones, p.lent.tombstones),
-        front_mut(&mut p.replies, r.replies_area()),
-        front_mut(&mut p.actions, r.actions_area()),
-    )?;
-    Ok(tomb_answer(said, 1))
+fn call_failed(p: &mut Post, r: &Record) -> Answer {
+    tomb_answer(
+        reports::report_failed(
+            &mut p.device,
+            r.peer(),
+            r.tag(),
+            &p.contacts,
+            front_mut(&mut p.bad_tags, p.lent.bad_tags),
+        ),
+        0,
+    )
 }
 
-fn call_failed(p: &mut Post, r: &Record) -> Result<Answer, Refusal> {
-    let said = reports::report_failed(
-        &mut p.device,
-        r.peer(),
-        r.tag(),
-        &p.contacts,
-        front_mut(&mut p.bad_tags, p.lent.bad_tags),
-    )?;
-    Ok(tomb_answer(said, 0))
-}
-
-fn call_stored_tombstone(p: &mut Post, r: &Record) -> Result<Answer, Refusal> {
-    let actions = tombstones::stored_tombstone(
+fn call_stored_tombstone(p: &mut Post, r: &Record) -> Answer {
+    acted_answer(stored_tombstone::stored_tombstone(
         &mut p.device,
         r.tag(),
         r.second(),
         r.expiry(),
         front_mut(&mut p.tombstones, p.lent.tombstones),
         front_mut(&mut p.actions, r.actions_area()),
-    )?;
-    Ok(Answer::listed(actions))
+    ))
 }
 
-fn call_maintenance(p: &mut Post, r: &Record) -> Result<Answer, Refusal> {
-    let actions = maintenance::maintain_couriers(
+fn call_maintenance(p: &mut Post, r: &Record) -> Answer {
+    acted_answer(maintenance::maintain_couriers(
         &mut p.device,
         &mut p.own,
         &mut p.carried,
         front_mut(&mut p.tombstones, p.lent.tombstones),
         front_mut(&mut p.actions, r.actions_area()),
-    )?;
-    Ok(Answer::listed(actions))
+    ))
 }
 
 // ---- held rows as blobs, files, the window, pages: what is written goes to the front of `replies`, as these calls list no reply
 
-fn call_window(p: &mut Post, r: &Record) -> Result<Answer, Refusal> {
+fn call_window(p: &mut Post, r: &Record) -> Answer {
     let area = front_mut(&mut p.replies, r.answer_area());
-    let count = chain::window(r.front, r.rest, area)?;
-    Ok(Answer::wrote(count.saturating_mul(chain::KEY_WIDTH)))
+    let answer = wrote_answer(chain::window(r.front, r.rest, area));
+    p.wrote = answer.length.saturating_mul(chain::KEY_WIDTH);
+    answer
 }
 
-fn call_row_blob(p: &mut Post, r: &Record) -> Result<Answer, Refusal> {
-    let blob = saved::row_blob(
+fn call_row_blob(p: &mut Post, r: &Record) -> Answer {
+    let answer = blob_answer(saved::row_blob(
         p.device,
         r.number(),
         &p.carried,
         front(&p.tombstones, p.lent.tombstones),
         front(&p.cells, p.lent.cells),
         front_mut(&mut p.replies, r.answer_area()),
-    )?;
-    match blob {
-        Some(length) => Ok(Answer::wrote(length)),
-        None => Ok(Answer::of(Said::Missing)),
-    }
+    ));
+    p.wrote = answer.length;
+    answer
 }
 
 // A held row as a host reads it: kind, depositor, tag, commitment or secret, expiry, copies; and its ciphertext.
@@ -122,57 +116,62 @@ fn put_row(row: Row, ct: &[u8], area: &mut [u8]) -> usize {
 
 // A carried row's ciphertext is what stands behind the blob's head.
 fn call_row_read(p: &mut Post, r: &Record) -> Answer {
-    match state::decode(r.rest) {
-        Some(Held::Carried(row)) => {
-            let ct = r.rest.get(state::CARRIED_HEAD..).unwrap_or(b"");
-            Answer::wrote(put_row(row.into(), ct, &mut p.replies))
-        }
-        Some(Held::Tombstone(row)) => Answer::wrote(put_row(row.into(), b"", &mut p.replies)),
-        None => Answer::of(Said::Missing),
+    let held = state::decode(r.rest);
+    let ct = match held {
+        Some(Held::Carried(_)) => r.rest.get(state::CARRIED_HEAD..).unwrap_or(b""),
+        _ => b"",
+    };
+    let row = Row::from(held);
+    if row.kind == Row::NONE {
+        return answer_of(MISSING, 0, 0, 0);
     }
+    p.wrote = put_row(row, ct, &mut p.replies);
+    answer_of(DONE, 0, 0, 0)
 }
 
-fn call_save(p: &mut Post, r: &Record) -> Result<Answer, Refusal> {
-    let length = saved::save(
+fn call_save(p: &mut Post, r: &Record) -> Answer {
+    let answer = wrote_answer(saved::save(
         p.device,
         &p.carried,
         front(&p.tombstones, p.lent.tombstones),
         front(&p.cells, p.lent.cells),
         front_mut(&mut p.replies, r.answer_area()),
-    )?;
-    Ok(Answer::wrote(length))
+    ));
+    p.wrote = answer.length;
+    answer
 }
 
-fn call_load(p: &mut Post, r: &Record) -> Result<Answer, Refusal> {
-    load::load(
+fn call_load(p: &mut Post, r: &Record) -> Answer {
+    done_answer(load::load(
         &mut p.device,
         &p.contacts,
         &mut p.carried,
         front_mut(&mut p.tombstones, p.lent.tombstones),
         front_mut(&mut p.cells, p.lent.cells),
         r.rest,
-    )?;
-    Ok(Answer::done())
+    ))
 }
 
-fn call_page(p: &mut Post, r: &Record) -> Result<Answer, Refusal> {
-    let length = screen::page(
+fn call_page(p: &mut Post, r: &Record) -> Answer {
+    let answer = wrote_answer(screen::page(
         p.device,
         r.number(),
         &p.carried,
         front(&p.tombstones, p.lent.tombstones),
         front_mut(&mut p.replies, r.answer_area()),
-    )?;
-    Ok(Answer::wrote(length))
+    ));
+    p.wrote = answer.length;
+    answer
 }
 
 // ---- the call of a record
 
-pub fn perform(p: &mut Post, r: &Record) -> Result<Answer, Refusal> {
+pub fn perform(p: &mut Post, r: &Record) -> Answer {
+    p.wrote = 0;
     match r.kind {
         Kind::Contact => replay_calls::call_contact(p, r),
         Kind::Setting => replay_calls::call_setting(p, r),
-        Kind::Clock => Ok(replay_calls::call_clock(p, r)),
+        Kind::Clock => replay_calls::call_clock(p, r),
         Kind::FreshExchange => replay_calls::call_fresh_exchange(p, r),
         Kind::Envelope => replay_calls::call_envelope(p, r),
         Kind::Inventory => replay_calls::call_inventory(p, r),
@@ -187,7 +186,7 @@ pub fn perform(p: &mut Post, r: &Record) -> Result<Answer, Refusal> {
         Kind::InventoryOfOurs => replay_calls::call_inventory_of_ours(p, r),
         Kind::Window => call_window(p, r),
         Kind::RowBlob => call_row_blob(p, r),
-        Kind::RowRead => Ok(call_row_read(p, r)),
+        Kind::RowRead => call_row_read(p, r),
         Kind::Save => call_save(p, r),
         Kind::Load => call_load(p, r),
         Kind::Page => call_page(p, r),

@@ -24,9 +24,9 @@ use Rattle.model.proofs.CallLaws.{refused_here, not_here, no_test, answering_cal
 use Rattle.tombstones.specs.declared.Storing.{Storing}
 use Rattle.tombstones.specs.Tombstones.{ChoiceOf, store_tests, Stores, StoredAs}
 use Rattle.tombstones.proofs.CallLaws.{cannot_store, can_store, lent_reads, areas_stored, with_actions}
-use Rattle.tombs.specs.declared.Said.{Said}
-use Rattle.tombs.specs.declared.Said.TheVariants as said
-use Rattle.tombs.specs.Tombs.{says}
+use Rattle.answers.specs.declared.Said.{Said}
+use Rattle.answers.specs.declared.Said.TheVariants as said
+use Rattle.answers.specs.Says.{says}
 use Rattle.reports.specs.Reports.{opened_lent, failed_lent}
 
 -- ---- report opened

@@ -4,14 +4,14 @@
 ghost use Rattle.std.specs.Prelude.{length};
 ghost use Rattle.model.specs.Calls.{opened, failed};
 ghost use Rattle.model.specs.Lent.{Does, no_answers, answers_lent};
-ghost use Rattle.tombs.specs.Tombs.{says};
+ghost use Rattle.answers.specs.Says.{says};
 ghost use Rattle.reports.specs.Reports.{opened_lent, failed_lent};
 
-use contacts::known;
+use answers::Said;
 use courier_core::{ContactId, Refusal};
+use holdings::{is_bad, known, lifetime_end};
 use rows::{BAD_TAG_WIDTH, BadTag, CONTACT_AREA, Device, Row};
 use table::Table;
-use tombs::Said;
 use tombstones::{Tomb, store_choice, store_tombstone};
 
 // An envelope was opened: its tombstone is stored, and its tomb answered, one row of the reply area, also where the tag has a tombstone.
@@ -46,7 +46,7 @@ pub fn report_opened(
     }
     let how = store_choice(*device, tag, tombstones)?;
     answers::put_tomb(replies, 0, tag, s);
-    let until = expiry.min(contacts::lifetime_end(device.now_s, device.courier));
+    let until = expiry.min(lifetime_end(device.now_s, device.courier));
     Ok(Said::Done(store_tombstone(device, how, Tomb { tag, s }, until, tombstones, actions, 0)))
 }
 
@@ -72,7 +72,7 @@ pub fn report_failed(
         area: bad_tags,
         count: device.bad_tags,
     };
-    if custody::is_bad(table, peer, tag) {
+    if is_bad(table, peer, tag) {
         return Ok(Said::Malformed);
     }
     if bad_tags.len() / BAD_TAG_WIDTH <= device.bad_tags {

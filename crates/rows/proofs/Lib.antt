@@ -1,3 +1,4 @@
 pub mod Shapes
 pub mod Laws
 pub mod Laid
+pub mod Sizes

@@ -1,4 +1,5 @@
 pub mod Rows
+pub mod Limits
 pub mod Proper
 pub mod Device
 pub mod Shapes

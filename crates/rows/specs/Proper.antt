@@ -11,6 +11,7 @@ use Rattle.rows.specs.declared.Offer.{Offer}
 use Rattle.rows.specs.declared.Reply.{Reply}
 use Rattle.rows.specs.declared.Action.{Action}
 use Rattle.rows.specs.declared.Reachable.{Reachable}
+use Rattle.rows.specs.Rows.{reply_body}
 
 -- a run of n bytes
 pub record Run (n : ℕ) (b : List ℕ) : Type 0 where
@@ -59,7 +60,7 @@ pub record ProperOffer (r : Offer) : Type 0 where
 pub record ProperReply (r : Reply) : Type 0 where
   pub kind : r.kind < 2 ^ 8
   pub cell : r.cell < 2 ^ 16
-  pub body : Run 37 r.body
+  pub body : Run reply_body r.body
 
 pub record ProperAction (r : Action) : Type 0 where
   pub kind : r.kind < 2 ^ 8

@@ -42,6 +42,14 @@ action_width = 13
 abbrev pub reachable_width : ℕ
 reachable_width = 30
 
+-- a prefix is the first bytes of a tag
+abbrev pub prefix_width : ℕ
+prefix_width = 8
+
+-- a reply's bytes behind its kind and cell
+abbrev pub reply_body : ℕ
+reply_body = 37
+
 -- ---- the rows
 
 -- one carried row: slot, depositor, tag, commitment, expiry and copies, and the cell and length of its ciphertext
@@ -128,7 +136,7 @@ offer_codec = record { width = offer_width; decode = offer_of; encode = offer_by
 
 -- replies of 40: kind 1, as 0 fetch, 1 envelope, 2 custody, 3 tomb; an envelope's cell 2; body 37
 unfoldable pub reply_of : List ℕ → Reply
-reply_of b = record { kind = num (part b 0 1); cell = num (part b 1 2); body = part b 3 37 }
+reply_of b = record { kind = num (part b 0 1); cell = num (part b 1 2); body = part b 3 reply_body }
 
 unfoldable pub reply_bytes : Reply → List ℕ
 reply_bytes r = be 1 r.kind ++ be 2 r.cell ++ r.body

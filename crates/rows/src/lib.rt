@@ -254,12 +254,12 @@ pub const MAX_CELLS: usize = 256;
 pub const MAX_PER_VERIFIED: usize = 32;
 
 // The prefixes and the offers of an exchange, at most.
-pub const MAX_PREFIXES: usize = 512;
+pub const MAX_INVENTORY: usize = 512;
 
 pub const MAX_OFFERS: usize = 512;
 
 // The replies that a reply area has room for: a fetch and a tomb for each prefix, and an offer of each row.
-pub const LISTED_REPLIES: usize = 2 * MAX_PREFIXES + MAX_OFFERS;
+pub const LISTED_REPLIES: usize = 2 * MAX_INVENTORY + MAX_OFFERS;
 
 // Rows that are held for queued messages and for others, at most.
 pub const MAX_ROWS: usize = MAX_OWN + MAX_CARRIED;
@@ -274,7 +274,7 @@ pub const OWN_AREA: usize = MAX_OWN * OWN_WIDTH;
 
 pub const CARRIED_AREA: usize = MAX_CARRIED * CARRIED_WIDTH;
 
-pub const PREFIX_AREA: usize = MAX_PREFIXES * PREFIX_WIDTH;
+pub const PREFIX_AREA: usize = MAX_INVENTORY * PREFIX_WIDTH;
 
 pub const OFFER_AREA: usize = MAX_OFFERS * OFFER_WIDTH;
 

@@ -17,7 +17,7 @@ use Rattle.rows.specs.declared.Tombstone.{Tombstone}
 use Rattle.rows.specs.Rows.{carried_codec, carried_of, tombstone_codec, tombstone_of}
 use Rattle.model.specs.Basics.{find, match_some}
 use Rattle.model.specs.State.{nothing}
-use Rattle.model.specs.Calls.{Call, row_blob, missing, only}
+use Rattle.model.specs.Calls.{Call, row_blob, missing, only, done_with}
 use Rattle.model.specs.Saved.{Slotted, carried_held, tombstone_held, held_rows, writes, blob_tests, row_blob_of}
 use Rattle.model.specs.Exchange.{no_carried}
 use Rattle.model.specs.Tombs.{no_tombstone}
@@ -68,11 +68,11 @@ module _ (d : Device) (slot : ℕ) (carried tombs cells lent : List ℕ) (a : Ar
     here h = eqb h.slot slot
 
     stepped : {x : Option Slotted} → find here (map (carried_held cells) Tc ++ map tombstone_held Tt) ≡ x
-        → step (view B) C ≡ match_some x (λ h. writes (held_row h.held)) (only missing)
+        → step (view B) C ≡ match_some x (λ h. writes (held_row h.held)) (only (done_with missing))
     unfolding step tests perform blob_tests row_blob_of held_rows view
     stepped e =
         not_here _ _ _ (le-ltb (length lent) 2110 long) (no_test _)
-        ∙ ap (λ (x : Option Slotted). match_some x (λ h. writes (held_row h.held)) (only missing)) e
+        ∙ ap (λ (x : Option Slotted). match_some x (λ h. writes (held_row h.held)) (only (done_with missing))) e
 
     given : (most : ℕ) (h : Slotted) (n : ℕ) (back : List ℕ) → find here (map (carried_held cells) Tc ++ map tombstone_held Tt) ≡ Some h
         → Blobbed most h lent n back → Says (Ok (Some n)) back
@@ -102,4 +102,4 @@ module _ (d : Device) (slot : ℕ) (carried tombs cells lent : List ℕ) (a : Ar
 
       pub says_missing : None ≡ position (tombstone_in_slot slot) Tt → Says (Ok None) lent
       unfolding tombstone_held find store store_device store_session
-      says_missing e = quiet_call missing nothing (stepped (behind ∙ found_behind tombstone_held here [] Tt e)) refl refl
+      says_missing e = quiet_call (done_with missing) nothing (stepped (behind ∙ found_behind tombstone_held here [] Tt e)) refl refl

@@ -1,7 +1,6 @@
 -- Held rows by slot, and as blobs; what the row blob call says.
 -- Assumes nothing.
-use Rattle.std.specs.Prelude.{◌≡◌, ℕ, ◌≤◌, Bool, List, length, ◌==◌, Option, Some, None, Result, Ok, Err}
-use Rattle.courier_core.specs.declared.Refusal.{Refusal}
+use Rattle.std.specs.Prelude.{◌≡◌, ℕ, ◌≤◌, Bool, List, length, ◌==◌, Option, Some, None}
 use Rattle.octets.specs.Bytes.{part, splice, num}
 use Rattle.state.specs.declared.Carried.{Carried as HeldCarried}
 use Rattle.state.specs.declared.Tombstone.{Tombstone as HeldTombstone}
@@ -9,7 +8,7 @@ use Rattle.state.specs.Held.{held_row}
 use Rattle.rows.specs.declared.Carried.{Carried}
 use Rattle.rows.specs.declared.Tombstone.{Tombstone}
 use Rattle.rows.specs.declared.Device.{Device}
-use Rattle.model.specs.Calls.{Answer, Result as Outcome, refused, malformed, done, ours, found, missing, own_row, no_envelope, wrote}
+use Rattle.model.specs.Calls.{Detail, wrote, Result as Outcome, detail}
 use Rattle.model.specs.Areas.{Areas}
 use Rattle.model.specs.Lent.{device_in, carried_in, tombstones_in, carried_cells_in}
 use Rattle.model.specs.Saved.{Slotted}
@@ -41,19 +40,13 @@ pub record Blobbed (most : ℕ) (h : Slotted) (before : List ℕ) (n : ℕ) (aft
 
 -- ---- the call
 
-abbrev pub blob_of : Answer → Result (Option ℕ) Refusal
-blob_of (refused why) = Err why
-blob_of malformed = Ok None
-blob_of done = Ok None
-blob_of (ours contact generation idx) = Ok None
-blob_of (found cells position len) = Ok None
-blob_of missing = Ok None
-blob_of (own_row row) = Ok None
-blob_of no_envelope = Ok None
-blob_of (wrote count) = Ok (Some count)
+-- how many bytes are written, where it is not refused: none where no row has the slot
+abbrev pub blob_of : Detail → Option ℕ
+blob_of (wrote count) = Some count
+blob_of other = None
 
-abbrev pub blob_says : Outcome → Result (Option ℕ) Refusal
-blob_says o = blob_of o.answer
+abbrev pub blob_says : Outcome → Option ℕ
+blob_says o = blob_of (detail o.answer)
 
 -- the held rows that are lent, set into areas that are anything otherwise
 abbrev pub held_in : Device → (carried tombstones carried_cells : List ℕ) → Areas → Areas

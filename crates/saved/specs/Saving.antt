@@ -1,11 +1,10 @@
 -- The saved file, record by record, and what the save call says.
 -- Assumes nothing.
-use Rattle.std.specs.Prelude.{◌≡◌, ℕ, ◌+◌, ◌*◌, ◌≤◌, List, ◌∷◌, ◌++◌, map, length, Result, Ok, Err}
-use Rattle.courier_core.specs.declared.Refusal.{Refusal}
+use Rattle.std.specs.Prelude.{◌≡◌, ℕ, ◌+◌, ◌*◌, ◌≤◌, List, ◌∷◌, ◌++◌, map, length}
 use Rattle.octets.specs.Bytes.{splice, be}
 use Rattle.table.specs.Rows.{join}
+use Rattle.state.specs.Sizes.{file_head, record_head, carried_record, tombstone_record}
 use Rattle.model.specs.Calls.{Result as Outcome}
-use Rattle.model.specs.Lent.{refused_or}
 use Rattle.model.specs.Saved.{Slotted, carried_held, tombstone_held, saved_record}
 use Rattle.by_slot.specs.declared.held.Held.{Held}
 use Rattle.by_slot.specs.BySlot.{rows_left}
@@ -20,7 +19,7 @@ record_bytes mark slot row = mark ++ be 8 slot ++ be 2 (length row) ++ row
 
 -- a record stands at a place of a file that was before and is now after, and ends at r
 pub record RecordPut (mark : List ℕ) (slot : ℕ) (row : List ℕ) (at : ℕ) (before : List ℕ) (r : ℕ) (after : List ℕ) : Type 0 where
-  pub end : r ≡ at + 12 + length row
+  pub end : r ≡ at + record_head + length row
   pub area : after ≡ splice before at (record_bytes mark slot row)
 
 -- the same of a held row, whose record has at most so many bytes
@@ -33,8 +32,8 @@ pub record Recorded (most : ℕ) (h : Slotted) (at : ℕ) (before : List ℕ) (r
 
 -- the file, of so many bytes, has room for the records of the rows, and the next record goes to t's place
 pub record RoomFor (h : Held) (t : Progress) (file : ℕ) : Type 0 where
-  pub size : 10 + (2122 * h.carried.count + 49 * h.tombstones.count) ≤ file
-  pub place : t.at ≤ 10 + (2122 * t.next.carried + 49 * t.next.tombstones)
+  pub size : file_head + (carried_record * h.carried.count + tombstone_record * h.tombstones.count) ≤ file
+  pub place : t.at ≤ file_head + (carried_record * t.next.carried + tombstone_record * t.next.tombstones)
 
 -- what is left to save of held rows: from carried row p and tombstone q on
 unfoldable pub left : HeldRows → (p q : ℕ) → List Slotted
@@ -49,28 +48,28 @@ pub record More (h : HeldRows) (t : Progress) (before : List ℕ) (r : Progress)
   pub on : r.next.carried + r.next.tombstones ≡ t.next.carried + t.next.tombstones + 1
   pub within : r.next.carried ≤ h.rows.carried.count
   pub below : r.next.tombstones ≤ h.rows.tombstones.count
-  pub room : r.at + (2122 * t.next.carried + 49 * t.next.tombstones) ≤ t.at + (2122 * r.next.carried + 49 * r.next.tombstones)
+  pub room : r.at + (carried_record * t.next.carried + tombstone_record * t.next.tombstones) ≤ t.at + (carried_record * r.next.carried + tombstone_record * r.next.tombstones)
 
 -- the rows done so far, in a file that was lent and is now area
 pub record Saving (h : HeldRows) (lent area : List ℕ) (t : Progress) : Type 0 where
   pub done : List Slotted
   pub all : done ++ left h t.next.carried t.next.tombstones ≡ left h 0 0
-  pub bytes : area ≡ splice lent 10 (join (map saved_record done))
-  pub end : t.at ≡ 10 + length (join (map saved_record done))
+  pub bytes : area ≡ splice lent file_head (join (map saved_record done))
+  pub end : t.at ≡ file_head + length (join (map saved_record done))
   pub size : length area ≡ length lent
   pub within : t.next.carried ≤ h.rows.carried.count
   pub below : t.next.tombstones ≤ h.rows.tombstones.count
-  pub room : t.at ≤ 10 + (2122 * t.next.carried + 49 * t.next.tombstones)
+  pub room : t.at ≤ file_head + (carried_record * t.next.carried + tombstone_record * t.next.tombstones)
 
 -- a file of so many bytes has room for the records of the rows
 abbrev pub Rooms : Held → (file : ℕ) → Type 0
-Rooms h file = 10 + (2122 * h.carried.count + 49 * h.tombstones.count) ≤ file
+Rooms h file = file_head + (carried_record * h.carried.count + tombstone_record * h.tombstones.count) ≤ file
 
--- the records of rows stand behind the first 10 bytes of a file, and end at r
+-- the records of rows stand behind a file's mark and next slot, and end at r
 pub record Records (rows : List Slotted) (lent : List ℕ) (r : ℕ) (after : List ℕ) : Type 0 where
-  pub end : r ≡ 10 + length (join (map saved_record rows))
+  pub end : r ≡ file_head + length (join (map saved_record rows))
   pub within : r ≤ length lent
-  pub area : after ≡ splice lent 10 (join (map saved_record rows))
+  pub area : after ≡ splice lent file_head (join (map saved_record rows))
 
 -- every byte of the file that was lent, and how many are the file's
 pub record Filled (bytes lent : List ℕ) (r : ℕ) (after : List ℕ) : Type 0 where
@@ -79,5 +78,6 @@ pub record Filled (bytes lent : List ℕ) (r : ℕ) (after : List ℕ) : Type 0 
 
 -- ---- the call
 
-abbrev pub save_says : Outcome → Result ℕ Refusal
-save_says o = refused_or Err (Ok (length o.bytes)) o.answer
+-- how many bytes the file has, where it is not refused
+abbrev pub save_says : Outcome → ℕ
+save_says o = length o.bytes

@@ -5,8 +5,9 @@ ghost use Rattle.std.specs.Prelude.{◌≡◌, ℕ, ◌+◌, ◌*◌, ◌<◌, �
 ghost use Rattle.octets.specs.Bytes.{be};
 ghost use Rattle.table.specs.Lists.{position};
 ghost use Rattle.table.specs.Rows.{rows, held};
+ghost use Rattle.state.specs.Sizes.{blob_size, file_head, record_head, carried_record, tombstone_record};
+ghost use Rattle.rows.specs.Limits.{max_cells};
 ghost use Rattle.model.specs.Calls.{row_blob, save as save_call};
-ghost use Rattle.model.specs.Cells.{max_cells};
 ghost use Rattle.model.specs.Lent.{Does, bytes_lent};
 ghost use Rattle.model.specs.Saved.{Slotted, carried_held, tombstone_held, held_mark, saved_file};
 ghost use Rattle.saved.specs.Blobs.{has_slot, Blobbed, blob_says, held_in};
@@ -61,13 +62,13 @@ trait Saved: Copy {
 
     // The row's bytes go to the front of the area, and how many they are is answered.
     fn blob(self, cells: &[u8], blob: &mut [u8]) -> usize
-        requires { 2110 ≤ length blob.old }
+        requires { blob_size ≤ length blob.old }
         ensures { Blobbed most (slotted cells.now self) blob.old result blob.new };
 
     // Writes the row's record at a place, and answers where it ends.
     final fn save(self, cells: &[u8], file: &mut [u8], at: usize) -> usize
-        requires { at + (12 + most) ≤ length file.old }
-        ensures { Recorded (12 + most) (slotted cells.now self) at file.old result file.new }
+        requires { at + (record_head + most) ≤ length file.old }
+        ensures { Recorded (record_head + most) (slotted cells.now self) at file.old result file.new }
     {
         // (An array and a length: a row is written where any row has room, which the last record of a file need not have, and there is no heap.)
         let mut blob = [0; state::BLOB];
@@ -94,7 +95,7 @@ impl Saved for Carried {
     }
 
     fn blob(self, cells: &[u8], blob: &mut [u8]) -> usize {
-        let ct = fetch::cell_part(cells, self.cell, self.len);
+        let ct = holdings::cells::cell_part(cells, self.cell, self.len);
         let row = state::Carried {
             depositor: self.depositor,
             header: answers::carried_header(self),
@@ -199,7 +200,7 @@ fn marked(mark: [u8; MARK_LEN], number: u64) -> [u8; FILE_HEAD]
 
 // Writes a record at a place, and answers where it ends.
 fn put_record(file: &mut [u8], at: usize, mark: [u8; MARK_LEN], slot: u64, row: &[u8]) -> usize
-    requires { (at + 12 + length row.now ≤ length file.old) × (length row.now < 65536) }
+    requires { (at + record_head + length row.now ≤ length file.old) × (length row.now < 65536) }
     ensures { RecordPut mark slot row.now at file.old result file.new }
 {
     let head = marked(mark, slot);
@@ -261,7 +262,7 @@ impl<'a> HeldRows<'a> {
 // Is the area for a file too short, with so many cells and tombstone rows? The product of the rows may be past what a usize holds.
 fn short_file(file: usize, cells: usize, room: usize) -> bool
     requires { cells ≤ max_cells }
-    ensures { result ≡ nat_lt file (10 + 2122 * cells + 49 * room) }
+    ensures { result ≡ nat_lt file (file_head + carried_record * cells + tombstone_record * room) }
 {
     let base = FILE_HEAD + CARRIED_RECORD * cells;
     if file < base {

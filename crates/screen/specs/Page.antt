@@ -1,13 +1,12 @@
 -- The rows of a page along the two tables, line by line, and what the page call says.
 -- Assumes nothing.
-use Rattle.std.specs.Prelude.{◌≡◌, ℕ, ◌+◌, ◌*◌, ◌≤◌, List, ◌∷◌, map, length, take, drop, Result, Ok, Err}
+use Rattle.std.specs.Prelude.{◌≡◌, ℕ, ◌+◌, ◌*◌, ◌≤◌, List, ◌∷◌, map, length, take, drop}
 use Rattle.octets.specs.Bytes.{splice}
-use Rattle.courier_core.specs.declared.Refusal.{Refusal}
 use Rattle.table.specs.Rows.{join}
 use Rattle.rows.specs.declared.Device.{Device}
 use Rattle.model.specs.Calls.{Result as Outcome}
 use Rattle.model.specs.Areas.{Areas}
-use Rattle.model.specs.Lent.{refused_or, device_in, carried_in, tombstones_in}
+use Rattle.model.specs.Lent.{device_in, carried_in, tombstones_in}
 use Rattle.model.specs.Screen.{HeldRow, carried_row, tombstone_row, slot_of, screen_line}
 use Rattle.by_slot.specs.declared.held.Held.{Held}
 use Rattle.by_slot.specs.declared.Cursor.{Cursor}
@@ -58,8 +57,8 @@ pub record RowsPut (h : Held) (minute : ℕ) (t : Cursor) (count : ℕ) (before 
 
 -- ---- the call
 
-abbrev pub page_says : Outcome → Result ℕ Refusal
-page_says o = refused_or Err (Ok (length o.bytes)) o.answer
+abbrev pub page_says : Outcome → ℕ
+page_says o = length o.bytes
 
 -- the held rows that are lent, set into areas that are anything otherwise
 abbrev pub held_in : Device → (carried tombstones : List ℕ) → Areas → Areas

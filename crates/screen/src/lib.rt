@@ -198,6 +198,6 @@ pub fn page(
     let count = PAGE_ROWS.min(total - k);
     let from = pass_rows(rows, k);
     put_heading(area);
-    put_rows(rows, from, count, contacts::now_min(device.now_s), area);
+    put_rows(rows, from, count, holdings::now_min(device.now_s), area);
     Ok(LINE + LINE * count)
 }

@@ -1,7 +1,7 @@
 -- Document 01's `CourierConfig::new` and its default.
 -- Assumes nothing.
 use Rattle.std.specs.Prelude.{◌≡◌, ℕ, Bool, true, cond, ◌&&◌, nat_le, Result, Ok, Err}
-use Rattle.courier_core.specs.Core.{refusal_number}
+use Rattle.courier_core.specs.Core.{number_of}
 use Rattle.courier_core.specs.declared.Refusal.{Refusal}
 use Rattle.courier_core.specs.declared.Refusal.TheVariants as refusal
 use Rattle.state.specs.declared.CourierConfig.{CourierConfig}
@@ -15,14 +15,9 @@ config_new enabled copies lifetime =
     cond (in_range copies lifetime) (Ok (record { enabled = enabled; copies = copies; lifetime_min = lifetime }))
     (Err refusal.Configuration)
 
--- the number by which a configuration is refused, or 0
-abbrev pub config_number : Result CourierConfig Refusal → ℕ
-config_number (Err why) = refusal_number why
-config_number (Ok config) = 0
-
 pub record IsConfigured (enabled : Bool) (copies lifetime : ℕ) (said : Result CourierConfig Refusal) : Type 0 where
   pub answer : said ≡ config_new enabled copies lifetime
-  pub number : config_number said ≡ cond (in_range copies lifetime) 0 7
+  pub number : number_of said ≡ cond (in_range copies lifetime) 0 7
 
 abbrev pub config_default : CourierConfig
 config_default = record { enabled = true; copies = 6; lifetime_min = 1440 }

@@ -1,4 +1,5 @@
 pub mod Config
 pub mod Reader
+pub mod Sizes
 pub mod Held
 pub mod Before

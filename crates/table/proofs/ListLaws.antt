@@ -7,7 +7,8 @@ use Prim.Native.Nat.{ℕ, zero, suc, ◌+◌, ◌-◌, ◌≤◌, ◌<◌}
 use native.Mathlib.Omega.{arith}
 use lib.ListN.{length, take, drop, get_or, length-append, length-drop}
 use lib.Seq.{length-take-le}
-use Rattle.std.proofs.lemmas.List.{take-map, drop-map}
+use Rattle.std.proofs.Common.{add-one, append-nil, take-suc}
+use Rattle.std.proofs.lemmas.List.{take-map, drop-map, drop_more, take-append-drop}
 use Rattle.table.specs.Lists.{All, none, more, insert_at, remove_at, replace_at, filter, count_by, any}
 
 -- of two lists, what is taken of the second is what the first leaves
@@ -22,6 +23,17 @@ pub flat_map_append : {A B : Type 0} (f : A → List B) (x y : List A) → flat_
 unfolding flat_map
 flat_map_append f [] y = refl
 flat_map_append f (r ∷ x) y = ap (λ (l : List _). f r ++ l) (flat_map_append f x y) ∙ sym (append_assoc (f r) (flat_map f x) (flat_map f y))
+
+-- what is made of one element more
+pub flat_map_next : {A B : Type 0} (f : A → List B) (xs : List A) (i : ℕ) (d : A) → i < length xs → flat_map f (take (i + 1) xs) ≡ flat_map f (take i xs) ++ f (get_or xs i d)
+unfolding flat_map
+flat_map_next f xs i d h =
+    ap (λ (k : ℕ). flat_map f (take k xs)) (add-one i) ∙ ap (flat_map f) (take-suc xs i d h) ∙ flat_map_append f (take i xs) (get_or xs i d ∷ [])
+    ∙ ap (λ (l : List _). flat_map f (take i xs) ++ l) (append-nil (f (get_or xs i d)))
+
+-- a list at one of its elements
+pub split_at : {A : Type 0} (xs : List A) (i : ℕ) (d : A) → i < length xs → take i xs ++ (get_or xs i d ∷ drop (i + 1) xs) ≡ xs
+split_at xs i d h = ap (λ (l : List _). take i xs ++ l) (sym (drop_more xs i d h)) ∙ take-append-drop i xs
 
 -- ---- how many there are after a change
 
@@ -112,6 +124,11 @@ all_map f (r ∷ x) (more p a) = more p (all_map f x a)
 -- ---- a test, on lists that grow
 
 module _ {A : Type 0} (p : A → Bool) where
+  pub filter_all : (x : List A) → All (λ (r : A). p r ≡ true) x → filter p x ≡ x
+  unfolding filter
+  filter_all [] a = refl
+  filter_all (r ∷ x) (more e a) = rw (e, filter_all x a)
+
   pub filter_append : (x y : List A) → filter p (x ++ y) ≡ filter p x ++ filter p y
   unfolding filter
   filter_append [] y = refl

@@ -30,6 +30,10 @@ module _ {A : Type 0} (c : Codec A) (count : ℕ) (a : List ℕ) where
   unfolding table_of
   length_table = length-map (rows w n a) c.decode ∙ length_rows w n a
 
+  -- where all rows fit
+  pub length_whole : 0 < w → count * w ≤ length a → length (table_of c count a) ≡ count
+  length_whole wide fits = length_table ∙ held_all (length a) w count wide fits
+
   -- row i, and those after it; row i by its index
   pub table_next : (i : ℕ) → i < n → drop i (table_of c count a) ≡ c.decode (part a (i * w) w) ∷ drop (i + 1) (table_of c count a)
   unfolding table_of

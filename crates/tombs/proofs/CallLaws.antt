@@ -11,7 +11,7 @@ use Rattle.model.specs.State.{nothing}
 use Rattle.model.specs.Calls.{Call, Result as Outcome, malformed, done, step_of, tomb}
 use Rattle.model.specs.Contacts.{known}
 use Rattle.model.specs.Tombs as model
-use Rattle.model.specs.Tombs.{remaining, meets, turn, no_row_to_meet, no_slot_to_meet, receive_tomb, tomb_tests}
+use Rattle.model.specs.Tombs.{meets, turn, no_row_to_meet, no_slot_to_meet, receive_tomb, tomb_tests}
 use Rattle.model.specs.Step.{tests, perform, step}
 use Rattle.model.specs.Areas.{Areas, AnswerAreas, Written, view, store, store_device, store_session}
 use Rattle.model.specs.Lent.{contacts_in, own_in, carried_in, actions_lent}
@@ -19,9 +19,10 @@ use Rattle.model.proofs.CallLaws.{refused_here, not_here, no_test, quiet_call, r
 use Rattle.tombstones.specs.declared.Storing.{Storing}
 use Rattle.tombstones.specs.Tombstones.{ChoiceOf, store_tests}
 use Rattle.tombstones.proofs.CallLaws.{cannot_store, can_store, lent_reads}
-use Rattle.tombs.specs.declared.Said.{Said}
-use Rattle.tombs.specs.declared.Said.TheVariants as said
-use Rattle.tombs.specs.Tombs.{says, met_tests, after_meeting, Ends, EndsBy, held_lent, own_lent, tomb_lent}
+use Rattle.answers.specs.declared.Said.{Said}
+use Rattle.answers.specs.declared.Said.TheVariants as said
+use Rattle.answers.specs.Says.{says}
+use Rattle.tombs.specs.Tombs.{met_tests, after_meeting, Ends, EndsBy, held_lent, own_lent, tomb_lent}
 
 -- a call whose result is another's
 pub as_step : {o p : Outcome} {r : Result Said Refusal} {before after : Areas} {lent back : AnswerAreas} → o ≡ p → Written says p r before after lent back → Written says o r before after lent back

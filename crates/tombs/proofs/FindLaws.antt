@@ -1,28 +1,24 @@
--- Laws of what a tomb finds, and of the place of a tombstone by its slot.
+-- Laws of what a tomb finds.
 -- Assumes nothing.
-use Rattle.std.specs.Option.{unwrap_or as value_or}
-use Rattle.std.proofs.Common.{◌≡◌, ℕ, ◌*◌, ◌<◌, ◌≤◌, Bool, true, false, cond, ltb, List, length, get_or, sym, refl, ap, ap₂, ◌∙◌, arith, Option, Some, None}
-use Rattle.octets.specs.Bytes.{part, num}
-use Rattle.table.specs.Lists.{position, unwrap_or}
-use Rattle.table.specs.Rows.{held, rows}
+use Rattle.std.proofs.Common.{◌≡◌, ℕ, ◌*◌, ◌<◌, Bool, true, false, cond, List, length, get_or, sym, refl, ap, ◌∙◌, Option, Some, None}
+use Rattle.octets.specs.Bytes.{part}
+use Rattle.table.specs.Lists.{position}
+use Rattle.table.specs.Rows.{held}
 use Rattle.table.specs.declared.lent.Table.{Table}
-use Rattle.table.specs.Codec.{table_of}
 use Rattle.table.specs.Tables.{rows_in}
-use Rattle.table.proofs.TableLaws.{length_table, get_d_table, table_find}
-use Rattle.table.proofs.FindLaws.{position_le}
+use Rattle.table.proofs.TableLaws.{get_d_table}
 use Rattle.courier.specs.Tags.{commitment_of, tombstone_matches}
 use Rattle.rows.specs.declared.Own.{Own}
 use Rattle.rows.specs.declared.Carried.{Carried}
-use Rattle.rows.specs.declared.Tombstone.{Tombstone}
-use Rattle.rows.specs.Rows.{own_width, own_codec, own_of, carried_width, carried_codec, carried_of, tombstone_codec, tombstone_of}
+use Rattle.rows.specs.Rows.{own_width, own_codec, own_of, carried_width, carried_codec, carried_of}
 use Rattle.model.specs.Basics.{match_found}
 use Rattle.model.specs.Custody.{own_of_tag, carried_of_tag}
 use Rattle.model.specs.Exchange.{no_carried, no_own}
 use Rattle.model.specs.Tombs as model
 use Rattle.model.specs.Tombs.{meets}
-use Rattle.fetch.proofs.SearchLaws.{found_inside}
+use Rattle.holdings.proofs.SearchLaws.{found_inside}
 use Rattle.tombs.specs.declared.Found.TheVariants as found
-use Rattle.tombs.specs.Tombs.{Finds, higher}
+use Rattle.tombs.specs.Tombs.{Finds}
 
 -- ---- what a tomb finds
 
@@ -78,31 +74,3 @@ module _ (own : Table own_width) (carried : Table carried_width) (tag secret : L
 
         pub finds_other : false ≡ tombstone_matches m secret → Finds own carried tag secret found.WrongSecret
         finds_other q = record { is = own_by q; inside = tt }
-
--- ---- the place of a tombstone by its slot
-
-module _ (count : ℕ) (a : List ℕ) (slot : ℕ) where
-  abbrev T : List Tombstone
-  T = table_of tombstone_codec count a
-
-  abbrev n : ℕ
-  n = held (length a) 44 count
-
-  slot_read : (b : List ℕ) → ltb slot (num (part b 0 8)) ≡ higher slot (tombstone_of b)
-  unfolding tombstone_of
-  slot_read b = refl
-
-  or_value : (f : Option ℕ) (d : ℕ) → value_or f d ≡ unwrap_or d f
-  or_value (Some i) d = refl
-  or_value None d = refl
-
-  pub place_found : {m : ℕ} {f : Option ℕ} → m ≡ n → f ≡ position (λ b. ltb slot (num (part b 0 8))) (rows 44 n a)
-      → value_or f m ≡ unwrap_or n (position (higher slot) T)
-  place_found {m} {f} em ef =
-      or_value f m ∙ ap₂ unwrap_or em (table_find tombstone_codec count n a refl (λ b. ltb slot (num (part b 0 8))) (higher slot) slot_read f ef)
-
-  pub place_le : {i : ℕ} → i ≡ unwrap_or n (position (higher slot) T) → i ≤ n
-  place_le e =
-      let q : unwrap_or n (position (higher slot) T) ≡ unwrap_or (length T) (position (higher slot) T) =
-      ap (λ (k : ℕ). unwrap_or k (position (higher slot) T)) (sym (length_table tombstone_codec count a)) in
-      omega (arith, e, q, position_le (higher slot) T, length_table tombstone_codec count a)

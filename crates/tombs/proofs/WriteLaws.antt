@@ -1,11 +1,11 @@
 -- Laws of the rows that are written: a carried row turned tombstone, an own row ended.
 -- Assumes nothing.
-use Rattle.std.proofs.Common.{◌≡◌, ℕ, ◌+◌, ◌*◌, ◌<◌, ◌≤◌, Bool, true, false, cond, List, [], ◌∷◌, ◌++◌, length, get_or, sym, refl, ap, ◌∙◌, subst, arith, Ok}
+use Rattle.std.proofs.Common.{◌≡◌, ℕ, ◌+◌, ◌*◌, ◌<◌, ◌≤◌, Bool, true, false, cond, List, [], ◌∷◌, ◌++◌, length, get_or, sym, refl, ap, ◌∙◌, arith, Ok}
 use Rattle.octets.specs.Bytes.{Bytes, part, splice}
-use Rattle.table.specs.Lists.{position, unwrap_or, insert_at, remove_at}
-use Rattle.table.specs.Rows.{held, join, written}
+use Rattle.table.specs.Lists.{remove_at}
+use Rattle.table.specs.Rows.{held}
 use Rattle.table.specs.Codec.{table_of, with_table, TableNow}
-use Rattle.table.proofs.TableLaws.{length_table, get_d_table}
+use Rattle.table.proofs.TableLaws.{get_d_table}
 use Rattle.rows.specs.declared.Device.{Device}
 use Rattle.rows.specs.declared.Own.{Own}
 use Rattle.rows.specs.declared.Carried.{Carried}
@@ -13,38 +13,22 @@ use Rattle.rows.specs.declared.Tombstone.{Tombstone}
 use Rattle.rows.specs.declared.Action.{Action}
 use Rattle.rows.specs.Rows.{own_codec, own_of, carried_codec, carried_of, tombstone_codec, action_codec, action_bytes}
 use Rattle.model.specs.State.{Change, nothing, own_now, carried_now, tombstones_now, next_slot_now, ◌and◌}
-use Rattle.model.specs.Calls.{Answer, Result as Outcome, result, done, put_courier, put_queued}
+use Rattle.model.specs.Calls.{Result as Outcome, result, done, put_courier, put_queued}
 use Rattle.model.specs.Exchange.{no_carried, no_own}
 use Rattle.model.specs.Tombs.{tombstoned, remaining, evicted, insert_by_slot, turned, turn, end_own, store_tombstone, store_actions}
-use Rattle.model.specs.Areas.{Areas, Written, view, store, store_device, store_session, bytes_after, answer_areas}
+use Rattle.model.specs.Areas.{Areas, Written, view, store, store_device, store_session, bytes_after}
 use Rattle.model.proofs.CallLaws.{answering_call}
 use Rattle.model.specs.Lent.{actions_lent}
 use Rattle.model.proofs.Laws.{one_listed, listed_behind}
 use Rattle.model.proofs.RoomLaws.{length_by_slot}
+use Rattle.answers.specs.declared.Said.TheVariants as said
+use Rattle.answers.specs.Says.{says}
+use Rattle.answers.proofs.Laws.{acted}
 use Rattle.tombstones.specs.declared.Storing.{Storing}
 use Rattle.tombstones.specs.Tombstones.{Reads, how_to_store, RoomMade, Stores, StoredAs}
 use Rattle.tombstones.proofs.WriteLaws.{room_then, listed_then, number_then}
 use Rattle.tombstones.proofs.CallLaws.{with_actions}
-use Rattle.tombs.specs.declared.Said.TheVariants as said
-use Rattle.tombs.specs.Tombs.{higher, says, held_lent, own_lent}
-
--- a tombstone among others by its slot
-pub by_slot_lem : (count : ℕ) (a x : List ℕ) (m i : ℕ) (t : Tombstone)
-    → i ≡ unwrap_or (held (length a) 44 count) (position (higher t.slot) (table_of tombstone_codec count a))
-    → TableNow tombstone_codec a (insert_at i t (table_of tombstone_codec count a)) m x
-    → TableNow tombstone_codec a (insert_by_slot t (table_of tombstone_codec count a)) m x
-unfolding insert_by_slot
-by_slot_lem count a x m i t ei N =
-    let T : List Tombstone = table_of tombstone_codec count a in
-    let e : i ≡ unwrap_or (length T) (position (higher t.slot) T) =
-    ei ∙ ap (λ (k : ℕ). unwrap_or k (position (higher t.slot) T)) (sym (length_table tombstone_codec count a)) in
-    subst (λ (k : ℕ). TableNow tombstone_codec a (insert_at k t T) m x) e N
-
--- a result that lists actions alone
-pub acted : (v : Answer) (acts : List Action) (c : Change) (ac y : List ℕ) → y ≡ with_table action_codec ac acts
-    → actions_lent y ≡ answer_areas (result v [] acts c) (actions_lent ac)
-unfolding answer_areas with_table written join splice
-acted v acts c ac y e = ap actions_lent e
+use Rattle.tombs.specs.Tombs.{held_lent, own_lent}
 
 -- ---- a carried row turned
 
@@ -106,7 +90,7 @@ module _ (d : Device) (i : ℕ) (how : Storing) (tag secret own to ac : List ℕ
   reads n = record { tombstones = refl; next_slot = refl; rows = refl }
 
   by : (b : Bool) (ts : List Tombstone) (n : ℕ)
-      → own_lent (store_device (without (length (remove_at i To))) (c b ts n)) (with_table own_codec own (remove_at i To)) (bytes_after tombstone_codec to (c b ts n).tombstones) a
+      → own_lent (store_device (without (length (remove_at i To))) (c b ts n)) (with_table own_codec own (remove_at i To)) (bytes_after tombstone_codec to (c b ts n).held.tombstones) a
       ≡ store O (own_now (remove_at i To) and c b ts n)
   unfolding store store_device store_session
   by true ts n = refl
@@ -117,7 +101,7 @@ module _ (d : Device) (i : ℕ) (how : Storing) (tag secret own to ac : List ℕ
   unfolding store_tombstone
   areas_ended {expiry = expiry} N S =
       (λ j. own_lent (S.device j) (N.area j) (S.tombstones j) a)
-      ∙ (λ j. own_lent (store_device (without (N.count j)) (store_tombstone (view O) tag secret expiry)) (with_table own_codec own (remove_at i To)) (bytes_after tombstone_codec to (store_tombstone (view O) tag secret expiry).tombstones) a)
+      ∙ (λ j. own_lent (store_device (without (N.count j)) (store_tombstone (view O) tag secret expiry)) (with_table own_codec own (remove_at i To)) (bytes_after tombstone_codec to (store_tombstone (view O) tag secret expiry).held.tombstones) a)
       ∙ by (tombstoned (view O).tombstones tag) (remaining (view O).tombstones ++ _) ((view O).next_slot + 1)
 
   -- the action of the own row, and those of the tombstone behind it

@@ -1,27 +1,25 @@
--- What a tomb finds, what the calls of this crate answer, and what they are lent.
+-- What a tomb finds, and what the call is lent.
 -- Assumes nothing.
-use Rattle.std.specs.Prelude.{◌≡◌, ℕ, ◌<◌, Bool, Result, Ok, Err, List, [], ◌∷◌, length, nat_lt}
+use Rattle.std.specs.Prelude.{◌≡◌, ℕ, ◌<◌, Bool, Result, List, [], ◌∷◌, length}
 use Rattle.courier_core.specs.declared.Refusal.{Refusal}
 use Rattle.courier_core.specs.declared.Refusal.TheVariants as refusal
 use Rattle.table.specs.Rows.{held}
 use Rattle.table.specs.declared.lent.Table.{Table}
 use Rattle.table.specs.Tables.{rows_in}
 use Rattle.rows.specs.declared.Device.{Device}
-use Rattle.rows.specs.declared.Tombstone.{Tombstone}
 use Rattle.rows.specs.Rows.{own_width, own_codec, carried_width, carried_codec}
 use Rattle.model.specs.State.{State}
-use Rattle.model.specs.Calls as calls
-use Rattle.model.specs.Calls.{Answer, Result as Outcome, step_of}
+use Rattle.model.specs.Calls.{Result as Outcome, step_of}
 use Rattle.model.specs.Tombs as model
 use Rattle.model.specs.Tombs.{no_row_to_meet, no_slot_to_meet, receive_tomb, end_own}
 use Rattle.model.specs.Areas.{Areas, AnswerAreas, Written, view}
 use Rattle.model.specs.Lent.{device_in, contacts_in, own_in, carried_in, tombstones_in}
+use Rattle.answers.specs.declared.Said.{Said}
+use Rattle.answers.specs.Says.{says}
 use Rattle.tombstones.specs.declared.Storing.{Storing}
 use Rattle.tombstones.specs.Tombstones.{how_to_store}
 use Rattle.tombs.specs.declared.Found.{Found}
 use Rattle.tombs.specs.declared.Found.TheVariants as found
-use Rattle.tombs.specs.declared.Said.{Said}
-use Rattle.tombs.specs.declared.Said.TheVariants as said
 
 -- ---- what a tomb finds, as the model has it; the place is one of its table
 
@@ -40,26 +38,6 @@ Inside found.UnknownTag own carried = Unit {0}
 pub record Finds (own : Table own_width) (carried : Table carried_width) (tag secret : List ℕ) (r : Found) : Type 0 where
   pub is : met_of r ≡ model.meets (rows_in own_codec own) (rows_in carried_codec carried) tag secret
   pub inside : Inside r (held (length own.area.now) own_width own.count) (held (length carried.area.now) carried_width carried.count)
-
--- has a tombstone a higher slot
-abbrev pub higher : ℕ → Tombstone → Bool
-higher slot t = nat_lt slot t.slot
-
--- ---- what the calls answer: a refusal, malformed, or how many actions are listed
-
-abbrev pub said_of : Answer → ℕ → Result Said Refusal
-said_of (calls.refused why) n = Err why
-said_of calls.malformed n = Ok said.Malformed
-said_of calls.done n = Ok (said.Done n)
-said_of (calls.ours contact generation idx) n = Ok (said.Done n)
-said_of (calls.found cells position len) n = Ok (said.Done n)
-said_of calls.missing n = Ok (said.Done n)
-said_of (calls.own_row row) n = Ok (said.Done n)
-said_of calls.no_envelope n = Ok (said.Done n)
-said_of (calls.wrote count) n = Ok (said.Done n)
-
-abbrev pub says : Outcome → Result Said Refusal
-says o = said_of o.answer (length o.actions)
 
 -- ---- a tomb, once it is known what it finds
 

@@ -2,36 +2,25 @@
 #![tactic(auto)]
 
 ghost use Rattle.std.specs.Prelude.{◌≡◌, ◌+◌, ◌*◌, ◌<◌, ◌≤◌, length};
-ghost use Rattle.table.specs.Lists.{position, unwrap_or};
 ghost use Rattle.table.specs.Rows.{held};
-ghost use Rattle.table.specs.Codec.{table_of, TableNow};
-ghost use Rattle.table.specs.Tables.{rows_in};
-ghost use Rattle.rows.specs.Rows.{action_width, own_width, own_codec, carried_width, tombstone_width, tombstone_codec};
+ghost use Rattle.rows.specs.Rows.{action_width, own_width, carried_width};
 ghost use Rattle.model.specs.Calls.{tomb};
-ghost use Rattle.model.specs.Custody.{own_of_tag};
-ghost use Rattle.model.specs.Tombs.{carried_at, own_at, insert_by_slot, turned as turned_of};
+ghost use Rattle.model.specs.Tombs.{carried_at, own_at, turned as turned_of};
 ghost use Rattle.model.specs.Lent.{Does, actions_lent};
 ghost use Rattle.tombstones.specs.Tombstones.{Room};
-ghost use Rattle.tombs.specs.declared.Said.TheVariants.{Done};
-ghost use Rattle.tombs.specs.Tombs.{Finds, higher, Ends, EndsBy, says, held_lent, own_lent, tomb_lent};
+ghost use Rattle.answers.specs.declared.Said.TheVariants.{Done};
+ghost use Rattle.answers.specs.Says.{says};
+ghost use Rattle.tombs.specs.Tombs.{Finds, Ends, EndsBy, held_lent, own_lent, tomb_lent};
 
-use answers::put_courier;
-use contacts::known;
+use answers::{Said, put_courier};
 use courier_core::{ContactId, Refusal};
+use holdings::{carried_of_tag, insert_by_slot, known, own_of_tag};
 use rows::{
     ACTION_WIDTH, CARRIED_AREA, CARRIED_WIDTH, CONTACT_AREA, Carried, Device, OWN_AREA, OWN_WIDTH,
-    Own, Row, TOMBSTONE_WIDTH, Tombstone,
+    Own, Row, Tombstone,
 };
 use table::Table;
 use tombstones::{Storing, Tomb, all_rows_used, make_room, store_choice, store_tombstone};
-
-// What the calls answer that are not refused: malformed, or how many actions are listed.
-// (Not `Option<usize>`: its `None` would not say malformed. Crate inventory says why its `Said` is another.)
-#[derive(Drop)]
-pub enum Said {
-    Malformed,
-    Done(usize),
-}
 
 // (Where a table is written, its area and its count stand apart: the call is lent the area, and the device has the count.)
 
@@ -47,19 +36,12 @@ pub enum Found {
     UnknownTag,
 }
 
-// The first own row with the tag. Fetch has the same of carried rows: each is one search, and its contract names its own rows.
-pub fn own_of_tag(own: Table<OWN_WIDTH>, tag: [u8; 16]) -> Option<usize>
-    ensures { result ≡ position (own_of_tag tag) (rows_in own_codec own.entry) }
-{
-    own.find(Own::TAG, &tag)
-}
-
 // What a tomb finds. A carried row goes first: a wrong secret there is malformed, even if an own row would match.
 // An own row has no commitment but that of its secret.
 fn find(own: Table<OWN_WIDTH>, carried: Table<CARRIED_WIDTH>, tomb: Tomb) -> Found
     ensures { Finds own.entry carried.entry tomb.tag tomb.s result }
 {
-    match fetch::carried_of_tag(carried, tomb.tag) {
+    match carried_of_tag(carried, tomb.tag) {
         Some(i) => {
             let row = Carried::read(carried.area, i * CARRIED_WIDTH);
             if courier::tombstone_matches(row.c, tomb.s) {
@@ -82,32 +64,6 @@ fn find(own: Table<OWN_WIDTH>, carried: Table<CARRIED_WIDTH>, tomb: Tomb) -> Fou
     }
 }
 
-// ---- a tombstone by its slot
-
-// The first tombstone of a higher slot, or the end.
-// (`load::place` has the same from the end: it asks that the rows that are there rise by slot, as load puts them. Here slots may stand in any order, and the
-// first row of a higher slot is meant.)
-fn place_by_slot(tombstones: Table<TOMBSTONE_WIDTH>, slot: u64) -> usize
-    ensures { result ≡ unwrap_or (held (length tombstones.entry.area.now) tombstone_width tombstones.entry.count) (position (higher slot) (rows_in tombstone_codec tombstones.entry)) }
-{
-    tombstones
-        .position(|row| slot < octets::get_u64(row, 0))
-        .unwrap_or(tombstones.len())
-}
-
-// Puts a tombstone among the others by its slot; answers how many there are.
-fn insert_by_slot(tombstones: &mut [u8], count: usize, row: Tombstone) -> usize
-    requires { held (length tombstones.old) tombstone_width count * tombstone_width + tombstone_width ≤ length tombstones.old }
-    ensures { TableNow tombstone_codec tombstones.old (insert_by_slot row (table_of tombstone_codec count tombstones.old)) result tombstones.new }
-{
-    let table = Table {
-        area: tombstones,
-        count,
-    };
-    let i = place_by_slot(table, row.slot);
-    Tombstone::insert(tombstones, count, i, row)
-}
-
 // The tombstone of a carried row whose envelope ends: it retains its slot and expiry.
 #[tactic(auto, unfolding(model::specs::Tombs::turned))]
 fn tombstone_of(row: Carried, tomb: Tomb) -> Tombstone
@@ -120,7 +76,7 @@ fn tombstone_of(row: Carried, tomb: Tomb) -> Tombstone
 
 // Ends the carried row at i: room is made among the tombstones stored before, and then its own takes its place in order of slots. It keeps the row's slot.
 // (Not by `store_tombstone`: that takes the next slot, and stores nothing where the tag has a tombstone. A row that turns is never the one that goes.)
-#[tactic(auto, using(fetch::proofs::SearchLaws::row_within))]
+#[tactic(auto, using(holdings::proofs::SearchLaws::row_within))]
 fn end_carried(
     device: &mut Device,
     i: usize,
@@ -149,7 +105,7 @@ fn end_carried(
 }
 
 // Ends the own row at i, and stores its tombstone as it was chosen; answers how many actions are listed.
-#[tactic(auto, using(fetch::proofs::SearchLaws::row_within))]
+#[tactic(auto, using(holdings::proofs::SearchLaws::row_within))]
 fn end_row(
     device: &mut Device,
     i: usize,

@@ -1,11 +1,11 @@
 -- Laws of the calls that store a tombstone: what the choice says of the model's tests, and what storing leaves in the areas.
 -- Assumes nothing.
-use Rattle.std.proofs.Common.{◌≡◌, ℕ, ◌+◌, ◌*◌, ◌/◌, Bool, true, false, cond, Result, Ok, Err, ltb, List, [], ◌∷◌, ◌++◌, map, length, sym, refl, ap, ◌∙◌}
+use Rattle.std.proofs.Common.{◌≡◌, ℕ, ◌+◌, Bool, true, false, cond, Ok, Err, List, [], ◌∷◌, ◌++◌, map, sym, refl, ◌∙◌}
 use Rattle.courier_core.specs.declared.Refusal.{Refusal}
 use Rattle.courier_core.specs.declared.Refusal.TheVariants as refusal
 use Rattle.courier_core.specs.Core.{first_of}
 use Rattle.octets.specs.Bytes.{splice}
-use Rattle.table.specs.Rows.{join, written}
+use Rattle.table.specs.Rows.{join}
 use Rattle.table.specs.Codec.{with_table}
 use Rattle.table.proofs.RowLaws.{written_splice}
 use Rattle.rows.specs.declared.Device.{Device}
@@ -13,14 +13,11 @@ use Rattle.rows.specs.declared.Tombstone.{Tombstone}
 use Rattle.rows.specs.declared.Action.{Action}
 use Rattle.rows.specs.Rows.{tombstone_codec, action_codec, action_bytes}
 use Rattle.model.specs.State.{State, Change, nothing, tombstones_now, next_slot_now, ◌and◌}
-use Rattle.model.specs.Calls.{Call, Result as Outcome, only, refused, step_of, stored_tombstone}
-use Rattle.model.specs.Tombs.{tombstoned, remaining, store_tombstone, store_actions, stored_tests, stored, no_row_to_store, no_slot_to_store}
-use Rattle.model.specs.Step.{tests, perform, step}
-use Rattle.model.specs.Areas.{Areas, Written, view, store, store_device, store_session, bytes_after, answer_areas}
-use Rattle.model.proofs.CallLaws.{refused_here, not_here, answering_call, refused_call}
-use Rattle.model.specs.Lent.{actions_lent}
+use Rattle.model.specs.Calls.{Result as Outcome, only, refused, step_of}
+use Rattle.model.specs.Tombs.{tombstoned, remaining, store_tombstone, no_row_to_store, no_slot_to_store}
+use Rattle.model.specs.Areas.{Areas, view, store, store_device, store_session, bytes_after}
 use Rattle.tombstones.specs.declared.Storing.{Storing}
-use Rattle.tombstones.specs.Tombstones.{Reads, ChoiceOf, how_to_store, store_tests, store_choice, Stores, StoredAs, says_stored, tombstones_lent}
+use Rattle.tombstones.specs.Tombstones.{Reads, how_to_store, store_tests, store_choice, StoredAs, tombstones_lent}
 
 -- ---- the choice, and the tests that it stands for
 
@@ -64,7 +61,7 @@ module _ (d : Device) (to : List ℕ) (a : Areas) where
   abbrev c : Bool → List Tombstone → ℕ → Change
   c b ts n = cond b nothing (tombstones_now ts and next_slot_now n)
 
-  by : (b : Bool) (ts : List Tombstone) (n : ℕ) → tombstones_lent (store_device d (c b ts n)) (bytes_after tombstone_codec to (c b ts n).tombstones) a ≡ store (tombstones_lent d to a) (c b ts n)
+  by : (b : Bool) (ts : List Tombstone) (n : ℕ) → tombstones_lent (store_device d (c b ts n)) (bytes_after tombstone_codec to (c b ts n).held.tombstones) a ≡ store (tombstones_lent d to a) (c b ts n)
   unfolding store store_device store_session
   by true ts n = refl
   by false ts n = refl
@@ -74,38 +71,3 @@ module _ (d : Device) (to : List ℕ) (a : Areas) where
   unfolding store_tombstone
   areas_stored s tag secret expiry at ac S =
       (λ j. tombstones_lent (S.device j) (S.tombstones j) a) ∙ by (tombstoned s.tombstones tag) (remaining s.tombstones ++ _) (s.next_slot + 1)
-
--- ---- the call
-
-module _ (d : Device) (tag secret : List ℕ) (expiry : ℕ) (to ac : List ℕ) (a : Areas) where
-  abbrev B : Areas
-  B = tombstones_lent d to a
-
-  abbrev C : Call
-  C = stored_tombstone (length ac) tag secret expiry
-
-  abbrev short : Bool
-  short = ltb (length ac) (13 * (512 + length to / 44))
-
-  abbrev Says : Result ℕ Refusal → Device → (x y : List ℕ) → Type 0
-  Says v r x y = Written says_stored (step (view B) C) v B (tombstones_lent r x a) (actions_lent ac) (actions_lent y)
-
-  pub says_short : true ≡ short → Says (Err refusal.ShortArea) d to ac
-  unfolding step tests perform stored_tests view
-  says_short e = refused_call refusal.ShortArea (refused_here _ _ _ (sym e)) refl refl
-
-  module _ (long : false ≡ short) where
-    past : {o : Outcome} → step_of (store_tests (view B) tag) (stored (view B) tag secret expiry) ≡ o → step (view B) C ≡ o
-    unfolding step tests perform stored_tests store_tests view
-    past e = not_here _ _ _ (sym long) e
-
-    pub says_refused : (why : Refusal) → ChoiceOf d to tag (Err why) → Says (Err why) d to ac
-    says_refused why q = refused_call why (past (cannot_store (view B) tag _ why (q (view B) (lent_reads d to a)))) refl refl
-
-    pub says_stored_lem : (h : Storing) (r : Device) (n : ℕ) (x y : List ℕ) → ChoiceOf d to tag (Ok h) → Stores h d tag secret expiry 0 to ac r n x y → Says (Ok n) r x y
-    unfolding stored answer_areas with_table written join splice
-    says_stored_lem h r n x y q S =
-        let k = can_store (view B) tag (stored (view B) tag secret expiry) h (q (view B) (lent_reads d to a)) in
-        let D = S (view B) (lent_reads d to a) k.1 in
-        answering_call (stored (view B) tag secret expiry) (past k.0) (ap Ok D.count) (areas_stored d to a (view B) tag secret expiry 0 ac D)
-        (ap actions_lent (D.actions ∙ with_actions ac (store_actions (view B) tag)))

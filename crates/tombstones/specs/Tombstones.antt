@@ -12,11 +12,11 @@ use Rattle.table.specs.Codec.{table_of, TableNow}
 use Rattle.rows.specs.declared.Device.{Device}
 use Rattle.rows.specs.declared.Tombstone.{Tombstone}
 use Rattle.rows.specs.Rows.{tombstone_width, tombstone_codec, action_bytes}
+use Rattle.rows.specs.Limits.{u64_max}
 use Rattle.model.specs.State.{State}
-use Rattle.model.specs.Calls.{Result as Outcome}
 use Rattle.model.specs.Tombs.{tombstoned, least_expiry, remaining, evicted, no_row_to_store, no_slot_to_store, store_tombstone, store_actions}
 use Rattle.model.specs.Areas.{Areas, store_device, bytes_after}
-use Rattle.model.specs.Lent.{refused_or, device_in, tombstones_in}
+use Rattle.model.specs.Lent.{device_in, tombstones_in}
 use Rattle.tombstones.specs.declared.Storing.{Storing}
 use Rattle.tombstones.specs.declared.Storing.TheVariants as way
 
@@ -59,7 +59,7 @@ pub record RoomMade (d : Device) (at : ℕ) (to ac : List ℕ) (r : Device) (n :
 
 pub record Space (d : Device) (area : List ℕ) : Type 0 where
   pub rows : length (remaining (table_of tombstone_codec d.tombstones area)) < length area / tombstone_width
-  pub slot : d.next_slot < 18446744073709551615
+  pub slot : d.next_slot < u64_max
 
 abbrev pub Room : Storing → Device → List ℕ → Type 0
 Room way.Nothing d area = Unit {0}
@@ -78,7 +78,7 @@ new_tombstone d tag secret expiry = record { slot = d.next_slot; tag = tag; s = 
 -- a tombstone was stored from the state s: the device d is now r, the tombstones to are now x, and of the actions ac, now y, n are listed from at on
 pub record StoredAs (s : State) (d : Device) (tag secret : List ℕ) (expiry at : ℕ) (to ac : List ℕ) (r : Device) (n : ℕ) (x y : List ℕ) : Type 0 where
   pub device : r ≡ store_device d (store_tombstone s tag secret expiry)
-  pub tombstones : x ≡ bytes_after tombstone_codec to (store_tombstone s tag secret expiry).tombstones
+  pub tombstones : x ≡ bytes_after tombstone_codec to (store_tombstone s tag secret expiry).held.tombstones
   pub actions : y ≡ splice ac at (join (map action_bytes (store_actions s tag)))
   pub count : n ≡ length (store_actions s tag)
 
@@ -86,11 +86,7 @@ abbrev pub Stores : Storing → Device → (tag secret : List ℕ) (expiry at : 
 Stores how d tag secret expiry at to ac r n x y =
     (s : State) → Reads s d to → how ≡ how_to_store s tag → StoredAs s d tag secret expiry at to ac r n x y
 
--- ---- the call
-
--- a refusal, or how many actions are listed
-abbrev pub says_stored : Outcome → Result ℕ Refusal
-says_stored o = refused_or Err (Ok (length o.actions)) o.answer
+-- ---- what is lent
 
 abbrev pub tombstones_lent : Device → List ℕ → Areas → Areas
 tombstones_lent d area a = device_in d (tombstones_in area a)

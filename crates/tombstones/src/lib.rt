@@ -1,15 +1,14 @@
-// Tombstones: room for one, which a carried row that turns needs too; `store_tombstone`, which the tomb and report calls use too; and the call "stored tombstone".
+// Tombstones: room for one, which a carried row that turns needs too, and `store_tombstone`: steps that the calls tomb, report opened and stored tombstone share.
 #![tactic(auto)]
 
 ghost use Rattle.std.specs.Prelude.{◌≡◌, ◌+◌, ◌*◌, ◌/◌, ◌<◌, ◌≤◌, length};
 ghost use Rattle.table.specs.Tables.{rows_in};
 ghost use Rattle.rows.specs.Rows.{action_width, tombstone_width, tombstone_codec};
-ghost use Rattle.model.specs.Calls.{stored_tombstone};
-ghost use Rattle.model.specs.Tombs.{tombstoned as some_tombstone, all_rows_used as no_row_left};
-ghost use Rattle.model.specs.Lent.{Does, actions_lent};
-ghost use Rattle.tombstones.specs.Tombstones.{Least, RoomMade, ChoiceOf, RoomFor, Room, Stores, says_stored, tombstones_lent};
+ghost use Rattle.model.specs.Tombs.{all_rows_used as no_row_left};
+ghost use Rattle.tombstones.specs.Tombstones.{Least, RoomMade, ChoiceOf, RoomFor, Room, Stores};
 
 use courier_core::Refusal;
+use holdings::tombstoned;
 use rows::{ACTION_WIDTH, Device, Row, TOMBSTONE_WIDTH, Tombstone};
 use table::Table;
 
@@ -43,13 +42,6 @@ impl Tomb {
 pub enum Storing {
     Nothing,
     New,
-}
-
-// Has one of the tombstones the tag?
-pub fn tombstoned(tombstones: Table<TOMBSTONE_WIDTH>, tag: [u8; 16]) -> bool
-    ensures { result ≡ some_tombstone (rows_in tombstone_codec tombstones.entry) tag }
-{
-    tombstones.has(Tombstone::TAG, &tag)
 }
 
 // The tombstone of least expiry, the first among equals; where there is none it is 0.
@@ -153,26 +145,4 @@ pub fn store_tombstone(
             listed + 1
         }
     }
-}
-
-// A tombstone to be stored: nothing if its tag has one, and at 1,024 or more the one of least expiry goes first.
-// It answers how many actions are listed.
-// (It is lent what the exported function of crate goosetable is lent, each area and each value by itself.)
-pub fn stored_tombstone(
-    device: &mut Device,
-    tag: [u8; 16],
-    s: [u8; 16],
-    expiry: u32,
-    tombstones: &mut [u8],
-    actions: &mut [u8],
-) -> Result<usize, Refusal>
-    ensures { Does says_stored (stored_tombstone (length actions.old) tag s expiry) result
-        (tombstones_lent device.old tombstones.old) (tombstones_lent device.new tombstones.new)
-        (actions_lent actions.old) (actions_lent actions.new) }
-{
-    if answers::short_actions(actions.len(), tombstones.len()) {
-        return Err(Refusal::ShortArea);
-    }
-    let how = store_choice(*device, tag, tombstones)?;
-    Ok(store_tombstone(device, how, Tomb { tag, s }, expiry, tombstones, actions, 0))
 }

@@ -112,7 +112,7 @@ impl Library {
     /// The bytes of the three flags, and an exchange that lists nothing and offers nothing, of the peer if it is open.
     fn set_flags(&mut self, [enabled, open, complete]: [u8; 3]) {
         self.expected.device[Device::ENABLED] = enabled;
-        self.device.set(&self.expected.device);
+        self.lent.device.set(&self.expected.device);
         let (real, expected) = (&mut self.sessions[0], &mut self.expected.sessions[0].exchange);
         expected.fill(0);
         expected[Exchange::PEER..Exchange::LISTED].copy_from_slice(&PEER.to_be_bytes());
@@ -146,7 +146,7 @@ pub fn wrong_fresh_device() -> Vec<String> {
     let mut found = library.differences();
     for byte in 0..=255 {
         library.expected.device.fill(byte);
-        library.device.set(&library.expected.device);
+        library.lent.device.set(&library.expected.device);
         library.fresh();
         let left = library.differences().into_iter();
         found.extend(left.map(|what| format!("a fresh device over bytes {byte}: {what}")));

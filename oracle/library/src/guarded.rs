@@ -109,14 +109,12 @@ impl Guarded {
     }
 
     /// As a call takes an area of fixed length.
-    pub fn array<const N: usize>(&self) -> *const [u8; N] {
-        let bytes: &[u8; N] = self.bytes().try_into().expect("the fixed length");
-        bytes
+    pub fn array<const N: usize>(&self) -> &[u8; N] {
+        self.bytes().try_into().expect("the fixed length")
     }
 
-    pub fn array_mut<const N: usize>(&mut self) -> *mut [u8; N] {
-        let bytes: &mut [u8; N] = self.bytes_mut().try_into().expect("the fixed length");
-        bytes
+    pub fn array_mut<const N: usize>(&mut self) -> &mut [u8; N] {
+        self.bytes_mut().try_into().expect("the fixed length")
     }
 
     /// The bytes of the zone, for a switch that makes the library wrong.

@@ -12,6 +12,7 @@ pub use guarded::watch;
 pub use tags::Tags;
 pub use wrong::Spoiled;
 
+use goosetable_sys as sys;
 use guarded::Guarded;
 use lent::{Areas, Device, Outcome, decoded, performed};
 use post::{Answer, Call, Post, Sizes, State};
@@ -30,16 +31,14 @@ struct Input {
 }
 
 impl Input {
-    fn set(&mut self, bytes: &[u8]) -> *const u8 {
+    fn set(&mut self, bytes: &[u8]) {
         self.bytes = bytes.to_vec();
         self.area.set(bytes);
-        self.area.bytes().as_ptr()
     }
 }
 
-pub struct Library {
-    /// What the areas must hold.
-    expected: Areas,
+/// The areas of a post, but its sessions.
+struct Lent {
     device: Guarded,
     contacts: Guarded,
     own: Guarded,
@@ -48,9 +47,42 @@ pub struct Library {
     bad_tags: Guarded,
     own_cells: Guarded,
     carried_cells: Guarded,
-    sessions: Vec<Session>,
     replies: Guarded,
     actions: Guarded,
+}
+
+impl Lent {
+    fn areas(&mut self) -> sys::Areas<'_> {
+        sys::Areas {
+            device: self.device.array_mut(),
+            contacts: self.contacts.array_mut(),
+            own: self.own.array_mut(),
+            carried: self.carried.array_mut(),
+            tombstones: self.tombstones.bytes_mut(),
+            bad_tags: self.bad_tags.bytes_mut(),
+            own_cells: self.own_cells.bytes_mut(),
+            carried_cells: self.carried_cells.bytes_mut(),
+            replies: self.replies.bytes_mut(),
+            actions: self.actions.bytes_mut(),
+        }
+    }
+}
+
+impl Session {
+    fn areas(&mut self) -> sys::Session<'_> {
+        sys::Session {
+            exchange: self.exchange.array_mut(),
+            prefixes: self.prefixes.bytes_mut(),
+            offers: self.offers.bytes_mut(),
+        }
+    }
+}
+
+pub struct Library {
+    /// What the areas must hold.
+    expected: Areas,
+    lent: Lent,
+    sessions: Vec<Session>,
     answer: Guarded,
     row: Guarded,
     /// Tags, window rows, ciphertexts and the like.
@@ -86,7 +118,7 @@ impl Library {
             prefixes: guarded(&session.prefixes),
             offers: guarded(&session.offers),
         };
-        Self {
+        let lent = Lent {
             device: guarded(&areas.device),
             contacts: guarded(&areas.contacts),
             own: guarded(&areas.own),
@@ -95,9 +127,12 @@ impl Library {
             bad_tags: guarded(&areas.bad_tags),
             own_cells: guarded(&areas.own_cells),
             carried_cells: guarded(&areas.carried_cells),
-            sessions: areas.sessions.iter().map(session).collect(),
             replies: guarded(&areas.replies),
             actions: guarded(&areas.actions),
+        };
+        Self {
+            lent,
+            sessions: areas.sessions.iter().map(session).collect(),
             answer: guarded(&areas.answer),
             row: guarded(&areas.row),
             inputs: [(); 4].map(|()| Input {
@@ -115,14 +150,13 @@ impl Library {
         let mut library = Self::of(Areas::untouched(&sizes), sizes.own_cells.is_multiple_of(2));
         library.fresh();
         library.expected.device[Device::ENABLED] = 0xa7;
-        library.device.set(&library.expected.device);
+        library.lent.device.set(&library.expected.device);
         library
     }
 
     /// A fresh device, whatever lay in its area.
     pub fn fresh(&mut self) {
-        // SAFETY: the area has its fixed length.
-        unsafe { goosetable_sys::goosetable_fresh(self.device.array_mut()) };
+        sys::fresh(self.lent.device.array_mut());
         Device::put_fresh(&mut self.expected.device);
         self.differences.extend(self.compare());
     }
@@ -157,24 +191,24 @@ impl Library {
             front(&mut session.prefixes, &expected.prefixes, lent.prefixes);
             front(&mut session.offers, &expected.offers, lent.offers);
         }
-        front(&mut self.replies, &self.expected.replies, lent.replies);
-        front(&mut self.actions, &self.expected.actions, lent.actions);
+        front(&mut self.lent.replies, &self.expected.replies, lent.replies);
+        front(&mut self.lent.actions, &self.expected.actions, lent.actions);
         front(&mut self.answer, &self.expected.answer, lent.answer);
     }
 
     fn compare(&self) -> Vec<String> {
-        let (mut found, expected) = (Vec::new(), &self.expected);
+        let (mut found, lent, expected) = (Vec::new(), &self.lent, &self.expected);
         for (name, real, expected) in [
-            ("device", &self.device, &expected.device[..]),
-            ("contacts", &self.contacts, &expected.contacts),
-            ("own rows", &self.own, &expected.own),
-            ("carried rows", &self.carried, &expected.carried),
-            ("tombstones", &self.tombstones, &expected.tombstones),
-            ("bad tags", &self.bad_tags, &expected.bad_tags),
-            ("own cells", &self.own_cells, &expected.own_cells),
-            ("carried cells", &self.carried_cells, &expected.carried_cells),
-            ("replies", &self.replies, &expected.replies),
-            ("actions", &self.actions, &expected.actions),
+            ("device", &lent.device, &expected.device[..]),
+            ("contacts", &lent.contacts, &expected.contacts),
+            ("own rows", &lent.own, &expected.own),
+            ("carried rows", &lent.carried, &expected.carried),
+            ("tombstones", &lent.tombstones, &expected.tombstones),
+            ("bad tags", &lent.bad_tags, &expected.bad_tags),
+            ("own cells", &lent.own_cells, &expected.own_cells),
+            ("carried cells", &lent.carried_cells, &expected.carried_cells),
+            ("replies", &lent.replies, &expected.replies),
+            ("actions", &lent.actions, &expected.actions),
             ("answer", &self.answer, &expected.answer),
             ("own row answered", &self.row, &expected.row),
         ] {

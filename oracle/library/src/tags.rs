@@ -3,7 +3,7 @@
 use crate::calls::says_only;
 use crate::different;
 use crate::guarded::Guarded;
-use goosetable_sys::{goosetable_commitment, goosetable_delivered, goosetable_route_tag};
+use goosetable_sys as sys;
 
 /// One call's bytes: the key or secret that it reads, and the 16 bytes that it writes.
 pub struct Tags {
@@ -44,9 +44,7 @@ impl Tags {
         area: &[u8; 16],
     ) -> Result<(u8, [u8; 16]), String> {
         self.lend(key, area);
-        let (key_area, tag) = (self.read.array(), self.written.array_mut());
-        // SAFETY: the areas have their fixed lengths and do not overlap.
-        let answer = unsafe { goosetable_route_tag(key_area, dir, generation, index, tag) };
+        let answer = sys::route_tag(self.read.array(), dir, generation, index, self.written.array_mut());
         if answer != says_only(answer.said) {
             return Err(format!("{answer:?} says more than its number"));
         }
@@ -55,15 +53,13 @@ impl Tags {
 
     pub fn delivered(&mut self, key: &[u8; 32], area: &[u8; 16]) -> Result<[u8; 16], String> {
         self.lend(key, area);
-        // SAFETY: as in `route_tag`.
-        unsafe { goosetable_delivered(self.read.array(), self.written.array_mut()) };
+        sys::delivered(self.read.array(), self.written.array_mut());
         self.left(key)
     }
 
     pub fn commitment(&mut self, secret: &[u8; 16], area: &[u8; 16]) -> Result<[u8; 16], String> {
         self.lend(secret, area);
-        // SAFETY: as in `route_tag`.
-        unsafe { goosetable_commitment(self.read.array(), self.written.array_mut()) };
+        sys::commitment(self.read.array(), self.written.array_mut());
         self.left(secret)
     }
 }

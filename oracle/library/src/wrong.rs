@@ -85,20 +85,20 @@ impl Library {
                     *searched ^= 1;
                 }
             }
-            Spoiled::ReplyByte if !outcome.replies.is_empty() => turn(self.replies.bytes_mut().get_mut(20)),
-            Spoiled::ActionByte if !outcome.actions.is_empty() => turn(self.actions.bytes_mut().get_mut(12)),
+            Spoiled::ReplyByte if !outcome.replies.is_empty() => turn(self.lent.replies.bytes_mut().get_mut(20)),
+            Spoiled::ActionByte if !outcome.actions.is_empty() => turn(self.lent.actions.bytes_mut().get_mut(12)),
             Spoiled::ActionCount if !outcome.actions.is_empty() => outcome.actions.truncate(outcome.actions.len() - 1),
-            Spoiled::RowByte if device.tombstones > 0 => turn(self.tombstones.bytes_mut().get_mut(43)),
-            Spoiled::CellByte if device.carried > 0 => turn(self.carried_cells.bytes_mut().get_mut(1)),
-            Spoiled::RefusedCallWrites if refused => turn(self.carried.bytes_mut().last_mut()),
-            Spoiled::ByteBehindTheRows if device.contacts > 2 => turn(self.contacts.bytes_mut().last_mut()),
-            Spoiled::ByteBesideAnArea if device.contacts > 2 => turn(self.contacts.zone_mut().first_mut()),
-            Spoiled::NextSlot if device.tombstones > 0 => turn(self.device.bytes_mut().last_mut()),
-            Spoiled::FlagRewritten if device.setting.enabled => self.device.bytes_mut()[Device::ENABLED] = 1,
+            Spoiled::RowByte if device.tombstones > 0 => turn(self.lent.tombstones.bytes_mut().get_mut(43)),
+            Spoiled::CellByte if device.carried > 0 => turn(self.lent.carried_cells.bytes_mut().get_mut(1)),
+            Spoiled::RefusedCallWrites if refused => turn(self.lent.carried.bytes_mut().last_mut()),
+            Spoiled::ByteBehindTheRows if device.contacts > 2 => turn(self.lent.contacts.bytes_mut().last_mut()),
+            Spoiled::ByteBesideAnArea if device.contacts > 2 => turn(self.lent.contacts.zone_mut().first_mut()),
+            Spoiled::NextSlot if device.tombstones > 0 => turn(self.lent.device.bytes_mut().last_mut()),
+            Spoiled::FlagRewritten if device.setting.enabled => self.lent.device.bytes_mut()[Device::ENABLED] = 1,
             Spoiled::ClosedPeer => self.turn_closed_peers(),
             Spoiled::AnswerByte if !outcome.bytes.is_empty() => turn(self.answer.bytes_mut().first_mut()),
             Spoiled::ByteBehindTheAnswer => turn(self.answer.bytes_mut().get_mut(outcome.bytes.len())),
-            Spoiled::ReadsOutside if device.contacts > 2 => self.contacts.read_outside(),
+            Spoiled::ReadsOutside if device.contacts > 2 => self.lent.contacts.read_outside(),
             _ => {}
         }
     }

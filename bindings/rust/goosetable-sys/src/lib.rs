@@ -1,8 +1,21 @@
-//! The functions of `libgoosetable.a` as C has them; `include/goosetable.h` says what each does. The crate `goosetable` beside this one is the safe form.
+//! The functions of `libgoosetable.a` as C has them; `include/goosetable.h` says what each does. The crate `goosetable` beside this one is a post that
+//! owns its areas.
 //!
 //! A slice is a pointer and a length, never null; a table of fixed size is a pointer alone. No area that is written may overlap another area of the same
 //! call. Nothing else is asked of a caller: areas may have any length and hold any bytes.
+//!
+//! [`Areas`], [`Tables`] and [`Session`] are a post's areas lent by reference, and have each call as a safe method, by the function's name without
+//! `goosetable_`. [`OwnRow`] and the like are rows read from their bytes.
 #![no_std]
+
+mod areas;
+mod rows;
+
+pub use areas::{
+    Areas, Envelope, OwnEnvelope, Session, Tables, commitment, delivered, fresh, route_tag,
+    row_read, version, window,
+};
+pub use rows::{ActionRow, Fields, KeyRow, OwnRow, ReplyRow};
 
 /// Bytes of the area in which a post's device lies.
 pub const DEVICE: usize = 60;
@@ -31,8 +44,14 @@ pub const ACTION_ROW: usize = 13;
 pub const CHAIN_ROW: usize = 10;
 /// Bytes of a skipped or listed key.
 pub const KEY_ROW: usize = 6;
+/// Bytes of a tag, a commitment or a secret.
+pub const TAG: usize = 16;
 /// Bytes of a tag's prefix.
 pub const PREFIX: usize = 8;
+/// Bytes of a route key or a message key.
+pub const KEY: usize = 32;
+/// Bytes of a reply's body.
+pub const BODY: usize = 37;
 /// Bytes of the cell of a ciphertext.
 pub const CELL: usize = 2064;
 
@@ -90,9 +109,30 @@ pub const MISSING: u8 = 130;
 /// The message gets no own envelope.
 pub const NO_ENVELOPE: u8 = 131;
 
+/// A reply asks for an envelope.
+pub const REPLY_FETCH: u8 = 0;
+/// A reply is an envelope.
+pub const REPLY_ENVELOPE: u8 = 1;
+/// A reply is the code for an envelope.
+pub const REPLY_CUSTODY: u8 = 2;
+/// A reply is the secret that proves a delivery.
+pub const REPLY_TOMB: u8 = 3;
+
+/// The held row in a slot is stored.
+pub const ACTION_PUT: u8 = 0;
+/// The held row in a slot goes.
+pub const ACTION_DELETE: u8 = 1;
+/// The own row of a contact and message number is stored, or has ended.
+pub const ACTION_OWN_PUT: u8 = 2;
+
+/// A held row is carried.
+pub const KIND_CARRIED: u8 = 1;
+/// A held row is a tombstone.
+pub const KIND_TOMBSTONE: u8 = 2;
+
 /// The answer of every call.
 #[repr(C)]
-#[derive(Clone, Copy, Debug, PartialEq, Eq)]
+#[derive(Clone, Copy, Debug, Default, PartialEq, Eq)]
 pub struct Answer {
     /// Whose envelope it is, where it is ours.
     pub contact: u64,
@@ -110,7 +150,7 @@ pub struct Answer {
 
 /// A held row that was read: kind 0 none, 1 carried, 2 a tombstone.
 #[repr(C)]
-#[derive(Clone, Copy, Debug, PartialEq, Eq)]
+#[derive(Clone, Copy, Debug, Default, PartialEq, Eq)]
 pub struct Row {
     pub depositor: u64,
     pub expiry_min: u32,

@@ -1,10 +1,12 @@
 //! What calls answer.
-#![forbid(unsafe_code)]
 
-use crate::{ContactId, Custody, Envelope, Header, Post, Secret, Slot, Tag, rows::Fields};
+use crate::{
+    ContactId, Custody, Envelope, Header, Post, Secret, Slot, Tag,
+    rows::{Fields, Typed},
+};
 use alloc::vec::Vec;
 use core::{fmt, iter::FusedIterator, slice};
-use goosetable_sys::{ACTION_ROW, Answer, REPLY_ROW};
+use goosetable_sys::{self as sys, ACTION_ROW, ActionRow, Answer, REPLY_ROW, ReplyRow};
 
 /// What a call made of a peer's record.
 #[derive(Clone, Debug)]
@@ -85,10 +87,10 @@ impl<'a> Reply<'a> {
     /// The number of its kind: 0 fetch, 1 envelope, 2 custody, 3 tomb.
     pub const fn kind(&self) -> u8 {
         match self {
-            Reply::Fetch(_) => 0,
-            Reply::Envelope(_) => 1,
-            Reply::Custody { .. } => 2,
-            Reply::Tomb { .. } => 3,
+            Reply::Fetch(_) => sys::REPLY_FETCH,
+            Reply::Envelope(_) => sys::REPLY_ENVELOPE,
+            Reply::Custody { .. } => sys::REPLY_CUSTODY,
+            Reply::Tomb { .. } => sys::REPLY_TOMB,
         }
     }
 
@@ -107,13 +109,13 @@ impl<'a> Reply<'a> {
     pub fn from_bytes(kind: u8, bytes: &'a [u8]) -> Option<Reply<'a>> {
         let mut fields = Fields(bytes);
         Some(match (kind, bytes.len()) {
-            (0, 16) => Reply::Fetch(fields.tag()),
-            (1, _) => Reply::Envelope(Envelope::from_bytes(bytes)?),
-            (2, 17) => Reply::Custody {
+            (sys::REPLY_FETCH, 16) => Reply::Fetch(fields.tag()),
+            (sys::REPLY_ENVELOPE, _) => Reply::Envelope(Envelope::from_bytes(bytes)?),
+            (sys::REPLY_CUSTODY, 17) => Reply::Custody {
                 tag: fields.tag(),
                 code: Custody::from_code(fields.u8())?,
             },
-            (3, 32) => Reply::Tomb {
+            (sys::REPLY_TOMB, 32) => Reply::Tomb {
                 tag: fields.tag(),
                 secret: fields.secret(),
             },
@@ -202,20 +204,20 @@ impl<'a> Replies<'a> {
     }
 
     fn read(&self, row: &[u8; REPLY_ROW]) -> Reply<'a> {
-        let mut fields = Fields(row);
-        let (kind, cell) = (fields.u8(), fields.u16());
-        match kind {
-            0 => Reply::Fetch(fields.tag()),
-            1 => Reply::Envelope(self.offered(cell, fields.header())),
-            2 => Reply::Custody {
+        let row = ReplyRow::read(row);
+        let mut fields = Fields(&row.body);
+        match row.kind {
+            sys::REPLY_FETCH => Reply::Fetch(fields.tag()),
+            sys::REPLY_ENVELOPE => Reply::Envelope(self.offered(row.cell, fields.header())),
+            sys::REPLY_CUSTODY => Reply::Custody {
                 tag: fields.tag(),
                 code: fields.custody(),
             },
-            3 => Reply::Tomb {
+            sys::REPLY_TOMB => Reply::Tomb {
                 tag: fields.tag(),
                 secret: fields.secret(),
             },
-            _ => unreachable!("a reply of kind {kind}"),
+            kind => unreachable!("a reply of kind {kind}"),
         }
     }
 
@@ -232,11 +234,10 @@ impl<'a> Replies<'a> {
 
 /// The envelope that the fetch call found, with a ciphertext of so many bytes.
 pub(crate) fn fetched(post: &Post, len: usize) -> Envelope<'_> {
-    let mut fields = Fields(&post.replies);
-    let (_kind, cell) = (fields.u8(), fields.u16());
+    let row = ReplyRow::read(&Fields(&post.replies).array());
     Envelope {
-        header: fields.header(),
-        ciphertext: post.areas.ciphertext(cell, len),
+        header: Fields(&row.body).header(),
+        ciphertext: post.areas.ciphertext(row.cell, len),
     }
 }
 
@@ -296,13 +297,13 @@ impl<'a> Actions<'a> {
     }
 
     fn read(row: &[u8; ACTION_ROW]) -> Action {
-        let mut fields = Fields(row);
-        match fields.u8() {
-            0 => Action::Put(fields.slot()),
-            1 => Action::Delete(fields.slot()),
-            2 => Action::OwnPut {
-                contact: fields.contact(),
-                message: fields.u32(),
+        let row = ActionRow::read(row);
+        match row.kind {
+            sys::ACTION_PUT => Action::Put(Slot(row.number)),
+            sys::ACTION_DELETE => Action::Delete(Slot(row.number)),
+            sys::ACTION_OWN_PUT => Action::OwnPut {
+                contact: ContactId(row.number),
+                message: row.msgno,
             },
             kind => unreachable!("an action of kind {kind}"),
         }

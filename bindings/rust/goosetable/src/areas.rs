@@ -1,5 +1,4 @@
 //! The byte areas of a post.
-#![forbid(unsafe_code)]
 
 use crate::{
     BadTag, CarriedRow, Contact, ContactId, Envelope, OwnRow, Refusal, Setting, Tag, Tombstone,
@@ -182,6 +181,20 @@ impl Areas {
             own_cells: MAX_ROWS.min(self.own_cells.len() / CELL),
             tombstone_rows: self.tombstones.len() / TOMBSTONE_ROW,
             bad_tag_rows: self.bad_tags.len() / BAD_TAG_ROW,
+        }
+    }
+
+    /// The areas to be read, for a call.
+    pub(crate) fn tables(&self) -> sys::Tables<'_> {
+        sys::Tables {
+            device: &self.device,
+            contacts: &self.contacts,
+            own: &self.own,
+            carried: &self.carried,
+            tombstones: &self.tombstones,
+            bad_tags: &self.bad_tags,
+            own_cells: &self.own_cells,
+            carried_cells: &self.carried_cells,
         }
     }
 

@@ -1,10 +1,4 @@
-//! The library's functions, called on the areas of a post. All `unsafe` of the crate is here.
-//!
-//! Each call is sound for the same reason. A post and an exchange own every area in a field or a box of
-//! its own, and other areas are borrowed beside them, so that an area behind `&mut` overlaps no other; a
-//! length that is passed is the area's; no pointer of a reference is null. More is not asked: any bytes
-//! will do, and nothing is kept after a call.
-#![allow(unsafe_code)]
+//! The library's calls on the areas of a post, each answered or refused.
 
 use crate::{
     BLOB, Commitment, ContactId, Custody, Envelope, Exchange, MAX_LISTED, MessageKey, OwnMessage,
@@ -35,57 +29,31 @@ fn never_refused(said: Said) -> Answer {
 
 /// The library's version, as [`library_version`](crate::library_version) answers it.
 pub(crate) fn version() -> u32 {
-    unsafe { sys::goosetable_version_0_2() }
+    sys::version()
 }
 
 pub(crate) fn fresh() -> [u8; sys::DEVICE] {
     let mut device = [0; sys::DEVICE];
-    unsafe { sys::goosetable_fresh(&mut device) };
+    sys::fresh(&mut device);
     device
 }
 
 pub(crate) fn clock(post: &mut Post, seconds: u64) {
-    let answer = unsafe { sys::goosetable_clock(&mut post.areas.device, seconds) };
-    never_refused(said(answer));
+    never_refused(said(post.lent().clock(seconds)));
 }
 
 pub(crate) fn setting(post: &mut Post, to: Setting) -> Said {
-    said(unsafe {
-        sys::goosetable_setting(
-            &mut post.areas.device,
-            u8::from(to.enabled),
-            to.copies,
-            to.lifetime_min,
-        )
-    })
+    let enabled = u8::from(to.enabled);
+    said(post.lent().setting(enabled, to.copies, to.lifetime_min))
 }
 
 pub(crate) fn contact(post: &mut Post, id: ContactId, verification: Verification) -> Said {
-    let areas = &mut post.areas;
-    said(unsafe {
-        sys::goosetable_contact(
-            &mut areas.device,
-            id.0,
-            verification as u8,
-            &mut *areas.contacts,
-        )
-    })
+    said(post.lent().contact(id.0, verification as u8))
 }
 
 pub(crate) fn fresh_exchange(post: &Post, exchange: &mut Exchange, peer: ContactId) -> Said {
-    let prefixes = exchange.prefixes.as_flattened();
-    said(unsafe {
-        sys::goosetable_fresh_exchange(
-            &post.areas.device,
-            &mut exchange.state,
-            peer.0,
-            &*post.areas.contacts,
-            prefixes.as_ptr(),
-            prefixes.len(),
-            exchange.offers.as_ptr(),
-            exchange.offers.len(),
-        )
-    })
+    let tables = post.areas.tables();
+    said(tables.fresh_exchange(&mut exchange.lent(), peer.0))
 }
 
 pub(crate) fn envelope(
@@ -94,53 +62,20 @@ pub(crate) fn envelope(
     envelope: &Envelope<'_>,
     window: &Window,
 ) -> Said {
-    let areas = &mut post.areas;
     let head = &envelope.header;
-    said_or(sys::OURS, unsafe {
-        sys::goosetable_envelope(
-            &mut areas.device,
-            peer.0,
-            &head.tag.0,
-            &head.commitment.0,
-            head.expiry_min,
-            head.copies,
-            envelope.ciphertext.as_ptr(),
-            envelope.ciphertext.len(),
-            window.bytes().as_ptr(),
-            window.bytes().len(),
-            &*areas.contacts,
-            &*areas.own,
-            &mut *areas.carried,
-            areas.tombstones.as_ptr(),
-            areas.tombstones.len(),
-            areas.carried_cells.as_mut_ptr(),
-            areas.carried_cells.len(),
-            post.replies.as_mut_ptr(),
-            post.replies.len(),
-            post.actions.as_mut_ptr(),
-            post.actions.len(),
-        )
-    })
+    let sent = sys::Envelope {
+        tag: &head.tag.0,
+        commitment: &head.commitment.0,
+        expiry: head.expiry_min,
+        copies: head.copies,
+        ciphertext: envelope.ciphertext,
+    };
+    let answer = post.lent().envelope(peer.0, &sent, window.bytes());
+    said_or(sys::OURS, answer)
 }
 
 pub(crate) fn fetch(post: &mut Post, peer: ContactId, tag: Tag) -> Said {
-    let areas = &post.areas;
-    said_or(sys::MISSING, unsafe {
-        sys::goosetable_fetch(
-            &areas.device,
-            peer.0,
-            &tag.0,
-            &*areas.contacts,
-            &*areas.own,
-            &*areas.carried,
-            areas.own_cells.as_ptr(),
-            areas.own_cells.len(),
-            areas.carried_cells.as_ptr(),
-            areas.carried_cells.len(),
-            post.replies.as_mut_ptr(),
-            post.replies.len(),
-        )
-    })
+    said_or(sys::MISSING, post.lent().fetch(peer.0, &tag.0))
 }
 
 pub(crate) fn own_envelope(
@@ -148,26 +83,17 @@ pub(crate) fn own_envelope(
     message: &OwnMessage<'_>,
     row: &mut [u8; sys::OWN_ROW],
 ) -> Said {
-    let areas = &mut post.areas;
-    said_or(sys::NO_ENVELOPE, unsafe {
-        sys::goosetable_own_envelope(
-            &mut areas.device,
-            message.contact.0,
-            message.message,
-            message.route_key,
-            message.key.direction.label(),
-            message.key.generation,
-            message.key.index,
-            &message.secret.0,
-            message.ciphertext.as_ptr(),
-            message.ciphertext.len(),
-            &*areas.contacts,
-            &mut *areas.own,
-            areas.own_cells.as_mut_ptr(),
-            areas.own_cells.len(),
-            row,
-        )
-    })
+    let new = sys::OwnEnvelope {
+        contact: message.contact.0,
+        msgno: message.message,
+        route_key: message.route_key,
+        dir: message.key.direction.label(),
+        generation: message.key.generation,
+        idx: message.key.index,
+        secret: &message.secret.0,
+        ciphertext: message.ciphertext,
+    };
+    said_or(sys::NO_ENVELOPE, post.lent().own_envelope(&new, row))
 }
 
 pub(crate) fn inventory_of_ours(
@@ -175,19 +101,8 @@ pub(crate) fn inventory_of_ours(
     peer: ContactId,
     prefixes: &mut [Prefix; MAX_LISTED],
 ) -> Said {
-    let areas = &post.areas;
-    let prefixes = prefixes.as_flattened_mut();
-    said(unsafe {
-        sys::goosetable_inventory_of_ours(
-            &areas.device,
-            peer.0,
-            &*areas.contacts,
-            &*areas.own,
-            &*areas.carried,
-            prefixes.as_mut_ptr(),
-            prefixes.len(),
-        )
-    })
+    let tables = post.areas.tables();
+    said(tables.inventory_of_ours(peer.0, prefixes.as_flattened_mut()))
 }
 
 pub(crate) fn inventory(
@@ -197,32 +112,10 @@ pub(crate) fn inventory(
     window: &Window,
     listed: &[Prefix],
 ) -> Said {
-    let areas = &post.areas;
-    let prefixes = exchange.prefixes.as_flattened_mut();
-    said_or(sys::MALFORMED, unsafe {
-        sys::goosetable_inventory(
-            &areas.device,
-            &mut exchange.state,
-            peer.0,
-            &*areas.contacts,
-            &*areas.own,
-            &*areas.carried,
-            areas.tombstones.as_ptr(),
-            areas.tombstones.len(),
-            areas.bad_tags.as_ptr(),
-            areas.bad_tags.len(),
-            window.bytes().as_ptr(),
-            window.bytes().len(),
-            listed.as_flattened().as_ptr(),
-            listed.as_flattened().len(),
-            prefixes.as_mut_ptr(),
-            prefixes.len(),
-            exchange.offers.as_mut_ptr(),
-            exchange.offers.len(),
-            post.replies.as_mut_ptr(),
-            post.replies.len(),
-        )
-    })
+    let (window, listed) = (window.bytes(), listed.as_flattened());
+    let session = &mut exchange.lent();
+    let answer = post.lent().inventory(session, peer.0, window, listed);
+    said_or(sys::MALFORMED, answer)
 }
 
 pub(crate) fn custody_code(
@@ -232,63 +125,18 @@ pub(crate) fn custody_code(
     tag: Tag,
     code: Custody,
 ) -> Said {
-    let areas = &mut post.areas;
-    let prefixes = exchange.prefixes.as_flattened();
-    said(unsafe {
-        sys::goosetable_custody_code(
-            &mut areas.device,
-            &mut exchange.state,
-            peer.0,
-            &tag.0,
-            code.code(),
-            &*areas.contacts,
-            &mut *areas.own,
-            &mut *areas.carried,
-            areas.tombstones.as_ptr(),
-            areas.tombstones.len(),
-            prefixes.as_ptr(),
-            prefixes.len(),
-            exchange.offers.as_mut_ptr(),
-            exchange.offers.len(),
-            post.actions.as_mut_ptr(),
-            post.actions.len(),
-        )
-    })
+    let session = &mut exchange.lent();
+    let mut areas = post.lent();
+    said(areas.custody_code(session, peer.0, &tag.0, code.code()))
 }
 
 pub(crate) fn stored_tombstone(post: &mut Post, tag: Tag, secret: Secret, expiry: u32) -> Said {
-    let areas = &mut post.areas;
-    said(unsafe {
-        sys::goosetable_stored_tombstone(
-            &mut areas.device,
-            &tag.0,
-            &secret.0,
-            expiry,
-            areas.tombstones.as_mut_ptr(),
-            areas.tombstones.len(),
-            post.actions.as_mut_ptr(),
-            post.actions.len(),
-        )
-    })
+    said(post.lent().stored_tombstone(&tag.0, &secret.0, expiry))
 }
 
 pub(crate) fn tomb(post: &mut Post, peer: ContactId, tag: Tag, secret: Secret) -> Said {
-    let areas = &mut post.areas;
-    said_or(sys::MALFORMED, unsafe {
-        sys::goosetable_tomb(
-            &mut areas.device,
-            peer.0,
-            &tag.0,
-            &secret.0,
-            &*areas.contacts,
-            &mut *areas.own,
-            &mut *areas.carried,
-            areas.tombstones.as_mut_ptr(),
-            areas.tombstones.len(),
-            post.actions.as_mut_ptr(),
-            post.actions.len(),
-        )
-    })
+    let answer = post.lent().tomb(peer.0, &tag.0, &secret.0);
+    said_or(sys::MALFORMED, answer)
 }
 
 pub(crate) fn opened(
@@ -298,158 +146,61 @@ pub(crate) fn opened(
     secret: Secret,
     expiry: u32,
 ) -> Said {
-    let areas = &mut post.areas;
-    said(unsafe {
-        sys::goosetable_opened(
-            &mut areas.device,
-            peer.0,
-            &tag.0,
-            &secret.0,
-            expiry,
-            &*areas.contacts,
-            areas.tombstones.as_mut_ptr(),
-            areas.tombstones.len(),
-            post.replies.as_mut_ptr(),
-            post.replies.len(),
-            post.actions.as_mut_ptr(),
-            post.actions.len(),
-        )
-    })
+    said(post.lent().opened(peer.0, &tag.0, &secret.0, expiry))
 }
 
 pub(crate) fn failed(post: &mut Post, peer: ContactId, tag: Tag) -> Said {
-    let areas = &mut post.areas;
-    said_or(sys::MALFORMED, unsafe {
-        sys::goosetable_failed(
-            &mut areas.device,
-            peer.0,
-            &tag.0,
-            &*areas.contacts,
-            areas.bad_tags.as_mut_ptr(),
-            areas.bad_tags.len(),
-        )
-    })
+    said_or(sys::MALFORMED, post.lent().failed(peer.0, &tag.0))
 }
 
 pub(crate) fn maintenance(post: &mut Post) -> Said {
-    let areas = &mut post.areas;
-    said(unsafe {
-        sys::goosetable_maintenance(
-            &mut areas.device,
-            &mut *areas.own,
-            &mut *areas.carried,
-            areas.tombstones.as_mut_ptr(),
-            areas.tombstones.len(),
-            post.actions.as_mut_ptr(),
-            post.actions.len(),
-        )
-    })
+    said(post.lent().maintenance())
 }
 
 pub(crate) fn row_blob(post: &Post, slot: Slot, blob: &mut [u8; BLOB]) -> Answer {
-    let areas = &post.areas;
-    let answer = unsafe {
-        sys::goosetable_row_blob(
-            &areas.device,
-            slot.0,
-            &*areas.carried,
-            areas.tombstones.as_ptr(),
-            areas.tombstones.len(),
-            areas.carried_cells.as_ptr(),
-            areas.carried_cells.len(),
-            blob.as_mut_ptr(),
-            blob.len(),
-        )
-    };
+    let answer = post.areas.tables().row_blob(slot.0, blob);
     never_refused(said_or(sys::MISSING, answer))
 }
 
 pub(crate) fn save(post: &Post, file: &mut [u8]) -> Said {
-    let areas = &post.areas;
-    said(unsafe {
-        sys::goosetable_save(
-            &areas.device,
-            &*areas.carried,
-            areas.tombstones.as_ptr(),
-            areas.tombstones.len(),
-            areas.carried_cells.as_ptr(),
-            areas.carried_cells.len(),
-            file.as_mut_ptr(),
-            file.len(),
-        )
-    })
+    said(post.areas.tables().save(file))
 }
 
 /// The bytes of a screen page, in front of its area.
 pub(crate) fn page(post: &Post, page: u64, area: &mut [u8; PAGE]) -> usize {
-    let areas = &post.areas;
-    let answer = unsafe {
-        sys::goosetable_page(
-            &areas.device,
-            page,
-            &*areas.carried,
-            areas.tombstones.as_ptr(),
-            areas.tombstones.len(),
-            area.as_mut_ptr(),
-            area.len(),
-        )
-    };
-    never_refused(said(answer)).length
+    never_refused(said(post.areas.tables().page(page, area))).length
 }
 
 pub(crate) fn load(post: &mut Post, file: &[u8]) -> Said {
-    let areas = &mut post.areas;
-    said(unsafe {
-        sys::goosetable_load(
-            &mut areas.device,
-            &*areas.contacts,
-            &mut *areas.carried,
-            areas.tombstones.as_mut_ptr(),
-            areas.tombstones.len(),
-            areas.carried_cells.as_mut_ptr(),
-            areas.carried_cells.len(),
-            file.as_ptr(),
-            file.len(),
-        )
-    })
+    said(post.lent().load(file))
 }
 
 pub(crate) fn window(skipped: &[u8], chains: &[u8], keys: &mut [u8; sys::KEYS]) -> Said {
-    said(unsafe {
-        sys::goosetable_window(
-            skipped.as_ptr(),
-            skipped.len(),
-            chains.as_ptr(),
-            chains.len(),
-            keys.as_mut_ptr(),
-            keys.len(),
-        )
-    })
+    said(sys::window(skipped, chains, keys))
 }
 
 pub(crate) fn route_tag(key: &[u8; 32], at: MessageKey) -> Tag {
     let mut tag = [0; 16];
-    let answer = unsafe {
-        sys::goosetable_route_tag(key, at.direction.label(), at.generation, at.index, &mut tag)
-    };
+    let dir = at.direction.label();
+    let answer = sys::route_tag(key, dir, at.generation, at.index, &mut tag);
     never_refused(said(answer));
     Tag(tag)
 }
 
 pub(crate) fn delivered(key: &[u8; 32]) -> Secret {
     let mut secret = [0; 16];
-    unsafe { sys::goosetable_delivered(key, &mut secret) };
+    sys::delivered(key, &mut secret);
     Secret(secret)
 }
 
 pub(crate) fn commitment(secret: &Secret) -> Commitment {
     let mut commitment = [0; 16];
-    unsafe { sys::goosetable_commitment(&secret.0, &mut commitment) };
+    sys::commitment(&secret.0, &mut commitment);
     Commitment(commitment)
 }
 
 pub(crate) fn row_read(blob: &[u8]) -> sys::Row {
-    unsafe { sys::goosetable_row_read(blob.as_ptr(), blob.len()) }
+    sys::row_read(blob)
 }
 
 #[cfg(test)]
@@ -458,13 +209,8 @@ mod tests {
 
     fn answer(said: u8) -> Answer {
         Answer {
-            contact: 0,
-            replies: 0,
-            actions: 0,
-            length: 0,
-            idx: 0,
-            generation: 0,
             said,
+            ..Answer::default()
         }
     }
 

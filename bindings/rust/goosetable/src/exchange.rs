@@ -1,10 +1,12 @@
 //! One meeting with a peer.
-#![forbid(unsafe_code)]
 
-use crate::{ContactId, Prefix, rows::Fields};
+use crate::{
+    ContactId, Prefix,
+    rows::{Fields, Typed},
+};
 use alloc::boxed::Box;
 use core::fmt;
-use goosetable_sys::{EXCHANGE, MAX_LISTED, OFFERS};
+use goosetable_sys::{EXCHANGE, MAX_LISTED, OFFERS, Session};
 
 /// One meeting with a peer: what the peer listed, and what was offered to it and is not yet answered.
 /// [`Post::fresh_exchange`](crate::Post::fresh_exchange) opens it; several may be open at once.
@@ -22,6 +24,15 @@ impl Exchange {
             state: [0; EXCHANGE],
             prefixes: Box::new([[0; 8]; MAX_LISTED]),
             offers: Box::new([0; OFFERS]),
+        }
+    }
+
+    /// Its areas, for a call.
+    pub(crate) fn lent(&mut self) -> Session<'_> {
+        Session {
+            exchange: &mut self.state,
+            prefixes: self.prefixes.as_flattened_mut(),
+            offers: &mut *self.offers,
         }
     }
 

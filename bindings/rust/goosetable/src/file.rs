@@ -1,7 +1,9 @@
 //! A saved file made of stored rows.
-#![forbid(unsafe_code)]
 
-use crate::{HeldRow, Post, Refusal, Slot, row_read, rows::Fields};
+use crate::{
+    HeldRow, Post, Refusal, Slot, row_read,
+    rows::{Fields, Typed},
+};
 use alloc::vec::Vec;
 use core::{error, fmt};
 

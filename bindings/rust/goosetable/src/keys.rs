@@ -1,5 +1,4 @@
 //! What is computed from keys.
-#![forbid(unsafe_code)]
 
 use crate::{Commitment, MessageKey, Secret, Tag, calls};
 

@@ -1,7 +1,7 @@
 #![doc = include_str!("../../README.md")]
 #![no_std]
 #![warn(missing_docs, clippy::missing_errors_doc)]
-#![deny(unsafe_code)]
+#![forbid(unsafe_code)]
 
 extern crate alloc;
 

@@ -1,5 +1,4 @@
 //! A post and its calls.
-#![forbid(unsafe_code)]
 
 use crate::{
     Actions, Areas, BLOB, BadTag, CarriedRow, Contact, ContactId, Custody, Envelope, Exchange,
@@ -91,6 +90,23 @@ impl Post {
             replies: zeros(1, sys::REPLIES)?,
             actions: zeros(1, actions)?,
         })
+    }
+
+    /// All its areas, for a call.
+    pub(crate) fn lent(&mut self) -> sys::Areas<'_> {
+        let areas = &mut self.areas;
+        sys::Areas {
+            device: &mut areas.device,
+            contacts: &mut areas.contacts,
+            own: &mut areas.own,
+            carried: &mut areas.carried,
+            tombstones: &mut areas.tombstones,
+            bad_tags: &mut areas.bad_tags,
+            own_cells: &mut areas.own_cells,
+            carried_cells: &mut areas.carried_cells,
+            replies: &mut self.replies,
+            actions: &mut self.actions,
+        }
     }
 
     /// All that the post has, as bytes. A host that stores all of it between two calls needs to follow no action.

@@ -1,5 +1,4 @@
 //! Why a call is refused.
-#![forbid(unsafe_code)]
 
 use core::{error, fmt};
 

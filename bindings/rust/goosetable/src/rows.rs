@@ -1,76 +1,64 @@
 //! Rows read from their bytes.
-#![forbid(unsafe_code)]
 
 use crate::{
     Commitment, ContactId, Custody, Direction, Envelope, Header, MessageKey, Secret, Slot, Tag,
     Verification, calls,
 };
+pub(crate) use goosetable_sys::Fields;
 use goosetable_sys::{
-    BAD_TAG_ROW, CARRIED_HEAD, CARRIED_ROW, CONTACT_ROW, OWN_ROW, Row, TOMBSTONE_ROW,
+    self as sys, BAD_TAG_ROW, CARRIED_HEAD, CARRIED_ROW, CONTACT_ROW, KEY_ROW, OWN_ROW, Row,
+    TOMBSTONE_ROW,
 };
 
-/// What is left of a row of fixed size, read field by field.
-pub(crate) struct Fields<'a>(pub(crate) &'a [u8]);
+/// The fields of a row as this crate's types.
+pub(crate) trait Typed {
+    fn contact(&mut self) -> ContactId;
+    fn slot(&mut self) -> Slot;
+    fn tag(&mut self) -> Tag;
+    fn secret(&mut self) -> Secret;
+    fn header(&mut self) -> Header;
+    /// The code of a custody reply.
+    fn custody(&mut self) -> Custody;
+    /// A key that the window call listed: its direction is `I` or `R`.
+    fn message_key(&mut self) -> MessageKey;
+}
 
-impl Fields<'_> {
-    fn take<const N: usize>(&mut self) -> [u8; N] {
-        let (field, rest) = self.0.split_first_chunk().expect("a row has its fields");
-        self.0 = rest;
-        *field
-    }
-
-    pub(crate) fn u8(&mut self) -> u8 {
-        u8::from_be_bytes(self.take())
-    }
-
-    pub(crate) fn u16(&mut self) -> u16 {
-        u16::from_be_bytes(self.take())
-    }
-
-    pub(crate) fn u32(&mut self) -> u32 {
-        u32::from_be_bytes(self.take())
-    }
-
-    pub(crate) fn u64(&mut self) -> u64 {
-        u64::from_be_bytes(self.take())
-    }
-
-    pub(crate) fn contact(&mut self) -> ContactId {
+impl Typed for Fields<'_> {
+    fn contact(&mut self) -> ContactId {
         ContactId(self.u64())
     }
 
-    pub(crate) fn slot(&mut self) -> Slot {
+    fn slot(&mut self) -> Slot {
         Slot(self.u64())
     }
 
-    pub(crate) fn tag(&mut self) -> Tag {
-        Tag(self.take())
+    fn tag(&mut self) -> Tag {
+        Tag(self.array())
     }
 
-    pub(crate) fn secret(&mut self) -> Secret {
-        Secret(self.take())
+    fn secret(&mut self) -> Secret {
+        Secret(self.array())
     }
 
-    /// The code of a custody reply.
-    pub(crate) fn custody(&mut self) -> Custody {
-        Custody::from_code(self.u8()).expect("a custody reply has a code from 0 to 4")
-    }
-
-    pub(crate) fn header(&mut self) -> Header {
+    fn header(&mut self) -> Header {
         Header {
             tag: self.tag(),
-            commitment: Commitment(self.take()),
+            commitment: Commitment(self.array()),
             expiry_min: self.u32(),
             copies: self.u8(),
         }
     }
 
-    /// A key that the window call listed: its direction is `I` or `R`.
-    pub(crate) fn message_key(&mut self) -> MessageKey {
+    fn custody(&mut self) -> Custody {
+        Custody::from_code(self.u8()).expect("a custody reply has a code from 0 to 4")
+    }
+
+    fn message_key(&mut self) -> MessageKey {
+        let key = sys::KeyRow::read(&self.array::<KEY_ROW>());
         MessageKey {
-            direction: Direction::from_label(self.u8()).expect("a key has a direction"),
-            generation: self.u8(),
-            index: self.u32(),
+            direction: Direction::from_label(key.direction).expect("a key has a direction"),
+            generation: key.generation,
+            index: key.index,
         }
     }
 }
@@ -169,7 +157,10 @@ impl CarriedHead {
             slot: fields.slot(),
             depositor: fields.contact(),
             header: fields.header(),
-            place: Place::read(&mut fields),
+            place: Place {
+                len: fields.u16(),
+                cell: fields.u16(),
+            },
         }
     }
 }
@@ -211,15 +202,6 @@ pub(crate) struct Place {
     pub(crate) cell: u16,
 }
 
-impl Place {
-    fn read(fields: &mut Fields<'_>) -> Place {
-        Place {
-            len: fields.u16(),
-            cell: fields.u16(),
-        }
-    }
-}
-
 impl OwnRow {
     /// Bytes of an own row.
     pub const SIZE: usize = OWN_ROW;
@@ -227,31 +209,35 @@ impl OwnRow {
     /// The bytes under which a host stores the row, with its ciphertext: after
     /// [`Post::own_envelope`](crate::Post::own_envelope), and for each [`Action::OwnPut`](crate::Action::OwnPut).
     pub fn to_bytes(&self) -> [u8; OWN_ROW] {
-        let mut bytes = [0; OWN_ROW];
-        bytes[..8].copy_from_slice(&self.contact.0.to_be_bytes());
-        bytes[8..12].copy_from_slice(&self.message.to_be_bytes());
-        bytes[12..28].copy_from_slice(&self.tag.0);
-        bytes[28..44].copy_from_slice(&self.secret.0);
-        bytes[44..48].copy_from_slice(&self.expiry_min.to_be_bytes());
-        bytes[48] = self.copies;
-        bytes[49] = u8::from(self.renewed);
-        bytes[50..52].copy_from_slice(&self.place.len.to_be_bytes());
-        bytes[52..].copy_from_slice(&self.place.cell.to_be_bytes());
-        bytes
+        let row = sys::OwnRow {
+            contact: self.contact.0,
+            msgno: self.message,
+            tag: self.tag.0,
+            secret: self.secret.0,
+            expiry: self.expiry_min,
+            copies: self.copies,
+            renewed: self.renewed,
+            length: self.place.len,
+            cell: self.place.cell,
+        };
+        row.bytes()
     }
 
     /// The row that stored bytes are, for [`Post::restore_own_row`](crate::Post::restore_own_row).
     pub fn from_bytes(bytes: &[u8; OWN_ROW]) -> OwnRow {
-        let mut fields = Fields(bytes);
+        let row = sys::OwnRow::read(bytes);
         OwnRow {
-            contact: fields.contact(),
-            message: fields.u32(),
-            tag: fields.tag(),
-            secret: fields.secret(),
-            expiry_min: fields.u32(),
-            copies: fields.u8(),
-            renewed: fields.u8() != 0,
-            place: Place::read(&mut fields),
+            contact: ContactId(row.contact),
+            message: row.msgno,
+            tag: Tag(row.tag),
+            secret: Secret(row.secret),
+            expiry_min: row.expiry,
+            copies: row.copies,
+            renewed: row.renewed,
+            place: Place {
+                len: row.length,
+                cell: row.cell,
+            },
         }
     }
 
@@ -307,7 +293,7 @@ pub fn stored_row(blob: &[u8]) -> Option<HeldRow<'_>> {
 fn held_row(row: Row, blob: &[u8]) -> Option<HeldRow<'_>> {
     let tag = Tag(row.tag);
     match row.kind {
-        1 => Some(HeldRow::Carried {
+        sys::KIND_CARRIED => Some(HeldRow::Carried {
             depositor: ContactId(row.depositor),
             envelope: Envelope {
                 header: Header {
@@ -319,7 +305,7 @@ fn held_row(row: Row, blob: &[u8]) -> Option<HeldRow<'_>> {
                 ciphertext: &blob[CARRIED_HEAD..],
             },
         }),
-        2 => Some(HeldRow::Tombstone {
+        sys::KIND_TOMBSTONE => Some(HeldRow::Tombstone {
             tag,
             secret: Secret(row.second),
             expiry_min: row.expiry_min,

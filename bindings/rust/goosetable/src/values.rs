@@ -1,7 +1,6 @@
 //! The values that calls take and answer.
-#![forbid(unsafe_code)]
 
-use crate::rows::Fields;
+use crate::rows::{Fields, Typed};
 use alloc::vec::Vec;
 use core::fmt;
 

@@ -1,13 +1,15 @@
 //! The keys of messages that are still awaited.
-#![forbid(unsafe_code)]
 
 use crate::{
-    ContactId, Direction, MessageKey, Refusal, Tag, areas::Rows, calls, keys::route_tag,
-    rows::Fields,
+    ContactId, Direction, MessageKey, Refusal, Tag,
+    areas::Rows,
+    calls,
+    keys::route_tag,
+    rows::{Fields, Typed},
 };
 use alloc::vec::Vec;
 use core::{error, fmt};
-use goosetable_sys::{KEY_ROW, KEYS, WINDOW_ROW};
+use goosetable_sys::{KEY_ROW, KEYS, KeyRow, WINDOW_ROW};
 
 /// A message that is awaited, and the tag that its envelope would have.
 #[derive(Clone, Copy, Debug, PartialEq, Eq)]
@@ -202,8 +204,12 @@ pub struct Chain {
 }
 
 fn key_bytes(key: MessageKey) -> [u8; KEY_ROW] {
-    let [a, b, c, d] = key.index.to_be_bytes();
-    [key.direction.label(), key.generation, a, b, c, d]
+    let row = KeyRow {
+        direction: key.direction.label(),
+        generation: key.generation,
+        index: key.index,
+    };
+    row.bytes()
 }
 
 fn push_chain(bytes: &mut Vec<u8>, chain: &Chain) {

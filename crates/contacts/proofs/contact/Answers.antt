@@ -1,6 +1,6 @@
 -- `contact`: by the place of the contact, and by the count where it has none. Assumes nothing.
 use Rattle.std.proofs.Common.{arith}
-use Rattle.contacts.proofs.FindLaws.{place_inside}
+use Rattle.holdings.proofs.FindLaws.{place_inside}
 use Rattle.contacts.proofs.ContactLaws.{altered, added, full}
 use Rattle.contacts.proofs.contact.Goals as goal
 

@@ -1,7 +1,7 @@
 -- `fresh_exchange`: by its tests, in document 01's order. Assumes nothing.
 use Rattle.std.proofs.Common.{sym}
 use Rattle.contacts.proofs.ContactLaws.{too_short, stranger, opens}
-use Rattle.contacts.proofs.LendLaws.{fresh_lends}
+use Rattle.contacts.proofs.FreshLaws.{fresh_lends}
 use Rattle.contacts.proofs.fresh_exchange.Goals as goal
 
 pub returns-then-short_exchange : goal.returns-then-short_exchange

@@ -7,10 +7,11 @@ use Rattle.drill_calls.proofs.AskLaws.{asked, mapped}
 use Rattle.drill_calls.proofs.DrillLaws.{on_actions}
 use Rattle.drill_calls.proofs.StepLaws.{tomb_told_lem}
 use Rattle.drill_calls.proofs.receive_tomb.Goals as goal
+use Rattle.drill_run.specs.Drill.{drill_actions}
 
 pub returns : goal.returns
 returns c =
-    let k : length c.args.tables.now.actions ≡ 19968 = search rules in
+    let k : length c.args.tables.now.actions ≡ drill_actions = search rules in
     asked (told_with tomb_said) (log.tomb c.args.peer c.args.tag c.args.s)
     (λ i. calls.tomb (k i) c.args.peer c.args.tag c.args.s)
     (λ s. tomb_told_lem s _ _ _ _) (on_actions _ (tables_in c.args.device.now c.args.exchange c.args.tables.now) _ c.receive_tomb-answer.ensures) (mapped tomb_said c.receive_tomb-answer.result (λ a s h. search rules) c.map.ensures.cases)

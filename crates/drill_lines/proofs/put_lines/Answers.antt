@@ -1,7 +1,8 @@
+use Rattle.model.specs.Areas.{no_areas}
 use Rattle.std.proofs.Common.{refl, sym, ap, arith, rules, length}
 use Rattle.drill_lines.specs.Lines.{held_view}
 use Rattle.table.specs.Rows.{held}
-use Rattle.drill_lines.proofs.LineLaws.{lines_none, lines_more, lines_all, anything}
+use Rattle.drill_lines.proofs.LineLaws.{lines_none, lines_more, lines_all}
 use Rattle.drill_lines.proofs.put_lines.Goals as goal
 
 pub loop-i-init : goal.loop-i-init
@@ -9,7 +10,7 @@ loop-i-init g c = (refl, λ a. lines_none g.R.Row.codec (g.R.Listed.line (held_v
 
 pub put_text-p-requires : goal.put_text-p-requires
 put_text-p-requires g c =
-    let q = c.loop-i.invariant.1 anything in
+    let q = c.loop-i.invariant.1 no_areas in
     let w = ap (λ n. held (length c.args.listed.area.now) n c.args.listed.count) g.met.R.Row.wide in
     omega (arith, c.requires, c.len-i-end.ensures.is, c.loop-i.invariant.0, c.loop-i-test.true, q.next, q.near, w)
 

@@ -1,24 +1,25 @@
 -- The counts are those that the call says. Assumes nothing.
+use Rattle.model.specs.Areas.{no_areas}
 use Rattle.std.proofs.Common.{ℕ, ap, arith, length}
 use Rattle.table.specs.Rows.{held}
 use Rattle.table.specs.Codec.{table_of}
 use Rattle.rows.specs.Rows.{reply_width, reply_codec, action_width, action_codec}
 use Rattle.text.proofs.TextLaws.{puts_then, puts_within}
 use Rattle.drill_lines.specs.Lines.{record_lines, held_view, last_by}
-use Rattle.drill_lines.proofs.LineLaws.{puts_as, anything}
+use Rattle.drill_lines.proofs.LineLaws.{puts_as}
 use Rattle.drill_lines.proofs.record_lines.Goals as goal
 
 pub put_lines-p-requires-2 : goal.put_lines-p-requires-2
 put_lines-p-requires-2 c =
-    let q = c.put_lines-p.ensures anything in
+    let q = c.put_lines-p.ensures no_areas in
     let acted = ap (λ (p : ℕ × ℕ). held (length c.args.actions.now) action_width p.0) c.counts-acted.ensures in
     let replied = ap (λ (p : ℕ × ℕ). held (length c.args.replies.now) reply_width p.1) c.counts-acted.ensures in
     (omega arith, omega (arith, c.requires, q.next, q.near, acted, replied))
 
 pub last_line-requires : goal.last_line-requires
 last_line-requires c =
-    let q = c.put_lines-p.ensures anything in
-    let r = c.put_lines-p-2.ensures anything in
+    let q = c.put_lines-p.ensures no_areas in
+    let r = c.put_lines-p-2.ensures no_areas in
     let acted = ap (λ (p : ℕ × ℕ). held (length c.args.actions.now) action_width p.0) c.counts-acted.ensures in
     let replied = ap (λ (p : ℕ × ℕ). held (length c.args.replies.now) reply_width p.1) c.counts-acted.ensures in
     omega (arith, c.requires, q.next, q.near, r.next, r.near, acted, replied)

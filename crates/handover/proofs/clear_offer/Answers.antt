@@ -1,5 +1,5 @@
 -- The offer at i is read, and goes.
-use Rattle.std.proofs.Common.{min, refl}
+use Rattle.std.proofs.Common.{refl}
 use Rattle.handover.proofs.CallLaws.{clears}
 use Rattle.handover.proofs.clear_offer.Goals as goal
 

@@ -3,7 +3,7 @@ use Rattle.std.proofs.Common.{refl}
 use Rattle.rows.specs.Rows.{own_codec, carried_codec}
 use Rattle.model.specs.Custody.{own_of_tag, carried_of_tag}
 use Rattle.model.specs.Exchange.{no_own, no_carried}
-use Rattle.fetch.proofs.SearchLaws.{found_inside}
+use Rattle.holdings.proofs.SearchLaws.{found_inside}
 use Rattle.handover.proofs.HandLaws.{hands_carried, hands_own, hands_nothing}
 use Rattle.handover.proofs.hand_over.Goals as goal
 

@@ -4,7 +4,7 @@ use Rattle.table.specs.Lists.{position}
 use Rattle.table.specs.Codec.{table_of}
 use Rattle.rows.specs.Rows.{offer_codec}
 use Rattle.model.specs.Exchange.{offer_of_tag, no_offer}
-use Rattle.fetch.proofs.SearchLaws.{found_inside}
+use Rattle.holdings.proofs.SearchLaws.{found_inside}
 use Rattle.handover.proofs.LeaveLaws.{code_lends}
 use Rattle.handover.proofs.CallLaws.{other_peer, other_code, not_accepted, accepted, code_short, code_stranger, code_other, code_settled, code_unknown}
 use Rattle.handover.proofs.handed_over.Goals as goal

@@ -1,6 +1,6 @@
 -- Each way out is one row of the model's tests.
 use Rattle.std.proofs.Common.{not, refl, sym, ap, ◌∙◌}
-use Rattle.contacts.proofs.FindLaws.{same_peer}
+use Rattle.holdings.proofs.FindLaws.{same_peer}
 use Rattle.inventory.proofs.TestLaws.{is_short, is_wrong, is_unknown, is_other_lem, is_passed}
 use Rattle.inventory.proofs.tested.Goals as goal
 

@@ -3,7 +3,7 @@ use Rattle.std.proofs.Common.{◌+◌, ◌*◌, ◌≤◌, length, arith}
 use Rattle.rows.specs.Rows.{own_codec, carried_codec}
 use Rattle.model.specs.Custody.{own_of_tag, carried_of_tag}
 use Rattle.model.specs.Exchange.{no_own, no_carried}
-use Rattle.fetch.proofs.SearchLaws.{found_row}
+use Rattle.holdings.proofs.SearchLaws.{found_row}
 use Rattle.tombs.proofs.FindLaws.{finds_carried, finds_wrong, finds_own, finds_other, finds_unknown}
 use Rattle.tombs.proofs.find.Goals as goal
 use Rattle.tombs.proofs.find.Goals.{In-Some, In-Some-own_of_tag}

@@ -5,10 +5,11 @@ mod reads;
 mod settings;
 mod tombs;
 
-use crate::Library;
+use crate::{Input, Library};
 use goosetable_sys::{self as sys, Answer};
 use lent::{Outcome, Said};
 use post::Call;
+use std::array;
 
 // The numbers that a sample has are the library's.
 const _: () = assert!(
@@ -17,6 +18,15 @@ const _: () = assert!(
         && post::said::OURS == sys::OURS
         && post::said::MISSING == sys::MISSING
         && post::said::NO_ENVELOPE == sys::NO_ENVELOPE
+);
+
+// What this crate reads by, as it stands in document 01: these names follow the library, and are no statement of their own.
+const _: () = assert!(
+    sys::KIND_CARRIED == 1
+        && sys::KIND_TOMBSTONE == 2
+        && sys::CARRIED_HEAD == 46
+        && sys::PREFIX == 8
+        && sys::KEY_ROW == 6
 );
 
 /// What an answer says, where `done` is what the call means by its yes.
@@ -38,13 +48,8 @@ fn said(answer: &Answer, done: Said) -> Said {
 /// Only this number; every other is 0.
 pub(crate) fn says_only(said: u8) -> Answer {
     Answer {
-        contact: 0,
-        replies: 0,
-        actions: 0,
-        length: 0,
-        idx: 0,
-        generation: 0,
         said,
+        ..Answer::default()
     }
 }
 
@@ -86,16 +91,20 @@ fn rows<const N: usize>(area: &[u8], count: usize) -> Vec<[u8; N]> {
     area.as_chunks().0.iter().take(count).copied().collect()
 }
 
+/// Bytes that a call reads, each in an area of its own.
+fn lend<B: AsRef<[u8]>, const N: usize>(inputs: &mut [Input; 4], bytes: [B; N]) -> [&[u8]; N] {
+    for (input, bytes) in inputs.iter_mut().zip(bytes) {
+        input.set(bytes.as_ref());
+    }
+    array::from_fn(|place| inputs[place].area.bytes())
+}
+
+/// As a call takes bytes of fixed length.
+fn fixed<const N: usize>(bytes: &[u8]) -> &[u8; N] {
+    bytes.try_into().expect("the fixed length")
+}
+
 impl Library {
-    /// Bytes that a call reads, in an area of their own.
-    fn input(&mut self, place: usize, bytes: &[u8]) -> *const u8 {
-        self.inputs[place].set(bytes)
-    }
-
-    fn input_array<const N: usize>(&mut self, place: usize, bytes: &[u8; N]) -> *const [u8; N] {
-        self.input(place, bytes).cast()
-    }
-
     /// A number that says nothing must be 0.
     fn with_numbers(&mut self, outcome: Outcome, answer: Answer) -> Outcome {
         if numbers(&outcome) != answer {
@@ -108,8 +117,8 @@ impl Library {
     fn answered(&mut self, answer: Answer, done: Said) -> Outcome {
         let outcome = Outcome {
             said: said(&answer, done),
-            replies: rows(self.replies.bytes(), answer.replies),
-            actions: rows(self.actions.bytes(), answer.actions),
+            replies: rows(self.lent.replies.bytes(), answer.replies),
+            actions: rows(self.lent.actions.bytes(), answer.actions),
             bytes: Vec::new(),
         };
         self.with_numbers(outcome, answer)

@@ -7,15 +7,13 @@ use post::Verification;
 
 impl Library {
     pub(super) fn clock(&mut self, seconds: u64) -> Outcome {
-        // SAFETY: the device's area has its fixed length.
-        let answer = unsafe { sys::goosetable_clock(self.device.array_mut(), seconds) };
+        let answer = self.lent.areas().clock(seconds);
         self.answered(answer, Said::Done)
     }
 
     /// With any byte as enabled.
     pub(crate) fn setting_of(&mut self, enabled: u8, copies: u8, lifetime: u16) -> sys::Answer {
-        // SAFETY: the device's area has its fixed length.
-        unsafe { sys::goosetable_setting(self.device.array_mut(), enabled, copies, lifetime) }
+        self.lent.areas().setting(enabled, copies, lifetime)
     }
 
     pub(super) fn setting(&mut self, enabled: bool, copies: u8, lifetime: u16) -> Outcome {
@@ -25,8 +23,7 @@ impl Library {
 
     /// With any byte as its verification.
     pub(crate) fn contact_of(&mut self, id: u64, verification: u8) -> sys::Answer {
-        // SAFETY: the two areas have their fixed lengths, and are not the same.
-        unsafe { sys::goosetable_contact(self.device.array_mut(), id, verification, self.contacts.array_mut()) }
+        self.lent.areas().contact(id, verification)
     }
 
     pub(super) fn contact(&mut self, id: u64, verification: Verification) -> Outcome {
@@ -35,21 +32,8 @@ impl Library {
     }
 
     pub(super) fn fresh_exchange(&mut self, exchange: usize, peer: u64) -> Outcome {
-        let session = &mut self.sessions[exchange];
-        let (prefixes, offers) = (session.prefixes.bytes(), session.offers.bytes());
-        // SAFETY: each pointer goes with its length; the others have their fixed ones, and no two areas are the same.
-        let answer = unsafe {
-            sys::goosetable_fresh_exchange(
-                self.device.array(),
-                session.exchange.array_mut(),
-                peer,
-                self.contacts.array(),
-                prefixes.as_ptr(),
-                prefixes.len(),
-                offers.as_ptr(),
-                offers.len(),
-            )
-        };
+        let session = &mut self.sessions[exchange].areas();
+        let answer = self.lent.areas().tables().fresh_exchange(session, peer);
         self.answered(answer, Said::Done)
     }
 }

@@ -1,7 +1,8 @@
 -- `Tables::duplicate`: the first of the three tables that has the tag decides. Assumes nothing.
 use Rattle.std.proofs.Common.{◌≡◌, true, false, length, sym, refl, ◌∙◌, rules}
 use Rattle.rows.specs.Rows.{own_codec, own_of, carried_codec, carried_of}
-use Rattle.custody.proofs.Laws.{clash, tagged, duplicate_of}
+use Rattle.holdings.proofs.RowLaws.{clash}
+use Rattle.custody.proofs.Laws.{tagged, duplicate_of}
 use Rattle.custody.proofs.Tables.duplicate.Goals as goal
 use Rattle.custody.proofs.Tables.duplicate.Goals.{then-has, else-has}
 

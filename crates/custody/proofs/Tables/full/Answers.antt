@@ -4,7 +4,8 @@ use borrow.Author.Tests.{lt-leb}
 use Rattle.model.specs.Custody.{quota}
 use Rattle.table.proofs.TableLaws.{length_table}
 use Rattle.rows.specs.Rows.{carried_codec}
-use Rattle.custody.proofs.Laws.{clash, full_of}
+use Rattle.holdings.proofs.RowLaws.{clash}
+use Rattle.custody.proofs.Laws.{full_of}
 use Rattle.custody.proofs.Tables.full.Goals as goal
 use Rattle.custody.proofs.Tables.full.Goals.{then-len-ge-MAX_CARRIED, else-len-ge-MAX_CARRIED}
 

@@ -1,7 +1,0 @@
--- `known`: there is a place. Assumes nothing.
-use Rattle.std.proofs.Common.{◌∙◌}
-use Rattle.contacts.proofs.FindLaws.{is_known_lem}
-use Rattle.contacts.proofs.known.Goals as goal
-
-pub returns : goal.returns
-returns c = c.is_some.ensures ∙ is_known_lem _ _ _ _ c.contact_place.ensures

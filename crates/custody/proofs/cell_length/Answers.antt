@@ -1,8 +1,0 @@
--- `custody::cell_length`: the least of four. Assumes nothing.
-use Rattle.std.proofs.Common.{arith}
-use Rattle.model.specs.Cells.{cell_length}
-use Rattle.custody.proofs.cell_length.Goals as goal
-
-pub returns : goal.returns
-unfolding cell_length
-returns c = (omega arith, omega arith)
