@@ -11,6 +11,7 @@ pub mod CallLaws
 pub mod CellLaws
 pub mod CornerLaws
 pub mod AloneLaws
+pub mod TwiceLaws
 pub mod BeforeLaws
 pub mod FetchLaws
 pub mod RefusalLaws

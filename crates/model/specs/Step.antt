@@ -83,7 +83,8 @@ empty_state seconds config own_cells carried_cells tombstone_rows bad_tag_rows =
   bad_tag_rows = bad_tag_rows;
 }
 
--- the state that a call gets: a session that is not there is opened for nobody, and has no areas
+-- The state that a call gets: a session that is not there is opened for nobody, and has no areas. The list of all open ones is what the post's state has, [] from
+-- the start on: a call that is to change others is to be lent them here.
 unfoldable pub state_for : Post → Lent → State
 state_for p l = with_session p.state (slice_index_or p.sessions l.session no_session)
 
