@@ -1,12 +1,17 @@
 -- What an exchange has offered and had no code for yet, read off the calls and their replies.
 -- Assumes nothing.
-use Rattle.std.specs.Prelude.{ℕ, cond, not, ◌&&◌, List, [], ◌∷◌, length, ◌==◌}
+use Rattle.std.specs.Prelude.{ℕ, Bool, true, false, cond, not, ◌&&◌, List, [], ◌∷◌, length, ◌==◌}
 use Rattle.octets.specs.Bytes.{same_bytes}
 use Rattle.courier.specs.Courier.{header_of}
 use Rattle.rows.specs.declared.Reply.{Reply}
-use Rattle.model.specs.Calls.{Result, is_refused, is_done}
+use Rattle.model.specs.Calls.{Answer, Result, done_with, nothing_more, is_refused}
 use Rattle.model.specs.Step.{Post, Lent, answer_to, after}
 use Rattle.history.specs.Life.{Role, code_for, contact_says, opens_exchange, lists_prefixes, other, role}
+
+-- Is the call neither refused nor malformed, with all that it says in its replies? A word of the theorem's own: the model's of the same answers is another definition.
+abbrev pub is_done : Answer → Bool
+is_done (done_with nothing_more) = true
+is_done _ = false
 
 -- the copies in the last envelope of a tag among replies, n if there is none
 abbrev pub last_sent : List ℕ → ℕ → List Reply → ℕ
