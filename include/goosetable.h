@@ -683,10 +683,10 @@ goosetable_row goosetable_row_read(const uint8_t *blob, size_t blob_len);
 /* ---- the version */
 
 /* Of header and library alike. The first two numbers change whenever a struct, a size, what a number means or a function's parameters do. */
-#define GOOSETABLE_VERSION "0.2.6"
+#define GOOSETABLE_VERSION "0.2.7"
 #define GOOSETABLE_VERSION_MAJOR 0
 #define GOOSETABLE_VERSION_MINOR 2
-#define GOOSETABLE_VERSION_PATCH 6
+#define GOOSETABLE_VERSION_PATCH 7
 
 /*
  * The version of the library: major * 10,000 + minor * 100 + patch. Its name has the first two numbers.

@@ -2,7 +2,7 @@
 -- Assumes nothing.
 use Rattle.std.specs.Prelude.{ℕ, ◌+◌, ◌≤◌, ◌<◌, ◌≡◌, Bool, true, false, List, map, drop, length}
 use Rattle.table.specs.declared.lent.Table.{Table}
-use Rattle.table.specs.Rows.{held}
+use Rattle.table.specs.Rows.{held, rows}
 use Rattle.table.specs.Tables.{rows_in}
 use Rattle.rows.specs.declared.Carried.{Carried}
 use Rattle.rows.specs.declared.Tombstone.{Tombstone}
@@ -38,3 +38,8 @@ pub record TombstoneFirst (h : Held) (t : Cursor) (a b : ℕ) (r : Bool) : Type 
 unfoldable pub rows_left : {A : Type 0} (slot : A → ℕ) (carried_row : Carried → A) (tombstone_row : Tombstone → A) → Held → (p q : ℕ) → List A
 rows_left slot carried_row tombstone_row h p q =
     merge slot (drop p (map carried_row (rows_in carried_codec h.carried))) (drop q (map tombstone_row (rows_in tombstone_codec h.tombstones)))
+
+-- the same of n rows and m rows of any two areas, each made of the bytes of its row by any function
+unfoldable pub rows_left_of : {A : Type 0} (slot : A → ℕ) (carried_row tombstone_row : List ℕ → A) (carried tombstones : List ℕ) (n m p q : ℕ) → List A
+rows_left_of slot carried_row tombstone_row carried tombstones n m p q =
+    merge slot (drop p (map carried_row (rows carried_width n carried))) (drop q (map tombstone_row (rows tombstone_width m tombstones)))

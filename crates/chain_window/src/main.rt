@@ -4,6 +4,7 @@
 use chain::{ANSWER, CHAIN_WIDTH, Dir, KEY_WIDTH, MAX_SKIPPED, NEXT};
 use courier_core::Refusal;
 use std::io;
+use text::Tried;
 
 // What stands in the answer area before a call.
 const FILL: u8 = 0xAA;
@@ -254,6 +255,7 @@ fn labels(rt: &impl Print) -> io::Result<()> {
 }
 
 fn main(rt: HostRuntime) -> io::Result<()> {
+    let rt = Tried(rt);
     let skipped = skipped_keys();
     labels(&rt)?;
     buckets(&rt)?;

@@ -5,6 +5,7 @@
 use crate::post::Post;
 use crate::step::{Step, run};
 use std::io;
+use text::Tried;
 
 mod ended; // tombs and maintenance
 mod expired; // rows that have expired
@@ -33,6 +34,7 @@ const SCENES: [&[Step]; 12] = [
 ];
 
 fn main(rt: HostRuntime) -> io::Result<()> {
+    let rt = Tried(rt);
     for steps in SCENES {
         run(&rt, &mut Post::default(), steps)?;
     }

@@ -3,17 +3,18 @@
 
 ghost use Rattle.std.specs.Prelude.{◌≡◌, ◌+◌, ◌*◌, ◌≤◌, length, nat_lt};
 ghost use Rattle.octets.specs.Bytes.{part, num};
+ghost use Rattle.table.specs.Lists.{any};
 ghost use Rattle.table.specs.Codec.{table_of};
 ghost use Rattle.table.specs.Tables.{rows_in};
 ghost use Rattle.courier.specs.Courier.{envelope_header};
 ghost use Rattle.state.specs.Sizes.{cell_size};
-ghost use Rattle.rows.specs.Rows.{contact_codec, carried_width, carried_codec};
+ghost use Rattle.rows.specs.Rows.{contact_codec, own_codec, carried_width, carried_codec};
 ghost use Rattle.rows.specs.Limits.{max_carried, max_carried_bytes};
 ghost use Rattle.model.specs.State.{State};
 ghost use Rattle.model.specs.Areas.{Areas, view};
 ghost use Rattle.model.specs.Cells.{cell_length};
 ghost use Rattle.custody.specs.Lent.{Lent};
-ghost use Rattle.model.specs.Custody.{quota, duplicate, carried_total, full, custody_of};
+ghost use Rattle.model.specs.Custody.{own_of_tag, carried_of_tag, quota, duplicate, carried_total, full, custody_of};
 
 use courier::{Custody, ENVELOPE_HEADER, Header};
 use courier_core::ContactId;
@@ -42,6 +43,47 @@ pub struct Tables<'a> {
     pub carried: &'a [u8; CARRIED_AREA],
     pub tombstones: &'a [u8],
     pub size: usize,
+}
+
+// ---- rows by tag
+
+// Has one of the own rows the tag?
+pub fn own_tagged(own: Table<OWN_WIDTH>, tag: [u8; 16]) -> bool
+    ensures { result ≡ any (own_of_tag tag) (rows_in own_codec own.entry) }
+{
+    own.has(Own::TAG, &tag)
+}
+
+// Has one of the carried rows the tag?
+pub fn carried_tagged(carried: Table<CARRIED_WIDTH>, tag: [u8; 16]) -> bool
+    ensures { result ≡ any (carried_of_tag tag) (rows_in carried_codec carried.entry) }
+{
+    carried.has(Carried::TAG, &tag)
+}
+
+// Duplicate looks at own rows and at every held row, in areas of any length. (`Tables::duplicate` is this of a `Tables`.)
+pub fn duplicate(
+    device: Device,
+    own: &[u8],
+    carried: &[u8],
+    tombstones: &[u8],
+    tag: [u8; 16],
+) -> bool
+    ensures { (a : Areas) → a.device ≡ device → a.own ≡ own.now → a.carried ≡ carried.now → a.tombstones ≡ tombstones.now → result ≡ duplicate (view a) tag }
+{
+    let own = Table {
+        area: own,
+        count: device.own,
+    };
+    let carried = Table {
+        area: carried,
+        count: device.carried,
+    };
+    let tombstones = Table {
+        area: tombstones,
+        count: device.tombstones,
+    };
+    own_tagged(own, tag) || carried_tagged(carried, tag) || tombstoned(tombstones, tag)
 }
 
 // ---- the limits
@@ -104,20 +146,8 @@ impl Tables<'_> {
     pub fn duplicate(self, tag: [u8; 16]) -> bool
         ensures { (a : Areas) → a.device ≡ self.entry.device → a.own ≡ self.entry.own.now → a.carried ≡ self.entry.carried.now → a.tombstones ≡ self.entry.tombstones.now → result ≡ duplicate (view a) tag }
     {
-        let own = Table::<OWN_WIDTH> {
-            area: self.own,
-            count: self.device.own,
-        };
-        let area = self.carried;
-        let carried = Table::<CARRIED_WIDTH> {
-            area,
-            count: self.device.carried,
-        };
-        let tombstones = Table {
-            area: self.tombstones,
-            count: self.device.tombstones,
-        };
-        own.has(Own::TAG, &tag) || carried.has(Carried::TAG, &tag) || tombstoned(tombstones, tag)
+        let carried = self.carried;
+        duplicate(self.device, self.own, carried, self.tombstones, tag)
     }
 
     // Full, of an envelope of len ciphertext bytes.

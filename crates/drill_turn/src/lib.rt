@@ -54,12 +54,15 @@ pub fn start() -> Turn
 
 // ---- the input
 
-// Keeps what is not done, at the front of the buffer, so that there is room behind it.
+// Keeps what is not done, at the front of the buffer, so that there is room behind it. What stands there already is not moved: a record that comes in many
+// pieces would cost the square of its length.
 pub fn keep(turn: Turn, input: &mut [u8; INPUT]) -> Turn
     requires { Inside turn.from turn.have }
     ensures { Keeps turn input.old result input.new }
 {
-    input.copy_within(turn.from..turn.have, 0);
+    if turn.from > 0 {
+        input.copy_within(turn.from..turn.have, 0);
+    }
     Turn {
         from: 0,
         have: turn.have - turn.from,

@@ -7,4 +7,4 @@ abbrev pub version_of : (major minor patch : ℕ) → ℕ
 version_of major minor patch = major * 10000 + minor * 100 + patch
 
 abbrev pub version : ℕ
-version = version_of 0 2 6
+version = version_of 0 2 7

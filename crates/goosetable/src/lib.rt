@@ -49,8 +49,8 @@ use wire::enabled_of;
 // (A call reads the device, works on it and puts it back. One function for that, with the call as a closure, was tried and gets no proof: its
 // caller is told nothing of what the closure left in the areas that it borrowed beside the device.)
 
-// 0.2.6 as a number: major * 10,000 + minor * 100 + patch.
-const VERSION: u32 = 206;
+// 0.2.7 as a number: major * 10,000 + minor * 100 + patch.
+const VERSION: u32 = 207;
 
 // ---- what the host sets
 

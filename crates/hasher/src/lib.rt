@@ -1,7 +1,7 @@
-// SHA-384 of a message that comes in parts, none of which is copied but for a block at most at each end.
+// SHA-384 of a message that comes in parts, none of which is copied but the bytes of an unfinished block.
 #![tactic(auto)]
 
-ghost use Rattle.std.specs.Prelude.{◌≡◌, List, [], ℕ, ◌+◌, ◌%◌, ◌^◌, ◌≤◌, ◌<◌, length};
+ghost use Rattle.std.specs.Prelude.{◌≡◌, List, [], ◌++◌, ℕ, ◌+◌, ◌%◌, ◌^◌, ◌≤◌, ◌<◌, length};
 ghost use Rattle.sha384.specs.Sha384.{sha384};
 ghost use Rattle.hasher.specs.Taken.{Taken, Adds};
 ghost use Rattle.hasher.specs.Parts.{joined};
@@ -80,7 +80,7 @@ impl Hasher {
         }
     }
 
-    // The bytes of m, after those that it has taken.
+    // The bytes of m, after those that it has taken: a block that was begun is filled up, and whole blocks are hashed where they lie.
     pub fn update(self, m: &[u8]) -> Hasher
         requires m_bound { self.len + length m.now < 2 ^ 64 }
         ensures { Adds self m.now result }
@@ -89,19 +89,17 @@ impl Hasher {
         if m.len() < room {
             return self.push(m);
         }
-        let (front, rest) = m.split_at(room);
+        let (front, rest) = m.split_at(room % BLOCK);
         let (whole, end) = rest.split_at(rest.len() - rest.len() % BLOCK);
         self.push(front).push_blocks(whole).push(end)
     }
 
-    // The bytes of a text in parts.
-    pub fn update_parts(self, text: Parts<'_>) -> Hasher
-        requires text_bound { self.len + length (joined text) < 2 ^ 64 }
-        ensures { Adds self (joined text.entry) result }
+    // The bytes of three parts, one behind the other.
+    pub fn update_parts(self, first: &[u8], second: &[u8], third: &[u8]) -> Hasher
+        requires third_bound { self.len + length first.now + length second.now + length third.now < 2 ^ 64 }
+        ensures { Adds self (first.now ++ second.now ++ third.now) result }
     {
-        self.update(text.first)
-            .update(text.second)
-            .update(text.third)
+        self.update(first).update(second).update(third)
     }
 
     // The hash of what it has taken.

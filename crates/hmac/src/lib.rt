@@ -67,7 +67,8 @@ pub fn hmac_parts(key: &[u8], text: Parts<'_>) -> [u8; DIGEST]
     ensures { result ≡ hmac_of key.now (joined text.entry) }
 {
     let k0 = block_key(key);
-    end(k0, begin(k0).update_parts(text))
+    let s = begin(k0).update_parts(text.first, text.second, text.third);
+    end(k0, s)
 }
 
 // HMAC of a text under a key, both of any length.
@@ -93,7 +94,10 @@ fn next_block(k0: [u8; BLOCK], previous: &[u8], info: Parts<'_>, i: u8) -> [u8; 
     requires previous_len_bound { length previous.now ≤ 48 }
     ensures { result ≡ keyed k0 (previous.now ++ joined info.entry ++ (i ∷ [])) }
 {
-    let s = begin(k0).update(previous).update_parts(info).update(&[i]);
+    let s = begin(k0)
+        .update(previous)
+        .update_parts(info.first, info.second, info.third)
+        .update(&[i]);
     end(k0, s)
 }
 

@@ -30,8 +30,8 @@ pub enum Refused {
     OutTooLong,
 }
 
-// The head of a label whose length fits. (Where it is hashed, head, label and the rest stand as a literal of Parts: made by a function, each of
-// the three proofs would rewrite by its equation. Not one function that tests and makes the head: its callers' proofs would have to take the head's
+// The head of a label whose length fits. (Where hmac takes it, head, label and the rest stand as a literal of Parts: made by a function, both
+// proofs would rewrite by its equation. Not one function that tests and makes the head: its callers' proofs would have to take the head's
 // bytes and the label's bound, which Parts asks for, out of its answer, by laws that are longer than the tests.)
 fn head_of(label: &[u8]) -> [u8; HEAD]
     requires { length label.now ≤ longest_label }
@@ -133,12 +133,7 @@ fn hash_of(label: &[u8], x: &[u8]) -> [u8; DIGEST]
     ensures { result ≡ hash_of label.now x.now }
 {
     let head = head_of(label);
-    let text = Parts {
-        first: &head,
-        second: label,
-        third: x,
-    };
-    Hasher::new().update_parts(text).finish()
+    Hasher::new().update_parts(&head, label, x).finish()
 }
 
 // `hash`. None: the label's length does not fit two bytes. (Tested as in `labelled`: `hash_of` makes the head itself, so that

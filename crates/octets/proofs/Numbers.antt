@@ -2,7 +2,8 @@
 -- Assumes nothing.
 use Rattle.std.proofs.Common.{◌≡◌, ℕ, zero, suc, ◌+◌, ◌-◌, ◌*◌, ◌/◌, ◌%◌, ◌^◌, ◌≤◌, ◌<◌, List, [], ◌∷◌, ◌++◌, length, take, drop, get_or, refl, sym, ap, ap₂, subst, ◌∙◌, arith}
 use Rattle.std.proofs.lemmas.Grind.{common_steps}
-use native.Mathlib.Nat.{mul_assoc, add-mul, mod-one, mod-eq_of_lt, mul-le-mul_right, mul-add-div_right, div-one, pow-suc, mul_comm}
+use native.Mathlib.Nat.{add_assoc, mul_assoc, add-mul, mod-one, mod-eq_of_lt, mul-le-mul_right, mul-add-div_right, div-one, pow-suc, mul_comm}
+use lib.ListN.{length-append}
 use lib.Seq.{get_or-drop}
 use lib.Pow.{mod-pow-add, pow-add, pow_pos, high, shr-shr, field, mod-mod-pow}
 use mir.Syntax.{w8}
@@ -45,6 +46,17 @@ length_be (suc n) v = ap suc (length_be n v)
 -- one byte more
 pow_step : (n : ℕ) → 2 ^ (8 * suc n) ≡ 256 * 2 ^ (8 * n)
 pow_step n = grind (arith, pow-add 2 8 (8 * n))
+
+-- the bytes of two runs, one after the other
+pub num_append : (x y : List ℕ) → num (x ++ y) ≡ num x * 2 ^ (8 * length y) + num y
+unfolding num
+num_append [] y = omega arith
+num_append (b ∷ x) y =
+    let e : 8 * (length x + length y) ≡ 8 * length x + 8 * length y = omega arith in
+    ap₂ (λ (p q : ℕ). b * p + q) (ap (λ (k : ℕ). 2 ^ (8 * k)) (length-append x y) ∙ ap (λ (k : ℕ). 2 ^ k) e ∙ pow-add 2 (8 * length x) (8 * length y)) (num_append x y)
+    ∙ ap (λ (k : ℕ). k + (num x * 2 ^ (8 * length y) + num y)) (sym (mul_assoc b (2 ^ (8 * length x)) (2 ^ (8 * length y))))
+    ∙ sym (add_assoc (b * 2 ^ (8 * length x) * 2 ^ (8 * length y)) (num x * 2 ^ (8 * length y)) (num y))
+    ∙ ap (λ (k : ℕ). k + num y) (sym (add-mul (b * 2 ^ (8 * length x)) (num x) (2 ^ (8 * length y))))
 
 -- the low bytes of a number spell what they say of it
 pub num_be_mod : (n v : ℕ) → num (be n v) ≡ v % 2 ^ (8 * n)

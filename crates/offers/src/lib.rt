@@ -62,22 +62,23 @@ impl<'a> Held<'a> {
     }
 
     // The row at i, if it may go to the peer: an own row that is for the peer does not.
-    // (An array field is taken out by a `let`: bound by an arm's pattern, the borrow check does not cover it.)
+    // (Read in a branch for each kind: a `HeldRow` has own and carried tags at different places, so that a tag out of it is put together of two parts.)
+    // (An array field is taken out by a `let`: put straight into the literal, the borrow check does not cover it.)
     pub fn row_at(&self, i: usize, peer: ContactId) -> Option<Row>
         requires { i < how_many self.now }
         ensures { result ≡ row_of (held_entry peer self.now i) }
     {
-        match self.at(i) {
-            HeldRow::Own(row) if row.contact == peer => None,
-            HeldRow::Own(row) => {
-                let Own { tag, copies, .. } = row;
-                Some(Row { tag, copies })
+        if i < self.own.n {
+            let row = Own::read(self.own.area, i * OWN_WIDTH);
+            if row.contact == peer {
+                return None;
             }
-            HeldRow::Carried(row) => {
-                let Carried { tag, copies, .. } = row;
-                Some(Row { tag, copies })
-            }
+            let Own { tag, copies, .. } = row;
+            return Some(Row { tag, copies });
         }
+        let at = (i - self.own.n) * CARRIED_WIDTH;
+        let Carried { tag, copies, .. } = Carried::read(self.carried.area, at);
+        Some(Row { tag, copies })
     }
 
     // The row at i, as a reply offers it.

@@ -1,6 +1,7 @@
 // Makes the calls of a sample of the oracle's answers again, on a post of its own, and compares every answer with the sample's.
 #![tactic(auto)]
 
+ghost use Rattle.std.specs.Prelude.{◌<◌};
 ghost use Rattle.std.specs.Iterator.{IsFinite};
 
 use courier::Custody;
@@ -11,49 +12,59 @@ use replay_log::{Entry, KINDS, LAST_REFUSAL, List, Record, Walk};
 use rows::{Action, Reply, Row};
 use std::fmt;
 use std::io::Result;
+use text::Tried;
 
 const STDIN: i32 = 0;
 
 // ---- what was reached, counted
 
+// Where each begins in one run of counts: calls by the byte of their kind, replies by their kinds, custody codes, actions by their kinds, and what the calls
+// said by its number. A byte above those that have names counts with what follows: a reply of kind 5 with the custody code 0.
+const CALLS_AT: u8 = 0;
+
+const REPLIES_AT: u8 = 40;
+
+const CODES_AT: u8 = 45;
+
+const ACTIONS_AT: u8 = 50;
+
+const SAID_AT: u8 = 64;
+
+// As many as a beginning and a byte name.
+const COUNTS: usize = 511;
+
+fn place(at: u8, byte: u8) -> usize
+    ensures { result < 511 }
+{
+    usize::from(at) + usize::from(byte)
+}
+
 // How often each byte was there. (Not a map: no program of this repository has a heap.)
 #[derive(Default, Drop)]
-struct Counts([u64; 256]);
+struct Tally([u64; COUNTS]);
 
-impl Counts {
-    fn add(&mut self, byte: u8) {
-        let i = usize::from(byte);
+impl Tally {
+    fn add(&mut self, at: u8, byte: u8) {
+        let i = place(at, byte);
         self.0[i] = self.0[i].saturating_add(1);
     }
 
-    fn of(&self, byte: u8) -> u64 {
-        self.0[usize::from(byte)]
+    fn of(&self, at: u8, byte: u8) -> u64 {
+        self.0[place(at, byte)]
     }
-}
 
-// Calls by the byte of their kind, what they said by its number, replies and actions by their kinds, and custody codes.
-#[derive(Default, Drop)]
-struct Tally {
-    calls: Counts,
-    said: Counts,
-    replies: Counts,
-    codes: Counts,
-    actions: Counts,
-}
-
-impl Tally {
     fn count(&mut self, r: &Record) {
-        self.calls.add(r.kind.byte());
-        self.said.add(r.said());
+        self.add(CALLS_AT, r.kind.byte());
+        self.add(SAID_AT, r.said());
         for row in r.replies {
             let reply = Reply::read(row, 0);
-            self.replies.add(reply.kind);
+            self.add(REPLIES_AT, reply.kind);
             if reply.kind == Reply::CUSTODY {
-                self.codes.add(reply.body[Reply::BEHIND_TAG]);
+                self.add(CODES_AT, reply.body[Reply::BEHIND_TAG]);
             }
         }
         for row in r.actions {
-            self.actions.add(Action::read(row, 0).kind);
+            self.add(ACTIONS_AT, Action::read(row, 0).kind);
         }
     }
 }
@@ -194,27 +205,28 @@ const ACTIONS: [(u8, &str); 3] = [
 fn named_line(
     rt: &impl Print,
     title: &str,
-    counts: &Counts,
+    tally: &Tally,
+    at: u8,
     names: &[(u8, &'static str)],
 ) -> Result<()> {
-    let named = names.iter().map(|(byte, name)| (counts.of(*byte), *name));
+    let named = names
+        .iter()
+        .map(|(byte, name)| (tally.of(at, *byte), *name));
     line(rt, title, named)
 }
 
 fn totals(rt: &impl Print, w: Walk, differ: usize, tally: &Tally) -> Result<()> {
     let calls = KINDS
         .iter()
-        .map(|kind| (tally.calls.of(kind.byte()), *kind));
+        .map(|kind| (tally.of(CALLS_AT, kind.byte()), *kind));
     line(rt, "calls", calls)?;
-    let refused = (1..=LAST_REFUSAL).map(|n| (tally.said.of(n), Refused(n)));
+    let refused = (1..=LAST_REFUSAL).map(|n| (tally.of(SAID_AT, n), Refused(n)));
     line(rt, "refused", refused)?;
-    named_line(rt, "said", &tally.said, &SAID)?;
-    named_line(rt, "replies", &tally.replies, &REPLIES)?;
-    let codes = CODES
-        .iter()
-        .map(|(custody, name)| (tally.codes.of(custody.code()), *name));
+    named_line(rt, "said", tally, SAID_AT, &SAID)?;
+    named_line(rt, "replies", tally, REPLIES_AT, &REPLIES)?;
+    let codes = CODES.iter().map(|(custody, name)| (tally.of(CODES_AT, custody.code()), *name));
     line(rt, "custody", codes)?;
-    named_line(rt, "actions", &tally.actions, &ACTIONS)?;
+    named_line(rt, "actions", tally, ACTIONS_AT, &ACTIONS)?;
     println!(rt; "{} lists, {} calls, {differ} differ", w.lists, w.calls)
 }
 
@@ -245,6 +257,7 @@ fn run_first(rt: &(impl Print + Eprint), input: &[u8; INPUT], n: usize) -> Resul
 }
 
 fn main(rt: HostRuntime) -> Result<()> {
+    let rt = Tried(rt);
     let mut input = [0u8; INPUT];
     let n = fill(&mut input);
     if n < INPUT {

@@ -88,6 +88,12 @@ fn sent(p: &Post, cell: u16) -> &[u8] {
     }
 }
 
+// The first n of the expected bytes, and those behind them. Where fewer are left they are all: a record whose length of a ciphertext or a blob says
+// more than is there agrees where the bytes that are there do.
+fn take(expected: &[u8], n: usize) -> (&[u8], &[u8]) {
+    expected.split_at(n.min(expected.len()))
+}
+
 // Compares the reply at i, and takes its ciphertext off the front of the expected bytes. An envelope's cell is not compared: the record has
 // the length of the ciphertext in its place.
 fn compare_reply<'r>(
@@ -105,11 +111,12 @@ fn compare_reply<'r>(
     if !has_envelope {
         return Ok(expected);
     }
-    let sent = sent(p, ours.cell);
-    if sent.len() != usize::from(theirs.cell) {
-        return Err(Difference::Ciphertext(i));
+    let (ciphertext, rest) = take(expected, usize::from(theirs.cell));
+    if sent(p, ours.cell) == ciphertext {
+        Ok(rest)
+    } else {
+        Err(Difference::Ciphertext(i))
     }
-    expected.strip_prefix(sent).ok_or(Difference::Ciphertext(i))
 }
 
 // Is the blob of the row that was put theirs? It has no bytes where no row has the slot.
@@ -145,10 +152,11 @@ fn compare_action<'r>(
     if action.kind != Action::PUT {
         return Ok(expected);
     }
-    let n = usize::from(octets::get_u16(theirs, ACTION_WIDTH));
-    match expected.split_at_checked(n) {
-        Some((blob, rest)) if same_put(p, action.number, blob) => Ok(rest),
-        _ => Err(Difference::Blob(i)),
+    let (blob, rest) = take(expected, usize::from(octets::get_u16(theirs, ACTION_WIDTH)));
+    if same_put(p, action.number, blob) {
+        Ok(rest)
+    } else {
+        Err(Difference::Blob(i))
     }
 }
 

@@ -116,14 +116,18 @@ fn rows_before(total: usize, page: u64) -> usize
     (PAGE_ROWS as u64).saturating_mul(page).min(total as u64) as usize
 }
 
-// Passes k rows.
+// Passes k rows. (A branch for each answer: with `past` of the answer itself every comparison would wait for the one before it.)
 fn pass_rows(rows: Held, k: usize) -> Cursor
     requires { k ≤ rows.carried.count + rows.tombstones.count }
     ensures { Passed rows.entry k result }
 {
     let mut next = Cursor::default();
     for _row in 0..k {
-        next = next.past(rows.tombstone_first(next));
+        if rows.tombstone_first(next) {
+            next = next.past(true);
+        } else {
+            next = next.past(false);
+        }
     }
     next
 }

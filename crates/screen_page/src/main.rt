@@ -7,6 +7,7 @@ use rows::{
 };
 use screen::PAGE;
 use std::io;
+use text::Tried;
 
 const MAX_TOMBSTONES: usize = 40;
 
@@ -159,6 +160,7 @@ fn garbage(rt: &impl Print) -> io::Result<()> {
 }
 
 fn main(rt: HostRuntime) -> io::Result<()> {
+    let rt = Tried(rt);
     counts(&rt)?;
     numbers(&rt)?;
     clocks(&rt)?;

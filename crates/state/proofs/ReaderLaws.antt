@@ -23,6 +23,10 @@ module _ {A : Type 0} (n : ℕ) (s : List ℕ) (at : ℕ) (got : List ℕ → A)
   unfolding take_at
   take_some x e = let p = cond_some (leb (at + n) (length s)) _ x e in (leb-true (at + n) (length s) p.0, p.1)
 
+  -- what was given is inside
+  pub taken : {x : A} → Some x ≡ take_at n s at got → at + n ≤ length s
+  taken {x} e = (take_some x (sym e)).0
+
   pub take_none : take_at n s at got ≡ None → length s < at + n
   unfolding take_at
   take_none e = go (leb (at + n) (length s)) refl e

@@ -177,10 +177,52 @@ pub fn tombstone_row(t: Tombstone, blob: &mut [u8]) -> Result<usize, Refusal>
     Ok(b.len())
 }
 
+// ---- what stands at a position of a blob: nothing where it is not all there
+
+#[tactic(auto, using(crate::proofs::ReaderLaws::number_none))]
+pub fn byte_at(s: &[u8], at: usize) -> Option<u8>
+    ensures { result ≡ byte_at s.now at }
+{
+    Some(array_at::<1>(s, at)?[0])
+}
+
+#[tactic(auto, unfolding(crate::specs::Reader::take_at))]
+pub fn array_at<const N: usize>(s: &[u8], at: usize) -> Option<[u8; N]>
+    ensures { result ≡ array_at N s.now at }
+{
+    if !courier::within(s.len(), at, N) {
+        return None;
+    }
+    Some(octets::get_array(s, at))
+}
+
+// A function for each type of number, as in state.rs: `from_be_bytes` is a method of each, and no trait of std has it. A sum over the
+// bytes would be longer.
+#[tactic(auto, using(crate::proofs::ReaderLaws::number_none))]
+pub fn u32_at(s: &[u8], at: usize) -> Option<u32>
+    ensures { result ≡ u32_at s.now at }
+{
+    Some(u32::from_be_bytes(array_at(s, at)?))
+}
+
+#[tactic(auto, using(crate::proofs::ReaderLaws::number_none))]
+pub fn u64_at(s: &[u8], at: usize) -> Option<u64>
+    ensures { result ≡ u64_at s.now at }
+{
+    Some(u64::from_be_bytes(array_at(s, at)?))
+}
+
+// Is nothing left?
+pub fn end_at(s: &[u8], at: usize) -> bool
+    ensures { result ≡ nat_le (length s.now) at }
+{
+    s.len() <= at
+}
+
 // ---- the reader
 
-// state.rs's `Reader`: it refers to a blob and steps along it. A step goes past what it gives; where the bytes run out it gives
-// nothing and stays. `array` alone takes the step.
+// state.rs's `Reader`: it refers to a blob and steps along it. Each step is the function above that it calls, and goes past what that gives; where
+// the bytes run out it gives nothing and stays.
 #[derive(Drop)]
 struct Reader<'a> {
     blob: &'a [u8],
@@ -194,50 +236,51 @@ impl<'a> Reader<'a> {
         Reader { blob, at: 0 }
     }
 
-    #[tactic(auto, using(crate::proofs::ReaderLaws::number_none))]
+    #[tactic(auto, using(crate::proofs::ReaderLaws::taken))]
     fn byte(&mut self) -> Option<u8>
         ensures gives { result ≡ byte_at self.old.blob.now self.old.at }
         ensures steps { Steps self.old result 1 self.new }
     {
-        Some(self.array::<1>()?[0])
+        let byte = byte_at(self.blob, self.at)?;
+        self.at += 1;
+        Some(byte)
     }
 
-    #[tactic(auto, unfolding(crate::specs::Reader::take_at))]
+    #[tactic(auto, using(crate::proofs::ReaderLaws::taken))]
     fn array<const N: usize>(&mut self) -> Option<[u8; N]>
         ensures gives { result ≡ array_at N self.old.blob.now self.old.at }
         ensures steps { Steps self.old result N self.new }
     {
-        if !courier::within(self.blob.len(), self.at, N) {
-            return None;
-        }
-        let bytes = octets::get_array(self.blob, self.at);
+        let bytes = array_at(self.blob, self.at)?;
         self.at += N;
         Some(bytes)
     }
 
-    // A function for each type of number, as in state.rs: `from_be_bytes` is a method of each, and no trait of std has it. A sum over the
-    // bytes would be longer.
-    #[tactic(auto, using(crate::proofs::ReaderLaws::number_none))]
+    #[tactic(auto, using(crate::proofs::ReaderLaws::taken))]
     fn u32(&mut self) -> Option<u32>
         ensures gives { result ≡ u32_at self.old.blob.now self.old.at }
         ensures steps { Steps self.old result 4 self.new }
     {
-        Some(u32::from_be_bytes(self.array()?))
+        let number = u32_at(self.blob, self.at)?;
+        self.at += 4;
+        Some(number)
     }
 
-    #[tactic(auto, using(crate::proofs::ReaderLaws::number_none))]
+    #[tactic(auto, using(crate::proofs::ReaderLaws::taken))]
     fn u64(&mut self) -> Option<u64>
         ensures gives { result ≡ u64_at self.old.blob.now self.old.at }
         ensures steps { Steps self.old result 8 self.new }
     {
-        Some(u64::from_be_bytes(self.array()?))
+        let number = u64_at(self.blob, self.at)?;
+        self.at += 8;
+        Some(number)
     }
 
     // Is nothing left?
     fn end(&self) -> bool
         ensures { result ≡ nat_le (length self.now.blob.now) self.now.at }
     {
-        self.blob.len() <= self.at
+        end_at(self.blob, self.at)
     }
 }
 

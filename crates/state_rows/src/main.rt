@@ -6,6 +6,7 @@ use courier::{Custody, Header};
 use courier_core::{ContactId, Refusal};
 use state::{BLOB, CELL, Carried, CourierConfig, Held, TOMBSTONE_ROW, Tombstone};
 use std::{fmt, io};
+use text::Tried;
 
 fn yes(b: bool) -> &'static str {
     if b { "yes" } else { "no" }
@@ -13,7 +14,7 @@ fn yes(b: bool) -> &'static str {
 
 // ---- courier: tags and commitments
 
-// A tag, a commitment or a secret, in hexadecimal. (vectors has the same for bytes of any number: no crate below both is about printing.)
+// A tag, a commitment or a secret, in hexadecimal. (vectors has the same for bytes of any number.)
 #[derive(Clone, Copy)]
 struct Hex([u8; 16]);
 
@@ -292,6 +293,7 @@ fn kinds(rt: &impl Print) -> io::Result<()> {
 }
 
 fn main(rt: HostRuntime) -> io::Result<()> {
+    let rt = Tried(rt);
     tags(&rt)?;
     secrets(&rt)?;
     buckets(&rt)?;

@@ -1,6 +1,6 @@
 -- Laws of the rows of an area and of an area with rows written at its front, over any width.
 -- Assumes nothing.
-use mathlib.Core.Path.{◌≡◌, refl, sym, ap, ap₂, ◌∙◌}
+use mathlib.Core.Path.{◌≡◌, refl, sym, ap, ap₂, subst, ◌∙◌}
 use mathlib.Core.List.{List, [], ◌∷◌, ◌++◌, append_assoc, append-nil}
 use Prim.Native.Nat.{ℕ, zero, suc, ◌+◌, ◌-◌, ◌*◌, ◌/◌, ◌≤◌, ◌<◌, min}
 use native.Mathlib.Nat.{add-zero, zero-add, zero-mul, suc-add, suc-mul, add-mul, one-mul, mul_comm, mul-sub, mul-le-mul_right, div-mul-le_self, mul-add-div_right, mul-div_cancel, le-div_iff_mul-le, min-eq_left, min-le_left, min-le_right}
@@ -257,3 +257,22 @@ module _ {w : ℕ} (a x : List ℕ) (rs : List (List ℕ)) (m : ℕ) where
         inside = omega (arith, ap length ex, length_written a rs lj);
         bytes = b;
       }
+
+-- the bytes of the rows that there are now
+length_now : {w : ℕ} {a : List ℕ} {rs : List (List ℕ)} {m : ℕ} {x : List ℕ} → RowsNow w a rs m x → length (join rs) ≡ m * w
+length_now {w} {rs = rs} {m} {x} R =
+    length_join rs (subst (Wide w) R.rows (wide_rows w m x R.inside)) ∙ ap (λ (k : ℕ). k * w) (sym R.count)
+
+-- one change after another, which leaves no fewer rows, is one change of what stood there first
+pub rows_then : {w : ℕ} {a x y : List ℕ} {rs : List (List ℕ)} {n m : ℕ} (f : List (List ℕ) → List (List ℕ)) → n ≤ m
+    → RowsNow w a rs n x → RowsNow w x (f (rows w n x)) m y → RowsNow w a (f rs) m y
+rows_then {w} {a} {x} {y} {rs} {n} {m} f h R S =
+    let T : RowsNow w x (f rs) m y = subst (λ (l : List (List ℕ)). RowsNow w x (f l) m y) R.rows S in
+    let l : length (join rs) ≤ length (join (f rs)) = omega (arith, length_now R, length_now T, mul-le-mul_right {m = n} {n = m} w h) in
+    record {
+      count = T.count;
+      area = T.area ∙ ap (λ (z : List ℕ). written z (f rs)) R.area ∙ written_over a rs (f rs) l;
+      rows = T.rows;
+      inside = T.inside;
+      bytes = R.bytes;
+    }

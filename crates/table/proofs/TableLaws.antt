@@ -6,15 +6,16 @@ use mathlib.Core.List.{List, [], ◌∷◌, ◌++◌, map, map-append, append-ni
 use Prim.Native.Nat.{ℕ, zero, suc, ◌+◌, ◌*◌, ◌/◌, ◌≤◌, ◌<◌}
 use native.Mathlib.Nat.{mul-le-mul_right, zero-min}
 use native.Mathlib.Omega.{arith}
-use lib.ListN.{length, drop, get_or, length-map}
+use lib.ListN.{length, take, drop, get_or, length-map}
+use lib.Seq.{length-take-le}
 use Rattle.octets.specs.Bytes.{Bytes, part, splice}
 use Rattle.std.specs.Prelude.{Option}
 use Rattle.table.specs.Lists.{All, none, more, insert_at, remove_at, replace_at, filter, any, position, is_at}
 use Rattle.table.specs.Rows.{held, rows, join, written, RowsNow}
 use Rattle.table.specs.Codec.{Codec, CodecLaws, table_of, with_table, TableNow}
-use Rattle.std.proofs.lemmas.List.{drop-map}
+use Rattle.std.proofs.lemmas.List.{drop-map, take-append-drop}
 use Rattle.table.proofs.ListLaws.{all_push, all_insert_at, all_remove_at, all_replace_at, all_filter, all_map, map_insert_at, map_remove_at, map_replace_at, filter_map}
-use Rattle.table.proofs.RowLaws.{held_inside, held_all, held_held, length_rows, rows_next, Wide, all_rows_lem, length_join, rows_join, length_written, written_splice, written_over, written_push}
+use Rattle.table.proofs.RowLaws.{held_inside, held_all, held_held, length_rows, rows_next, Wide, all_rows_lem, length_join, join_rows, rows_join, length_written, written_splice, written_over, written_push}
 use Rattle.table.proofs.FindLaws.{position_map, position_any}
 
 -- ---- what is read
@@ -144,6 +145,15 @@ module _ {A : Type 0} {c : Codec A} {P : A → Type 0} (laws : CodecLaws c P) wh
       held_all (length x) W (length ts) laws.wide (omega (arith, length_with a ts p h)) ∙ sym (length-map ts c.encode) in
       ap (λ (n : ℕ). map c.decode (rows W n x)) m
       ∙ ap (map c.decode) (rows_join es (drop (length (join es)) a) (wide_all ts p)) ∙ decode_all ts p
+
+  -- a table that is written back as it was read changes no byte
+  pub with_same : (count : ℕ) (a : List ℕ) → Bytes a → with_table c a (table_of c count a) ≡ a
+  unfolding with_table written
+  with_same count a b =
+      let n : ℕ = held (length a) W count in
+      let l : length (take (n * W) a) ≡ n * W = length-take-le (n * W) a (held_inside (length a) W count) in
+      ap (λ (r : List (List ℕ)). join r ++ drop (length (join r)) a) (encode_table count a b)
+      ∙ ap (λ (x : List ℕ). x ++ drop (length x) a) (join_rows W n a) ∙ ap (λ (m : ℕ). take (n * W) a ++ drop m a) l ∙ take-append-drop (n * W) a
 
   -- a table over a table, if it has no fewer rows
   pub with_over : (a : List ℕ) (ts us : List A) → All P ts → All P us → length ts ≤ length us → with_table c (with_table c a ts) us ≡ with_table c a us

@@ -188,8 +188,8 @@ pub fn replace(area: &mut [u8], width: usize, n: usize, i: usize, row: &[u8])
     octets::copy_in(area, i * width, row);
 }
 
-// Moves row i down to place k, if it is not there.
-fn keep_row(area: &mut [u8], width: usize, k: usize, i: usize)
+// Moves row i down to place k, if it is not there. A loop that calls it for each row that a test keeps, k counting them, takes the others out.
+pub fn keep_row(area: &mut [u8], width: usize, k: usize, i: usize)
     requires { (k ≤ i) × (i * width + width ≤ length area.old) }
     ensures { area.new ≡ splice area.old (k * width) (part area.old (i * width) width) }
 {

@@ -1,12 +1,15 @@
-// Text in an area: runs, numbers in decimal, tags in hexadecimal. Each function puts its text at a place and answers the place behind it.
+// Text in an area: runs, numbers in decimal, tags in hexadecimal. Each function puts its text at a place and answers the place behind it. Last, prints that cannot fail.
 // (A String would need a heap, and the drill, which prints by these functions, has none. std's `InlineText<N>` needs none, but it is a text of its own: it goes by
 // value through each append, which cuts what has no room, and it would be copied from there to its place among the other answers of the area. A struct of area and
 // place would be lent to each, which then would say of two fields what it says of a result: area and place stay apart, as in octets.)
 #![tactic(auto)]
 
-ghost use Rattle.std.specs.Prelude.{◌++◌, ◌+◌, ◌≤◌, length};
+ghost use Rattle.std.specs.Prelude.{◌++◌, ◌+◌, ◌≤◌, length, IsOk};
 ghost use Rattle.columns.specs.Columns.{hexes};
 ghost use Rattle.text.specs.Text.{decimal, spaced, Puts};
+
+use std::fmt::Display;
+use std::io::Result;
 
 // A run of bytes.
 pub fn put_run(out: &mut [u8], at: usize, run: &[u8]) -> usize
@@ -55,4 +58,49 @@ pub fn put_tagged(out: &mut [u8], at: usize, word: &[u8], tag: [u8; 16]) -> usiz
 {
     let p = put_run(out, at, word);
     put_hex(out, p, tag)
+}
+
+// ---- prints that cannot fail
+
+// Prints by P. What P cannot write is lost, and the program goes on and ends as if it had been written.
+#[derive(Clone, Copy)]
+pub struct Tried<P>(pub P);
+
+impl<P: Print> Print for Tried<P> {
+    fn print<D: Display + Drop>(&self, value: D) -> Result<()>
+        ensures { IsOk result }
+    {
+        let _ = self.0.print(value);
+        Ok(())
+    }
+
+    fn println<D: Display + Drop>(&self, value: D) -> Result<()>
+        ensures { IsOk result }
+    {
+        let _ = self.0.println(value);
+        Ok(())
+    }
+
+    fn write_all(&self, bytes: &[u8]) -> Result<()>
+        ensures { IsOk result }
+    {
+        let _ = self.0.write_all(bytes);
+        Ok(())
+    }
+}
+
+impl<P: Eprint> Eprint for Tried<P> {
+    fn eprint<D: Display + Drop>(&self, value: D) -> Result<()>
+        ensures { IsOk result }
+    {
+        let _ = self.0.eprint(value);
+        Ok(())
+    }
+
+    fn eprintln<D: Display + Drop>(&self, value: D) -> Result<()>
+        ensures { IsOk result }
+    {
+        let _ = self.0.eprintln(value);
+        Ok(())
+    }
 }

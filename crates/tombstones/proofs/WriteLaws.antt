@@ -1,14 +1,14 @@
 -- Laws of the writes: room made for one tombstone, and a tombstone among those that are left.
 -- Assumes nothing.
-use Rattle.std.proofs.Common.{◌≡◌, ℕ, ◌+◌, ◌*◌, ◌<◌, ◌≤◌, true, false, leb, List, [], ◌∷◌, ◌++◌, map, length, get_or, sym, refl, ap, ◌∙◌, subst, append-nil, arith, le-leb, length-append}
+use Rattle.std.proofs.Common.{◌≡◌, ℕ, ◌+◌, ◌*◌, ◌<◌, ◌≤◌, true, false, leb, List, [], ◌∷◌, ◌++◌, map, length, get_or, sym, refl, ap, ◌∙◌, subst, arith, le-leb, length-append}
 use borrow.Author.Tests.{lt-leb}
 use Rattle.octets.specs.Bytes.{Bytes, part, splice}
 use Rattle.octets.proofs.Parts.{splice_nil}
 use Rattle.table.specs.Lists.{All, remove_at}
-use Rattle.table.specs.Rows.{held, join, written}
-use Rattle.table.specs.Codec.{table_of, with_table, TableNow}
-use Rattle.table.proofs.RowLaws.{held_inside, held_held, join_rows, splice_written}
-use Rattle.table.proofs.TableLaws.{length_table, get_d_table, encode_table, table_held, table_proper, table_then}
+use Rattle.table.specs.Rows.{held, join}
+use Rattle.table.specs.Codec.{table_of, TableNow}
+use Rattle.table.proofs.RowLaws.{held_held}
+use Rattle.table.proofs.TableLaws.{length_table, get_d_table, with_same, table_held, table_proper, table_then}
 use Rattle.rows.specs.declared.Device.{Device}
 use Rattle.rows.specs.declared.Tombstone.{Tombstone}
 use Rattle.rows.specs.declared.Action.{Action}
@@ -30,14 +30,6 @@ module _ (d : Device) (at : ℕ) (to ac : List ℕ) {n : ℕ} (en : n ≡ held (
   size : length T ≡ n
   size = length_table tombstone_codec d.tombstones to ∙ sym en
 
-  -- the table written where it stands
-  with_same : Bytes to → with_table tombstone_codec to T ≡ to
-  unfolding with_table
-  with_same b =
-      ap (written to) (encode_table tombstone_laws d.tombstones to b)
-      ∙ sym (splice_written to [] (held (length to) 44 d.tombstones * 44) _ (held_inside (length to) 44 d.tombstones) (join_rows 44 _ to ∙ sym (append-nil _)))
-      ∙ splice_nil to _
-
   -- below the limit nothing goes
   pub room_there : Bytes to → n < 1024 → RoomMade d at to ac (record d { tombstones = n }) 0 to ac
   unfolding evicted join
@@ -47,7 +39,7 @@ module _ (d : Device) (at : ℕ) (to ac : List ℕ) {n : ℕ} (en : n ≡ held (
       record {
         table = rw left (record {
           count = sym size;
-          area = sym (with_same b);
+          area = sym (with_same tombstone_laws d.tombstones to b);
           table = table_held tombstone_codec d.tombstones n to (omega arith) en;
           fits = held_held (length to) 44 d.tombstones n (omega arith) en;
         });

@@ -7,11 +7,12 @@ use hmac::LONGEST;
 use kdf::{LONGEST_LABEL, Refused};
 use sha384::DIGEST;
 use std::{array, fmt, io};
+use text::Tried;
 
 // What an area holds before it is lent.
 const BEFORE: u8 = 0xa5;
 
-// Bytes in hexadecimal. (state_rows has the same for 16 bytes: no crate below both is about printing.)
+// Bytes in hexadecimal. (state_rows has the same for the 16 bytes of an array.)
 #[derive(Drop)]
 struct Hex<'a>(&'a [u8]);
 
@@ -349,6 +350,7 @@ fn lebs(rt: &impl Print) -> io::Result<()> {
 }
 
 fn main(rt: HostRuntime) -> io::Result<()> {
+    let rt = Tried(rt);
     hashes(&rt)?;
     print_line(&rt, "a million a", &million())?;
     hash_lengths(&rt)?;

@@ -8,5 +8,5 @@ use Rattle.hmac.proofs.hmac_parts.Goals as goal
 pub returns : goal.returns
 unfolding hmac
 returns c =
-    c.end.ensures _ (c.update_parts.ensures.by_index _ c.begin.ensures.taken)
+    c.end.ensures _ (c.update_parts-s.ensures.by_index _ c.begin.ensures.taken)
     ∙ ap (λ (k0 : List ℕ). keyed k0 (joined c.args.text)) c.block_key-k0.ensures

@@ -43,5 +43,5 @@ fn the_commitment_of_a_secret() {
 
 #[test]
 fn the_library_is_of_this_version() {
-    assert_eq!(library_version(), 206);
+    assert_eq!(library_version(), 207);
 }

@@ -1,18 +1,17 @@
 -- The row's own fields, by its kind.
-use Rattle.std.proofs.Common.{ap, sym}
+use Rattle.std.proofs.Common.{ap, sym, lt-ltb, le-ltb}
 use Rattle.model.specs.Exchange.{own_envelope_of, carried_envelope_of}
-use Rattle.offers.specs.Entries.{own_entry, carried_entry, row_of}
-use Rattle.offers.proofs.EntryLaws.{of_own, of_carried}
+use Rattle.offers.specs.Entries.{held_by_at, own_entry, carried_entry, row_of}
 use Rattle.offers.proofs.Held.row_at.Goals as goal
 
-pub returns-in-Own : goal.returns-in-Own
-unfolding row_of own_envelope_of
-returns-in-Own c = rw (sym c.if-eq.ensures) at (ap row_of (of_own (own_entry c.args.peer) carried_entry _ _ _ _ c.in-Own.is c.at.ensures))
+pub returns-then-eq : goal.returns-then-eq
+unfolding held_by_at row_of own_envelope_of
+returns-then-eq c = rw (lt-ltb _ _ c.if-i-self.true) (rw (sym c.if-eq.ensures) at (ap (λ o. row_of (own_entry c.args.peer o)) c.read-row.ensures))
 
-pub returns-in-Own-2 : goal.returns-in-Own-2
-unfolding row_of own_envelope_of
-returns-in-Own-2 c = rw (sym c.if-eq.ensures) at (ap row_of (of_own (own_entry c.args.peer) carried_entry _ _ _ _ c.in-Own.is c.at.ensures))
+pub returns-then-i-self : goal.returns-then-i-self
+unfolding held_by_at row_of own_envelope_of
+returns-then-i-self c = rw (lt-ltb _ _ c.if-i-self.true) (rw (sym c.if-eq.ensures) at (ap (λ o. row_of (own_entry c.args.peer o)) c.read-row.ensures))
 
-pub returns-in-Carried : goal.returns-in-Carried
-unfolding row_of carried_envelope_of
-returns-in-Carried c = ap row_of (of_carried (own_entry c.args.peer) carried_entry _ _ _ _ c.in-Carried.is c.at.ensures)
+pub returns : goal.returns
+unfolding held_by_at row_of carried_envelope_of
+returns c = rw (le-ltb _ _ c.if-i-self.false) (ap (λ r. row_of (carried_entry r)) c.read-copies.ensures)
